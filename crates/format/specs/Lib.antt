@@ -14,4 +14,5 @@ pub mod Compose
 pub mod Read
 pub mod Answer
 pub mod Listing
+pub mod Cases
 pub mod Laws
