@@ -18,17 +18,17 @@ use Rattle.format.specs.Compose.{made, composed, composeWords, captureOf
 use Rattle.format.specs.Read.{Reading, gives, refuses, reading, readGroups, misplaced, settled, roomed, unmisplaced, Got, got, stopped, slotsFrom}
 use Rattle.format.specs.Reader.{dataOf}
 use Rattle.format.specs.Lawful.{Lawful}
-use Rattle.format.specs.Laws.Back.{clash}
-use Rattle.format.specs.Laws.Forth.{and-true}
-use Rattle.format.specs.Laws.Words.{all-map, bare}
-use Rattle.format.specs.Laws.Log.{log-back, Logged, narrow-of, in-time}
-use Rattle.format.specs.Laws.Groups.{Faultless}
-use Rattle.format.specs.Laws.Capture.{length-list, getD-list}
+use Rattle.format.specs.Laws.Tests.{clash, and-true}
+use Rattle.format.specs.Laws.Lists.{all-map, length-list, getD-list, all-left}
+use Rattle.format.specs.Laws.Word.Parts.{bare, info-low}
+use Rattle.format.specs.Laws.Log.Back.{log-back, Logged}
+use Rattle.format.specs.Laws.Log.Sizes.{narrow-of, in-time}
+use Rattle.format.specs.Laws.Reader.Groups.{Faultless}
 use Rattle.format.specs.Laws.Legal.{Legal, legal-is, free}
-use Rattle.format.specs.Laws.Accepted.{accepted}
-use Rattle.format.specs.Laws.Tidy.{AllTidy, all-tidy}
-use Rattle.format.specs.Laws.Stored.{all-left, times-are}
-use Rattle.format.specs.Laws.Exact.{exact, slots-low, slots-count, faultless-at, info-low}
+use Rattle.format.specs.Laws.Accepted.Faultless.{accepted}
+use Rattle.format.specs.Laws.Accepted.Tidy.{AllTidy, all-tidy}
+use Rattle.format.specs.Laws.Accepted.Stored.{times-are}
+use Rattle.format.specs.Laws.Accepted.Exact.{exact, slots-low, slots-count, faultless-at}
 use Rattle.format.specs.declared.Plan.{Plan}
 use Rattle.format.specs.declared.Item.{Item}
 use Rattle.format.specs.declared.Kind.{Kind}

@@ -16,9 +16,9 @@ use Rattle.format.specs.Item.{standsOn, inTime, busOfItem}
 use Rattle.format.specs.Log.{onPlan}
 use Rattle.format.specs.Compose.{firstLate}
 use Rattle.format.specs.Lawful.{Sound, buses}
-use Rattle.format.specs.Laws.Back.{clash}
-use Rattle.format.specs.Laws.Forth.{and-true}
-use Rattle.format.specs.Laws.Log.{Logged, sized-of}
+use Rattle.format.specs.Laws.Tests.{clash, and-true}
+use Rattle.format.specs.Laws.Log.Back.{Logged}
+use Rattle.format.specs.Laws.Log.Sizes.{sized-of}
 use Rattle.format.specs.declared.Plan.{Plan}
 use Rattle.format.specs.declared.Item.{Item}
 use Rattle.format.specs.declared.Kind.{Kind}

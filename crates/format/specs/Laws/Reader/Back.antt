@@ -1,19 +1,22 @@
 -- From items to words and back.
-use Prim.Native.Nat.{ℕ, zero, suc, _+_, _*_, _/_, _%_, _^_, _-_, _<_}
+use Prim.Native.Nat.{ℕ, zero, suc, _+_, _*_, _/_, _%_, _^_, _<_}
 use native.Mathlib.Omega.{arith}
 use mathlib.Core.Bool.{Bool, true, false, cond}
 use mathlib.Core.Path.{_≡_, refl, ap, sym, _∙_}
 use mathlib.Core.List.{List, [], _∷_, _++_, flatMap, append-assoc}
 use lib.Dec.{eqb}
-use borrow.Author.Tests.{lt-ltb, eq-eqb, ne-eqb, le-leb}
+use borrow.Author.Tests.{lt-ltb, eq-eqb, ne-eqb}
 use Rattle.format.specs.Plan.{kindOn}
 use Rattle.format.specs.Item.{standsOn, busOfItem, sided, highLabel, lowLabel, channelOf}
 use Rattle.format.specs.Reader.{Fed, bad, fed, feed, starts, withTag, after, baseBus}
-use Rattle.format.specs.Laws.Part.{Part, part, itemParts, tagParts}
-use Rattle.format.specs.Laws.Reads.{whole, reads}
+use Rattle.format.specs.Lists.{All, cons}
+use Rattle.format.specs.Lawful.{Lawful}
+use Rattle.format.specs.Laws.Word.Parts.{Part, part}
+use Rattle.format.specs.Laws.Reader.Parts.{itemParts, tagParts}
+use Rattle.format.specs.Laws.Reader.Reads.{whole, reads}
+use Rattle.format.specs.Laws.Tests.{clash}
 use Rattle.format.specs.declared.Kind.{Kind}
 use Rattle.format.specs.declared.Kind.the-variants.{Unused, Mil1553, Arinc429}
-use Rattle.format.specs.declared.Tag.{Tag}
 use Rattle.format.specs.declared.Time.{Time}
 use Rattle.format.specs.declared.Tag.the-variants.{Untagged, At}
 use Rattle.format.specs.declared.Response.the-variants.{Untimed, After}
@@ -23,8 +26,6 @@ use Rattle.format.specs.declared.Base.{Base}
 use Rattle.format.specs.declared.Base.the-variants as base
 use Rattle.format.specs.declared.Held.{Held}
 use Rattle.format.specs.declared.Held.the-variants.{Nothing, Taggable, Half, TagHigh, TagLow, Answering}
-use Rattle.format.specs.Lists.{All, cons}
-use Rattle.format.specs.Lawful.{Lawful}
 
 -- what may be held between two items, and the item that it is
 pub data Quiet : Held → Type 0 where
@@ -75,9 +76,6 @@ tag-back : (ks : List Kind) (x : Base) (t : Time) → t .micro < 10000 → (xs :
     → reads ks (Taggable x) (tagParts (baseBus x) (At t) ++ xs) ≡ whole (withTag x (At t) ∷ is)
 unfolding reads feed
 tag-back ks x t m xs is f = simp (eq-eqb (baseBus x) (baseBus x) refl, lt-ltb _ _ m, f Nothing none)
-
-pub clash : {A : Type 0} → false ≡ true → A
-clash e = let z : _≡_ {A = ℕ} 0 1 = ap (λ (t : Bool). cond t 1 0) e in absurd (omega arith)
 
 kind-mil : (k : Kind) (i : Item) → standsOn i Arinc429 ≡ false → standsOn i k ≡ true → k ≡ Mil1553
 unfolding standsOn

@@ -12,7 +12,7 @@ use Rattle.format.specs.Bits.{bitsOf, bytesBits, numFrom, numOf, packed}
 use Rattle.format.specs.Item.{Field}
 use Rattle.format.specs.Log.{field}
 use Rattle.format.specs.Lists.{All, nil, cons}
-use Rattle.format.specs.Laws.Forth.{all-append}
+use Rattle.format.specs.Laws.Lists.{all-append}
 
 pub length-bits : (k v : ℕ) → length (bitsOf k v) ≡ k
 unfolding bitsOf

@@ -18,17 +18,18 @@ use Rattle.format.specs.Group.{frame, group, groupTime, timeInfo, groupS
 use Rattle.format.specs.Check.{checkWord}
 use Rattle.format.specs.Compose.{captureOf, dealtFor, groupsFor}
 use Rattle.format.specs.Read.{slotsFrom}
-use Rattle.format.specs.Laws.Part.{partOf, wordFor}
-use Rattle.format.specs.Laws.Forth.{and-true, all-append}
-use Rattle.format.specs.Laws.Words.{bare, part-forth, map-append}
-use Rattle.format.specs.Laws.Parity.{odd-sent}
+use Rattle.format.specs.Laws.Word.Parts.{partOf, wordFor, bare, part-forth, info-low}
+use Rattle.format.specs.Laws.Tests.{and-true}
+use Rattle.format.specs.Laws.Lists.{all-append, map-append, getD-list, getD-blocks, list-is, all-list, all-left, list-blocks}
+use Rattle.format.specs.Laws.Word.Parity.{odd-sent}
 use Rattle.format.specs.Laws.Legal.{Legal, long, room, free}
-use Rattle.format.specs.Laws.Groups.{Faultless, last, next}
-use Rattle.format.specs.Laws.Capture.{getD-list, front, front-length, frame-front, frame-check, frame-length, group-length, getD-blocks, dealtOn, track-low, row-in}
-use Rattle.format.specs.Laws.Sound.{list-is, all-list, Timely, timePart, dealt-time}
-use Rattle.format.specs.Laws.Share.{dealt-at}
-use Rattle.format.specs.Laws.Tidy.{AllTidy, Blank, wordsIn, slots-length}
-use Rattle.format.specs.Laws.Stored.{all-left, word-at-low, bytes-words, list-blocks, stored-fault, sync-is, odd-is, check-is, TimeWord, times-are}
+use Rattle.format.specs.Laws.Reader.Groups.{Faultless, last, next}
+use Rattle.format.specs.Laws.Composed.Frames.{front, front-length, frame-front, frame-check, frame-length, group-length, dealtOn, track-low, row-in}
+use Rattle.format.specs.Laws.Composed.Faultless.{Timely, timePart, dealt-time}
+use Rattle.format.specs.Laws.Composed.Slots.{dealt-at}
+use Rattle.format.specs.Laws.Accepted.Tidy.{AllTidy, Blank, wordsIn, slots-length}
+use Rattle.format.specs.Laws.Word.Bytes.{word-at-low, bytes-words}
+use Rattle.format.specs.Laws.Accepted.Stored.{stored-fault, sync-is, odd-is, check-is, TimeWord, times-are}
 use Rattle.format.specs.declared.Kind.{Kind}
 use Rattle.format.specs.declared.Plan.{Plan}
 
@@ -141,10 +142,6 @@ time-parts : (a b m : ℕ) → b < 65536 → m < 10000
 time-parts a b m h k =
     let e : (10000 * (65536 * a + b) + m) / 10000 ≡ 65536 * a + b = omega arith in
     (rw e (omega arith), rw e (omega arith), omega arith)
-
-pub info-low : (w : ℕ) → infoOf w < 65536
-unfolding infoOf
-info-low w = omega arith
 
 module _ (p : Plan) (ks : List Kind) (l : Legal p ks) (c : List ℕ) (bytes : All (λ b. b < 256) c) (n : ℕ) (f : Faultless p c n 0) (t : AllTidy p c n 0)
     (ws : List ℕ) (w : map (bare (p .parity)) (dataOf (slotsFrom p c n 0)) ≡ ws) where

@@ -1,31 +1,21 @@
 -- A word as its three parts: bus, label, information.
-use Prim.Native.Nat.{ℕ, _+_, _*_, _/_, _%_, _^_}
-use mathlib.Core.Bool.{Bool, cond}
-use mathlib.Core.Path.{_≡_, refl}
-use mathlib.Core.List.{List, [], _∷_, _++_, map}
-use Rattle.format.specs.Word.{wordOf, busOf, labelOf, infoOf, isFill}
-use Rattle.format.specs.Item.{sided, highLabel, lowLabel, itemWords}
+use Prim.Native.Nat.{ℕ, _+_, _*_, _/_, _%_, _^_, _<_}
+use mathlib.Core.Bool.{Bool, cond, true, false}
+use mathlib.Core.Path.{_≡_, refl, sym}
+use mathlib.Core.List.{List, [], _∷_, _++_, map, flatMap}
+use native.Mathlib.Omega.{arith}
+use Rattle.format.specs.Item.{sided, highLabel, lowLabel, itemWords, busOfItem}
 use Rattle.format.specs.Reader.{Slot, dataOf}
+use Rattle.format.specs.Lawful.{Sized, buses}
+use Rattle.format.specs.Lists.{All}
+use Rattle.format.specs.Laws.Word.Parts.{Part, part, wordFor, partOf, Holds}
+use Rattle.format.specs.Laws.Lists.{all-of, map-append}
 use Rattle.format.specs.declared.Tag.{Tag}
 use Rattle.format.specs.declared.Tag.the-variants.{Untagged, At}
 use Rattle.format.specs.declared.Response.{Response}
 use Rattle.format.specs.declared.Response.the-variants.{Untimed, After}
 use Rattle.format.specs.declared.Item.{Item}
 use Rattle.format.specs.declared.Item.the-variants.{Command, Status, Data, BusError, Arinc, Notice, User, Overflow}
-
-pub record Part : Type 0 where
-  pub bus : ℕ
-  pub label : ℕ
-  pub info : ℕ
-
-abbrev pub part : ℕ → ℕ → ℕ → Part
-part b l i = record { bus = b; label = l; info = i }
-
-abbrev pub wordFor : Part → ℕ
-wordFor x = wordOf (x .bus) (x .label) (x .info)
-
-abbrev pub partOf : Bool → ℕ → Part
-partOf parity w = part (busOf parity w) (labelOf w) (infoOf w)
 
 abbrev pub tagParts : ℕ → Tag → List Part
 tagParts bus Untagged = []
@@ -63,3 +53,28 @@ words-parts (Overflow bus word) = refl
 -- what they say
 abbrev pub said : Bool → List Slot → List Part
 said parity ss = map (partOf parity) (dataOf ss)
+
+-- what an item's words hold
+pub sided-low : (l : ℕ) (b : Bool) → l < 16 → sided l b < 16
+sided-low l true h = omega arith
+sided-low l false h = h
+
+pub item-holds : (parity : Bool) (i : Item) → Sized i → busOfItem i < buses parity → All (Holds parity) (itemParts i)
+unfolding busOfItem
+item-holds parity (Command bus b Untagged word) z h = all-of _ _ (omega (arith, sided-low 15 b (omega arith)))
+item-holds parity (Command bus b (At t) word) z h = all-of _ _ (omega (arith, sided-low 15 b (omega arith)))
+item-holds parity (Status bus b Untimed word) z h = all-of _ _ (omega (arith, sided-low 14 b (omega arith)))
+item-holds parity (Status bus b (After r) word) z h = all-of _ _ (omega (arith, sided-low 14 b (omega arith)))
+item-holds parity (Data bus b word) z h = all-of _ _ (omega (arith, sided-low 13 b (omega arith)))
+item-holds parity (BusError bus b word) z h = all-of _ _ (omega (arith, sided-low 12 b (omega arith)))
+item-holds parity (Arinc bus c Untagged word) z h = all-of _ _ (omega arith)
+item-holds parity (Arinc bus c (At t) word) z h = all-of _ _ (omega arith)
+item-holds parity (Notice bus c diag) z h = all-of _ _ (omega arith)
+item-holds parity (User bus true word) z h = all-of _ _ (omega arith)
+item-holds parity (User bus false word) z h = all-of _ _ (omega arith)
+item-holds parity (Overflow bus word) z h = all-of _ _ (omega arith)
+
+pub words-of : (is : List Item) → flatMap itemWords is ≡ map wordFor (flatMap itemParts is)
+unfolding flatMap
+words-of [] = refl
+words-of (i ∷ is) = rw (words-parts i, words-of is) (sym (map-append wordFor (itemParts i) (flatMap itemParts is)))

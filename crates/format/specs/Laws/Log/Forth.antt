@@ -13,9 +13,11 @@ use Rattle.format.specs.Bits.{bit, bitsOf, bytesBits, packed, numFrom, n
 use Rattle.format.specs.Item.{Field, itemFields, itemBits}
 use Rattle.format.specs.Log.{ifThere, tagged, timed, endAt, consed, logOf, Next, has, ends, wrong, field, flag, nextAt, itemAt, Parsed, items, fault, parseFrom, parsed, parseNext}
 use Rattle.format.specs.Lists.{All, nil, cons}
-use Rattle.format.specs.Laws.Bits.{onto, size, Narrow, fields-onto, packs, num-low, bits-num, num-bits, Stand, length-bytes}
-use Rattle.format.specs.Laws.Forth.{all-append, and-true, below16}
-use Rattle.format.specs.Laws.Log.{Logged, bits-low, items-low}
+use Rattle.format.specs.Laws.Log.Fields.{onto, size, Narrow, fields-onto, packs, num-low, bits-num, num-bits, Stand, length-bytes}
+use Rattle.format.specs.Laws.Lists.{all-append, all-drop, all-take, take-drop}
+use Rattle.format.specs.Laws.Tests.{and-true, below16}
+use Rattle.format.specs.Laws.Log.Back.{Logged}
+use Rattle.format.specs.Laws.Log.Sizes.{bits-low, items-low}
 use Rattle.format.specs.declared.Tag.{Tag}
 use Rattle.format.specs.declared.Tag.the-variants.{Untagged, At}
 use Rattle.format.specs.declared.Response.{Response}
@@ -24,21 +26,6 @@ use Rattle.format.specs.declared.Item.{Item}
 
 abbrev pub AllBits : List ℕ → Type 0
 AllBits s = All (λ b. b < 2) s
-
-pub all-drop : {A : Type 0} {P : A → Type 0} (n : ℕ) {l : List A} → All P l → All P (drop n l)
-all-drop zero a = a
-all-drop (suc n) nil = nil
-all-drop (suc n) (cons h t) = all-drop n t
-
-pub all-take : {A : Type 0} {P : A → Type 0} (n : ℕ) {l : List A} → All P l → All P (take n l)
-all-take zero a = nil
-all-take (suc n) nil = nil
-all-take (suc n) (cons h t) = cons h (all-take n t)
-
-take-drop : {A : Type 0} (n : ℕ) (l : List A) → take n l ++ drop n l ≡ l
-take-drop zero l = refl
-take-drop (suc n) [] = refl
-take-drop (suc n) (a ∷ l) = rw (take-drop n l)
 
 -- the bits from p on are a field and what stands behind it
 field-forth : (s : List ℕ) (p w : ℕ) → AllBits s → p + w ≤ length s → (drop p s ≡ bitsOf w (field s p w) ++ drop (p + w) s) × (field s p w < 2 ^ w)

@@ -11,9 +11,9 @@ use Rattle.format.specs.Bits.{bit, bitsOf}
 use Rattle.format.specs.Item.{itemWords, itemFields, itemBits}
 use Rattle.format.specs.Log.{logOf}
 use Rattle.format.specs.Compose.{groupsFor}
-use Rattle.format.specs.Laws.Bits.{size, packs, length-bytes}
-use Rattle.format.specs.Laws.Forth.{all-append}
-use Rattle.format.specs.Laws.Log.{fields-length, items-low, bits-low}
+use Rattle.format.specs.Laws.Log.Fields.{size, packs, length-bytes}
+use Rattle.format.specs.Laws.Lists.{all-append}
+use Rattle.format.specs.Laws.Log.Sizes.{fields-length, items-low, bits-low}
 use Rattle.format.specs.Laws.Legal.{Legal, many}
 use Rattle.format.specs.declared.Plan.{Plan}
 use Rattle.format.specs.declared.Kind.{Kind}

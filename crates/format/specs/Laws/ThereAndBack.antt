@@ -4,11 +4,10 @@ use native.Mathlib.Nat.{mul-le-mul-right, mul-div-cancel, add-mul-mod-self-left,
 use native.Mathlib.Omega.{arith}
 use mathlib.Core.Bool.{Bool, true, false, cond}
 use mathlib.Core.Path.{_≡_, refl, ap, _∙_}
-use mathlib.Core.List.{List, [], _∷_, flatMap}
+use mathlib.Core.List.{List, flatMap}
 use lib.ListN.{length, getD}
 use lib.Dec.{eqb, leb}
 use borrow.Author.Tests.{eqb-true, le-leb}
-use Rattle.format.specs.Word.{bytesOf}
 use Rattle.format.specs.Plan.{legal, groupWords}
 use Rattle.format.specs.Item.{itemWords}
 use Rattle.format.specs.Log.{parsed, onPlan, Parsed, items, fault, logOf}
@@ -17,14 +16,15 @@ use Rattle.format.specs.Group.{group, groupSlots, groupTime, Fault, none
 use Rattle.format.specs.Compose.{Composed, made, refused, composed, composeParsed, composeWords, captureOf, dealtFor, groupsFor, firstLate}
 use Rattle.format.specs.Read.{gives, reading, readGroups, misplaced, settled, got}
 use Rattle.format.specs.Lawful.{Sound}
-use Rattle.format.specs.Laws.Words.{all-map}
-use Rattle.format.specs.Laws.LogForth.{log-forth}
-use Rattle.format.specs.Laws.Capture.{group-length, length-blocks}
-use Rattle.format.specs.Laws.Sound.{time-back, list-is}
-use Rattle.format.specs.Laws.Composed.{composed-read, words-data}
-use Rattle.format.specs.Laws.Closed.{composed-closed}
+use Rattle.format.specs.Laws.Lists.{all-map, length-blocks, list-is}
+use Rattle.format.specs.Laws.Log.Forth.{log-forth}
+use Rattle.format.specs.Laws.Composed.Frames.{group-length}
+use Rattle.format.specs.Laws.Composed.Faultless.{time-back}
+use Rattle.format.specs.Laws.Composed.Read.{composed-read, words-data}
+use Rattle.format.specs.Laws.Composed.Closed.{composed-closed}
 use Rattle.format.specs.Laws.Legal.{Legal, legal-is, long, room, free, logged-sound, timely}
-use Rattle.format.specs.Laws.Small.{small, words-few}
+use Rattle.format.specs.Laws.Composed.Length.{small, words-few}
+use Rattle.format.specs.Laws.Word.Bytes.{bytes-three}
 use Rattle.format.specs.declared.Plan.{Plan}
 use Rattle.format.specs.declared.Item.{Item}
 use Rattle.format.specs.declared.Kind.{Kind}
@@ -83,12 +83,6 @@ made-by p ks log times space = go (legal p ks) refl
     go : (b : Bool) → legal p ks ≡ b → MadeBy p ks log times (cond b (composeParsed p times space (parsed (onPlan ks) log)) (refused 1 0))
     go true l = inner l (parsed (onPlan ks) log) refl
     go false l = tt
-
--- how long a capture is
-bytes-three : (ws : List ℕ) → length (flatMap bytesOf ws) ≡ length ws * 3
-unfolding flatMap bytesOf
-bytes-three [] = refl
-bytes-three (w ∷ ws) = rw (bytes-three ws) (omega arith)
 
 capture-length : (p : Plan) → 2 ≤ p .words → 1 ≤ p .tracks → (times ws : List ℕ) → length (captureOf p times ws) ≡ groupsFor p (length ws) * (3 * groupWords p)
 unfolding captureOf

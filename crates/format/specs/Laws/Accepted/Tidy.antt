@@ -13,10 +13,9 @@ use Rattle.format.specs.Reader.{Slot, dataOf}
 use Rattle.format.specs.Lists.{list, All, nil, cons}
 use Rattle.format.specs.Group.{groupSlots, Fault, none, found}
 use Rattle.format.specs.Read.{anyData, misplacedIn, misplaced, slotsFrom}
-use Rattle.format.specs.Laws.Back.{clash}
-use Rattle.format.specs.Laws.Words.{map-append}
-use Rattle.format.specs.Laws.Capture.{length-list}
-use Rattle.format.specs.Laws.Groups.{data-append}
+use Rattle.format.specs.Laws.Tests.{clash, clash′, or-false}
+use Rattle.format.specs.Laws.Lists.{map-append, length-list}
+use Rattle.format.specs.Laws.Reader.Groups.{data-append}
 use Rattle.format.specs.declared.Plan.{Plan}
 
 abbrev pub wordsIn : List Slot → List ℕ
@@ -25,13 +24,6 @@ wordsIn ss = map (λ (s : Slot). s .1) ss
 -- fill on bus 0
 abbrev pub Blank : Bool → ℕ → Type 0
 Blank parity w = (isFill w ≡ true) × (busOf parity w ≡ 0)
-
-clash′ : {A : Type 0} → true ≡ false → A
-clash′ e = clash (sym e)
-
-or-false : (a b : Bool) → (a || b) ≡ false → (a ≡ false) × (b ≡ false)
-or-false false b e = (refl, e)
-or-false true b e = clash′ e
 
 pub no-fault : {A : Type 0} (n q : ℕ) → found n q ≡ none → A
 no-fault n q e = let z : _≡_ {A = ℕ} 0 1 = cc in absurd (omega arith)

@@ -10,8 +10,8 @@ use borrow.Author.Tests.{ltb-true, ltb-false}
 use Rattle.format.specs.Bits.{bitsOf}
 use Rattle.format.specs.Check.{divided, remainder, checkOf}
 use Rattle.format.specs.Lists.{All, nil, cons}
-use Rattle.format.specs.Laws.Forth.{all-append}
-use Rattle.format.specs.Laws.Log.{bits-low}
+use Rattle.format.specs.Laws.Lists.{all-append}
+use Rattle.format.specs.Laws.Log.Sizes.{bits-low}
 
 divided-low : (v : ℕ) → v < 2 ^ 17 → divided v < 2 ^ 16
 divided-low v h = go (ltb v 0x10000) refl

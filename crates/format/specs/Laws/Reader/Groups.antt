@@ -8,9 +8,10 @@ use Rattle.format.specs.Plan.{groupWords}
 use Rattle.format.specs.Reader.{Slot, dataOf}
 use Rattle.format.specs.Group.{groupSlots, groupFault, none}
 use Rattle.format.specs.Read.{readGroups, slotsFrom}
-use Rattle.format.specs.Laws.Part.{partOf, said}
-use Rattle.format.specs.Laws.Reads.{wholeOf, reads, run-onward, closed-finish}
-use Rattle.format.specs.Laws.Words.{map-append}
+use Rattle.format.specs.Laws.Word.Parts.{partOf}
+use Rattle.format.specs.Laws.Reader.Parts.{said}
+use Rattle.format.specs.Laws.Reader.Reads.{wholeOf, reads, run-onward, closed-finish}
+use Rattle.format.specs.Laws.Lists.{map-append}
 use Rattle.format.specs.declared.Kind.{Kind}
 use Rattle.format.specs.declared.Plan.{Plan}
 use Rattle.format.specs.declared.Held.{Held}

@@ -6,24 +6,18 @@ use mathlib.Core.Bool.{Bool, true, false}
 use mathlib.Core.Path.{_≡_, refl, _∙_}
 use mathlib.Core.List.{List, [], _∷_, flatMap}
 use lib.ListN.{length, drop, getD, length-drop}
-use Rattle.format.specs.Word.{wordOf, wordAt, sent, fill, isOdd, ones, busOf}
+use Rattle.format.specs.Word.{wordAt, sent, fill}
 use Rattle.format.specs.Plan.{lead, slots, groupWords, placeOf}
 use Rattle.format.specs.Reader.{Slot}
 use Rattle.format.specs.Lists.{list, All, nil, cons}
 use Rattle.format.specs.Group.{groupSlots, Fault, none}
 use Rattle.format.specs.Compose.{captureOf, groupsFor}
 use Rattle.format.specs.Read.{anyData, misplacedIn, misplaced}
-use Rattle.format.specs.Laws.LogForth.{all-drop}
-use Rattle.format.specs.Laws.Share.{IsData, fill-sent, slot-at}
+use Rattle.format.specs.Laws.Lists.{all-drop}
+use Rattle.format.specs.Laws.Composed.Slots.{IsData, slot-at}
+use Rattle.format.specs.Laws.Word.Parts.{fill-sent, fill-bus}
+use Rattle.format.specs.Laws.Tests.{later}
 use Rattle.format.specs.declared.Plan.{Plan}
-
-fill-bus : (parity : Bool) → busOf parity (sent parity fill) ≡ 0
-unfolding busOf sent fill isOdd ones wordOf
-fill-bus true = refl
-fill-bus false = refl
-
-later : (a i : ℕ) → a + 1 + i ≡ a + suc i
-later a i = omega arith
 
 -- slots that hold the words xs and then fill
 abbrev Filled : Bool → (ℕ → Slot) → ℕ → ℕ → List ℕ → Type 0

@@ -1,5 +1,5 @@
 -- What the reader accepts is the words of lawful items.
-use Prim.Native.Nat.{ℕ, zero, suc, _+_, _*_, _/_, _%_, _^_, _-_, _<_, _≤_}
+use Prim.Native.Nat.{ℕ, _+_, _*_, _/_, _%_, _^_, _<_}
 use native.Mathlib.Omega.{arith}
 use mathlib.Core.Bool.{Bool, true, false, cond, _&&_, _||_}
 use mathlib.Core.Path.{_≡_, refl, ap, sym, _∙_}
@@ -7,12 +7,17 @@ use mathlib.Core.List.{List, [], _∷_, _++_, flatMap, append-assoc, append-nil}
 use lib.Pow.{shr-shr}
 use lib.Seq.{append-snoc}
 use lib.Dec.{eqb, ltb}
-use borrow.Author.Tests.{ltb-true, eqb-true, leb-true}
+use borrow.Author.Tests.{ltb-true, eqb-true}
 use Rattle.format.specs.Plan.{kindOn}
 use Rattle.format.specs.Item.{standsOn, busOfItem, sided, highLabel, lowLabel, channelOf}
 use Rattle.format.specs.Reader.{holds, alone, isPair, Fed, bad, fed, feed, starts, withTag, after, baseBus}
-use Rattle.format.specs.Laws.Part.{Part, part, itemParts, tagParts}
-use Rattle.format.specs.Laws.Reads.{Whole, cut, whole, ahead, chain, reads}
+use Rattle.format.specs.Lists.{All, cons, nil}
+use Rattle.format.specs.Lawful.{Lawful, Sized, tagSized}
+use Rattle.format.specs.Laws.Word.Parts.{Part, part, same-part}
+use Rattle.format.specs.Laws.Reader.Parts.{itemParts, tagParts}
+use Rattle.format.specs.Laws.Reader.Reads.{Whole, cut, whole, ahead, chain, reads}
+use Rattle.format.specs.Laws.Tests.{clash, and-true, below16}
+use Rattle.format.specs.Laws.Lists.{flatMap-append, all-append}
 use Rattle.format.specs.declared.Kind.{Kind}
 use Rattle.format.specs.declared.Kind.the-variants.{Unused, Mil1553, Arinc429}
 use Rattle.format.specs.declared.Tag.{Tag}
@@ -24,9 +29,6 @@ use Rattle.format.specs.declared.Base.{Base}
 use Rattle.format.specs.declared.Base.the-variants as base
 use Rattle.format.specs.declared.Held.{Held}
 use Rattle.format.specs.declared.Held.the-variants.{Nothing, Taggable, Half, TagHigh, TagLow, Answering}
-use Rattle.format.specs.Laws.Back.{clash}
-use Rattle.format.specs.Lists.{All, cons, nil}
-use Rattle.format.specs.Lawful.{Lawful, Sized, tagSized}
 
 -- the words of what is held
 abbrev pub baseParts : Base → List Part
@@ -81,30 +83,6 @@ hold-if ks P t h g = test-good ks P (holds h) t (λ e. (g e .0, nil, g e .1))
 
 one-if : (ks : List Kind) (P : List Part) (t : Bool) (i : Item) → (t ≡ true → (P ≡ itemParts i) × Lawful ks i) → Good ks P (cond t (alone i) bad)
 one-if ks P t i g = test-good ks P (alone i) t (λ e. one-good ks P i (g e .0) (g e .1))
-
-pub and-true : (a b : Bool) → (a && b) ≡ true → (a ≡ true) × (b ≡ true)
-and-true true b e = (refl, e)
-and-true false b e = clash e
-
-pub below16 : (P : ℕ → Type 0) → P 0 → P 1 → P 2 → P 3 → P 4 → P 5 → P 6 → P 7 → P 8 → P 9 → P 10 → P 11 → P 12 → P 13 → P 14 → P 15
-    → (n : ℕ) → n < 16 → P n
-below16 P a b c d e f g h i j k l m n o p (zero) q = a
-below16 P a b c d e f g h i j k l m n o p (suc zero) q = b
-below16 P a b c d e f g h i j k l m n o p (suc (suc zero)) q = c
-below16 P a b c d e f g h i j k l m n o p (suc (suc (suc zero))) q = d
-below16 P a b c d e f g h i j k l m n o p (suc (suc (suc (suc zero)))) q = e
-below16 P a b c d e f g h i j k l m n o p (suc (suc (suc (suc (suc zero))))) q = f
-below16 P a b c d e f g h i j k l m n o p (suc (suc (suc (suc (suc (suc zero)))))) q = g
-below16 P a b c d e f g h i j k l m n o p (suc (suc (suc (suc (suc (suc (suc zero))))))) q = h
-below16 P a b c d e f g h i j k l m n o p (suc (suc (suc (suc (suc (suc (suc (suc zero)))))))) q = i
-below16 P a b c d e f g h i j k l m n o p (suc (suc (suc (suc (suc (suc (suc (suc (suc zero))))))))) q = j
-below16 P a b c d e f g h i j k l m n o p (suc (suc (suc (suc (suc (suc (suc (suc (suc (suc zero)))))))))) q = k
-below16 P a b c d e f g h i j k l m n o p (suc (suc (suc (suc (suc (suc (suc (suc (suc (suc (suc zero))))))))))) q = l
-below16 P a b c d e f g h i j k l m n o p (suc (suc (suc (suc (suc (suc (suc (suc (suc (suc (suc (suc zero)))))))))))) q = m
-below16 P a b c d e f g h i j k l m n o p (suc (suc (suc (suc (suc (suc (suc (suc (suc (suc (suc (suc (suc zero))))))))))))) q = n
-below16 P a b c d e f g h i j k l m n o p (suc (suc (suc (suc (suc (suc (suc (suc (suc (suc (suc (suc (suc (suc zero)))))))))))))) q = o
-below16 P a b c d e f g h i j k l m n o p (suc (suc (suc (suc (suc (suc (suc (suc (suc (suc (suc (suc (suc (suc (suc zero))))))))))))))) q = p
-below16 P a b c d e f g h i j k l m n o p (suc (suc (suc (suc (suc (suc (suc (suc (suc (suc (suc (suc (suc (suc (suc (suc x)))))))))))))))) q = absurd (omega arith)
 
 -- a high label is its channel's
 channel-forth : (n : ℕ) → channelOf n < 4 → highLabel (channelOf n) ≡ n
@@ -177,9 +155,6 @@ untagged-parts : (x : Base) → itemParts (withTag x Untagged) ≡ baseParts x
 untagged-parts (base.Command bus b word) = refl
 untagged-parts (base.Arinc bus c word) = refl
 
-same-part : (x : Part) (b l : ℕ) → x .bus ≡ b → x .label ≡ l → x ≡ part b l (x .info)
-same-part x b l p q = λ i. record { bus = p i; label = q i; info = x .info }
-
 -- an item that is finished comes before what the word starts
 after-good : (ks : List Kind) (x : Item) (P : List Part) (f : Fed) → Lawful ks x → Good ks P f → Good ks (itemParts x ++ P) (after x f)
 unfolding flatMap
@@ -235,15 +210,6 @@ feed-good ks (Answering bus r) x o z =
       ap (λ (p : Part). part bus 4 r ∷ p ∷ []) (same-part x _ _ (eqb-true _ _ (a .0)) (sided-status (x .label) _ _ refl refl (a .1))),
       record { stands = rw (o .0); sized = (z .info, o .1) },
     )
-
-pub flatMap-append : {A B : Type 0} (f : A → List B) (l m : List A) → flatMap f (l ++ m) ≡ flatMap f l ++ flatMap f m
-unfolding flatMap
-flatMap-append f [] m = refl
-flatMap-append f (a ∷ l) m = rw (flatMap-append f l m) (sym (append-assoc (f a) (flatMap f l) (flatMap f m)))
-
-pub all-append : {A : Type 0} {P : A → Type 0} {l m : List A} → All P l → All P m → All P (l ++ m)
-all-append nil z = z
-all-append (cons h t) z = cons h (all-append t z)
 
 chain-good : (ks : List Kind) (P xs : List Part) (f : Fed) (g : Held → Whole) → Good ks P f
     → ((h : Held) → HeldOk ks h → AllRead ks (heldParts h ++ xs) (g h)) → AllRead ks (P ++ xs) (chain f g)

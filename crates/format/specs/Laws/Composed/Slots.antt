@@ -7,22 +7,18 @@ use mathlib.Core.Path.{_≡_, refl, ap, sym, _∙_}
 use mathlib.Core.List.{List, [], _∷_, map}
 use lib.ListN.{length, take, drop, getD}
 use lib.Seq.{getD-append-add, getD-take, take-nil, take-add, drop-drop, take-all}
-use Rattle.format.specs.Word.{wordOf, wordAt, sent, fill, isFill, isOdd, ones, labelOf, infoOf}
+use Rattle.format.specs.Word.{wordAt, sent, fill, isFill}
 use Rattle.format.specs.Plan.{rows, lead, slots, groupWords, placeOf}
 use Rattle.format.specs.Reader.{Slot, dataOf}
 use Rattle.format.specs.Lists.{list, All, nil, cons}
 use Rattle.format.specs.Group.{timeWords, groupSlots}
 use Rattle.format.specs.Compose.{captureOf, dealtFor, groupsFor}
 use Rattle.format.specs.Read.{slotsFrom}
-use Rattle.format.specs.Laws.Words.{map-append}
-use Rattle.format.specs.Laws.Groups.{data-append}
-use Rattle.format.specs.Laws.Capture.{capture-at}
+use Rattle.format.specs.Laws.Lists.{map-append, all-drop}
+use Rattle.format.specs.Laws.Reader.Groups.{data-append}
+use Rattle.format.specs.Laws.Composed.Frames.{capture-at}
+use Rattle.format.specs.Laws.Word.Parts.{fill-sent}
 use Rattle.format.specs.declared.Plan.{Plan}
-
-pub fill-sent : (parity : Bool) → isFill (sent parity fill) ≡ true
-unfolding isFill sent fill isOdd ones wordOf labelOf infoOf
-fill-sent true = refl
-fill-sent false = refl
 
 -- sent, no fill
 abbrev pub IsData : Bool → ℕ → Type 0
@@ -47,11 +43,6 @@ share-data parity f (suc n) a (x ∷ xs) (cons w ws) e =
   where
     later : (a i : ℕ) → a + 1 + i ≡ a + suc i
     later a i = omega arith
-
-all-drop : {A : Type 0} {P : A → Type 0} (n : ℕ) {l : List A} → All P l → All P (drop n l)
-all-drop zero a = a
-all-drop (suc n) nil = nil
-all-drop (suc n) (cons h t) = all-drop n t
 
 lead-length : (b : Bool) (t : ℕ) → length (cond b (timeWords t) []) ≡ cond b 3 0
 unfolding timeWords

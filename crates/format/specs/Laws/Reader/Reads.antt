@@ -6,7 +6,8 @@ use mathlib.Core.List.{List, [], _∷_, _++_, map, append-assoc, append-nil}
 use Rattle.format.specs.Word.{busOf, labelOf, infoOf, isFill}
 use Rattle.format.specs.Reader.{Fed, bad, fed, feed, run, Ran, badAt, ran, since, join, more, Slot, withTag, dataOf}
 use Rattle.format.specs.Read.{Got, got, stopped, finish, onward, before}
-use Rattle.format.specs.Laws.Part.{Part, partOf, said}
+use Rattle.format.specs.Laws.Word.Parts.{Part, partOf}
+use Rattle.format.specs.Laws.Reader.Parts.{said}
 use Rattle.format.specs.declared.Kind.{Kind}
 use Rattle.format.specs.declared.Item.{Item}
 use Rattle.format.specs.declared.Tag.the-variants.{Untagged}

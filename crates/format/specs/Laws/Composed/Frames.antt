@@ -1,67 +1,22 @@
 -- A capture that was composed: which words stand where.
-use Prim.Native.Nat.{ℕ, zero, suc, _+_, _*_, _/_, _%_, _-_, _<_, _≤_}
+use Prim.Native.Nat.{ℕ, suc, _+_, _*_, _/_, _%_, _-_, _<_, _≤_}
 use native.Mathlib.Nat.{mul-le-mul-right, mod-lt, div-lt-iff-lt-mul, div-add-mod'}
 use native.Mathlib.Omega.{arith}
 use mathlib.Core.Bool.{Bool, true, false, cond}
 use mathlib.Core.Path.{_≡_, refl, ap, _∙_}
 use mathlib.Core.List.{List, [], _∷_, _++_, flatMap}
 use lib.ListN.{length, getD, length-append, List·getD-append}
-use lib.Seq.{getD-append-add, getD-at}
-use lib.Pow.{shr-shr}
-use Rattle.format.specs.Word.{wordAt, bytesOf, sent, sync, fill}
+use lib.Seq.{getD-at}
+use Rattle.format.specs.Word.{wordAt, sent, sync, fill}
 use Rattle.format.specs.Plan.{rows, groupWords, placeOf}
 use Rattle.format.specs.Bits.{bit}
 use Rattle.format.specs.Lists.{list}
 use Rattle.format.specs.Group.{frame, group}
 use Rattle.format.specs.Check.{checkWord}
 use Rattle.format.specs.Compose.{captureOf, dealtFor, groupsFor}
+use Rattle.format.specs.Laws.Lists.{length-list, getD-list, length-blocks, getD-blocks}
+use Rattle.format.specs.Laws.Word.Bytes.{word-at}
 use Rattle.format.specs.declared.Plan.{Plan}
-
-pub length-list : {A : Type 0} (f : ℕ → A) (a n : ℕ) → length (list f a n) ≡ n
-unfolding list
-length-list f a zero = refl
-length-list f a (suc n) = ap suc (length-list f (a + 1) n)
-
-pub getD-list : {A : Type 0} (f : ℕ → A) (a n i : ℕ) (d : A) → i < n → getD (list f a n) i d ≡ f (a + i)
-unfolding list
-getD-list f a zero i d h = absurd (omega arith)
-getD-list f a (suc n) zero d h =
-    let e : a ≡ a + 0 = omega arith in
-    ap f e
-getD-list f a (suc n) (suc i) d h =
-    let e : a + 1 + i ≡ a + suc i = omega arith in
-    getD-list f (a + 1) n i d (omega arith) ∙ ap f e
-
--- blocks of bit length
-module _ (f : ℕ → List ℕ) (L : ℕ) (same : (t : ℕ) → length (f t) ≡ L) where
-  pub length-blocks : (a n : ℕ) → length (flatMap f (list (λ t. t) a n)) ≡ n * L
-  unfolding flatMap list
-  length-blocks a zero = omega arith
-  length-blocks a (suc n) = length-append (f a) (flatMap f (list (λ t. t) (a + 1) n)) ∙ rw (same a, length-blocks (a + 1) n) (omega arith)
-
-  pub getD-blocks : (a n t j d : ℕ) → t < n → j < L → getD (flatMap f (list (λ t. t) a n)) (t * L + j) d ≡ getD (f (a + t)) j d
-  unfolding flatMap list
-  getD-blocks a zero t j d h k = absurd (omega arith)
-  getD-blocks a (suc n) zero j d h k =
-      let e : zero * L + j ≡ j = omega arith in
-      let l : j < length (f a) = rw (same a) k in
-      let e2 : a + 0 ≡ a = omega arith in
-      rw (e, e2) (List·getD-append (f a) (flatMap f (list (λ t. t) (a + 1) n)) d j l)
-  getD-blocks a (suc n) (suc t) j d h k =
-      let e : suc t * L + j ≡ length (f a) + (t * L + j) = rw (same a) (omega arith) in
-      let e2 : a + 1 + t ≡ a + suc t = omega arith in
-      rw e (getD-append-add (f a) (flatMap f (list (λ t. t) (a + 1) n)) (t * L + j) d ∙ getD-blocks (a + 1) n t j d (omega arith) k ∙ ap (λ (x : ℕ). getD (f x) j d) e2)
-
--- the words of bytes that are words
-pub word-at : (ws : List ℕ) (i : ℕ) → wordAt (flatMap bytesOf ws) i ≡ getD ws i 0
-unfolding wordAt flatMap bytesOf
-word-at [] i = refl
-word-at (w ∷ ws) zero = omega (arith, shr-shr w 8 8)
-word-at (w ∷ ws) (suc i) =
-    let e0 : 3 * suc i ≡ suc (suc (suc (3 * i))) = omega arith in
-    let e1 : suc (suc (suc (3 * i))) + 1 ≡ suc (suc (suc (3 * i + 1))) = omega arith in
-    let e2 : suc (suc (suc (3 * i))) + 2 ≡ suc (suc (suc (3 * i + 2))) = omega arith in
-    rw (e0, e1, e2) (word-at ws i)
 
 -- a frame
 module _ (p : Plan) (dealt : List ℕ) (t : ℕ) where

@@ -3,8 +3,8 @@ use Prim.Native.Nat.{ℕ, zero, suc, _+_, _*_, _/_, _%_, _^_, _<_, _≤_}
 use native.Mathlib.Omega.{arith}
 use native.Mathlib.Decide.{decLt}
 use mathlib.Core.Bool.{Bool, true, false, cond, _&&_, _||_, not}
-use mathlib.Core.Path.{_≡_, refl, ap, ap₂, sym, _∙_}
-use mathlib.Core.List.{List, [], _∷_, _++_, flatMap}
+use mathlib.Core.Path.{_≡_, refl, ap, sym, _∙_}
+use mathlib.Core.List.{List, [], _∷_, _++_}
 use lib.ListN.{length, take, drop, getD}
 use lib.Dec.{eqb, ltb}
 use borrow.Author.Tests.{lt-ltb, eq-eqb, ne-eqb}
@@ -15,43 +15,17 @@ use Rattle.format.specs.Group.{timeWords, timeFault, timeWordFault, time
 use Rattle.format.specs.Lists.{list, All, nil, cons}
 use Rattle.format.specs.Check.{checkWord, checkOf}
 use Rattle.format.specs.Compose.{captureOf, dealtFor, groupsFor}
-use Rattle.format.specs.Laws.Forth.{all-append}
-use Rattle.format.specs.Laws.Parity.{sent-odd}
-use Rattle.format.specs.Laws.Part.{Part, part, partOf, wordFor}
-use Rattle.format.specs.Laws.Words.{Holds, part-back}
-use Rattle.format.specs.Laws.Check.{check-low}
-use Rattle.format.specs.Laws.Capture.{frame-at, dealtOn, front, front-length, frame-front, frame-check, stored-at, capture-at}
+use Rattle.format.specs.Laws.Lists.{all-list, all-flat, list-is}
+use Rattle.format.specs.Laws.Word.Parity.{sent-odd}
+use Rattle.format.specs.Laws.Word.Parts.{Part, part, partOf, wordFor, Holds, part-back}
+use Rattle.format.specs.Laws.Word.Check.{check-low}
+use Rattle.format.specs.Laws.Composed.Frames.{frame-at, dealtOn, front, front-length, frame-front, frame-check, stored-at, capture-at}
 use Rattle.format.specs.declared.Plan.{Plan}
 
 first-none : (fs : List Fault) → All (λ f. f ≡ none) fs → firstOf fs ≡ none
 unfolding firstOf
 first-none [] nil = refl
 first-none (f ∷ fs) (cons e a) = rw (e, first-none fs a)
-
-pub all-list : {A : Type 0} (P : A → Type 0) (f : ℕ → A) (n a : ℕ) → ((i : ℕ) → i < n → P (f (a + i))) → All P (list f a n)
-unfolding list
-all-list P f zero a h = nil
-all-list P f (suc n) a h =
-    let e : a + 0 ≡ a = omega arith in
-    cons (rw e at (h 0 (omega arith))) (all-list P f n (a + 1) (λ i l. rw (later i) (h (suc i) (omega arith))))
-  where
-    later : (i : ℕ) → a + 1 + i ≡ a + suc i
-    later i = omega arith
-
-pub all-flat : {A B : Type 0} (P : B → Type 0) (f : A → List B) (l : List A) → All (λ a. All P (f a)) l → All P (flatMap f l)
-unfolding flatMap
-all-flat P f [] nil = nil
-all-flat P f (a ∷ l) (cons h t) = all-append h (all-flat P f l t)
-
-pub list-is : (f : ℕ → ℕ) (l : List ℕ) (a : ℕ) → ((i : ℕ) → i < length l → f (a + i) ≡ getD l i 0) → list f a (length l) ≡ l
-unfolding list
-list-is f [] a h = refl
-list-is f (x ∷ l) a h =
-    let e : a + 0 ≡ a = omega arith in
-    ap₂ (λ (u : ℕ) (m : List ℕ). u ∷ m) (rw e at (h 0 (omega arith))) (list-is f l (a + 1) (λ i k. rw (later i) (h (suc i) (omega arith))))
-  where
-    later : (i : ℕ) → a + 1 + i ≡ a + suc i
-    later i = omega arith
 
 sent-sound : (parity : Bool) (w : ℕ) → (parity ≡ true → w < 2 ^ 23) → (not parity || isOdd (sent parity w)) ≡ true
 sent-sound true w h = sent-odd w (h refl)

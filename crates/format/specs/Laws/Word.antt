@@ -1,0 +1,4 @@
+pub mod Parts
+pub mod Parity
+pub mod Bytes
+pub mod Check
