@@ -4,7 +4,7 @@ use Prim.Native.Nat.{ℕ, zero, suc, _+_, _*_, _/_, _%_, _^_, _-_}
 use mathlib.Core.Bool.{Bool, true, false, cond, _&&_}
 use mathlib.Core.List.{List, [], _∷_, _++_, map, flatMap}
 use lib.Dec.{eqb}
-use Rattle.format.specs.Word.{wordOf}
+use Rattle.format.specs.Word.{Part, part, wordFor}
 use Rattle.format.specs.Bits.{bit, bitsOf}
 use Rattle.format.specs.Time.{belowTick}
 use Rattle.format.specs.declared.Kind.{Kind}
@@ -36,14 +36,14 @@ channelOf label =
     cond (eqb label (highLabel 0)) 0 (cond (eqb label (highLabel 1)) 1 (cond (eqb label (highLabel 2)) 2 (cond (eqb label (highLabel 3)) 3 4)))
 
 -- "7, 6, 5: time high, low, microsecond"
-abbrev pub tagWords : ℕ → Tag → List ℕ
-tagWords bus Untagged = []
-tagWords bus (At t) = wordOf bus 7 (t .high) ∷ wordOf bus 6 (t .low) ∷ wordOf bus 5 (t .micro) ∷ []
+abbrev pub tagParts : ℕ → Tag → List Part
+tagParts bus Untagged = []
+tagParts bus (At t) = part bus 7 (t .high) ∷ part bus 6 (t .low) ∷ part bus 5 (t .micro) ∷ []
 
 -- "4: response time"
-abbrev pub responseWords : ℕ → Response → List ℕ
-responseWords bus Untimed = []
-responseWords bus (After r) = wordOf bus 4 r ∷ []
+abbrev pub responseParts : ℕ → Response → List Part
+responseParts bus Untimed = []
+responseParts bus (After r) = part bus 4 r ∷ []
 
 -- "Command: one word, or that word and its time words high, low, micro."
 -- "Status: one word, or a response word and then the status word."
@@ -52,15 +52,19 @@ responseWords bus (After r) = wordOf bus 4 r ∷ []
 -- "ARINC error notice: label 4, bits 9-12 the channel's high label, 13-16 its low label, 17-24 diagnostics."
 -- "User word (label 3 or 2) and overflow mark (label 0), .. 16 bits of information."
 -- "All words of an item carry the same bus code and stand next to each other"
+abbrev pub itemParts : Item → List Part
+itemParts (Command bus b tag word) = part bus (sided 15 b) word ∷ tagParts bus tag
+itemParts (Status bus b resp word) = responseParts bus resp ++ part bus (sided 14 b) word ∷ []
+itemParts (Data bus b word) = part bus (sided 13 b) word ∷ []
+itemParts (BusError bus b word) = part bus (sided 12 b) word ∷ []
+itemParts (Arinc bus c tag word) = part bus (highLabel c) (word / 2 ^ 16) ∷ part bus (lowLabel c) (word % 2 ^ 16) ∷ tagParts bus tag
+itemParts (Notice bus c diag) = part bus 4 (highLabel c * 2 ^ 12 + lowLabel c * 2 ^ 8 + diag) ∷ []
+itemParts (User bus three word) = part bus (cond three 3 2) word ∷ []
+itemParts (Overflow bus word) = part bus 0 word ∷ []
+
+-- the item's words
 unfoldable pub itemWords : Item → List ℕ
-itemWords (Command bus b tag word) = wordOf bus (sided 15 b) word ∷ tagWords bus tag
-itemWords (Status bus b resp word) = responseWords bus resp ++ wordOf bus (sided 14 b) word ∷ []
-itemWords (Data bus b word) = wordOf bus (sided 13 b) word ∷ []
-itemWords (BusError bus b word) = wordOf bus (sided 12 b) word ∷ []
-itemWords (Arinc bus c tag word) = wordOf bus (highLabel c) (word / 2 ^ 16) ∷ wordOf bus (lowLabel c) (word % 2 ^ 16) ∷ tagWords bus tag
-itemWords (Notice bus c diag) = wordOf bus 4 (highLabel c * 2 ^ 12 + lowLabel c * 2 ^ 8 + diag) ∷ []
-itemWords (User bus three word) = wordOf bus (cond three 3 2) word ∷ []
-itemWords (Overflow bus word) = wordOf bus 0 word ∷ []
+itemWords i = map wordFor (itemParts i)
 
 -- a field of the log: its width in bits and its number
 abbrev pub Field : Type 0

@@ -20,6 +20,22 @@ labelOf w = w / 2 ^ 16 % 16
 unfoldable pub infoOf : ℕ → ℕ
 infoOf w = w % 2 ^ 16
 
+-- what a word says: its bus code, its content label and its information
+pub record Part : Type 0 where
+  pub bus : ℕ
+  pub label : ℕ
+  pub info : ℕ
+
+abbrev pub part : ℕ → ℕ → ℕ → Part
+part bus label info = record { bus = bus; label = label; info = info }
+
+-- the word that says this, and what a word says
+abbrev pub wordFor : Part → ℕ
+wordFor x = wordOf (x .bus) (x .label) (x .info)
+
+abbrev pub partOf : Bool → ℕ → Part
+partOf parity w = part (busOf parity w) (labelOf w) (infoOf w)
+
 -- the sum of the k lowest bits of w
 unfoldable pub ones : ℕ → ℕ → ℕ
 ones zero w = 0
@@ -32,6 +48,10 @@ isOdd w = eqb (ones 24 w % 2) 1
 -- "With parity, bit 1 is set so that the word has an odd number of ones": a word as it is sent
 unfoldable pub sent : Bool → ℕ → ℕ
 sent parity w = cond parity (cond (isOdd w) w (w + 2 ^ 23)) w
+
+-- a word without its parity bit
+abbrev pub bare : Bool → ℕ → ℕ
+bare parity w = cond parity (w % 2 ^ 23) w
 
 -- "Word 1 of each frame is FAF320, never altered."
 unfoldable pub sync : ℕ

@@ -1,26 +1,27 @@
 -- What the closed reading accepts, composing makes of the log and times that it gives.
-use Prim.Native.Nat.{ℕ, zero, suc, _+_, _*_, _/_, _%_, _^_, _-_, _<_, _≤_}
+use Prim.Native.Nat.{ℕ, zero, suc, _+_, _*_, _/_, _^_, _-_, _<_, _≤_}
 use native.Mathlib.Nat.{div-eq-of-lt-le, div-add-mod'}
 use native.Mathlib.Decide.{decLt}
 use native.Mathlib.Omega.{arith}
-use mathlib.Core.Bool.{Bool, true, false, cond, _&&_}
+use mathlib.Core.Bool.{Bool, true, false, cond}
 use mathlib.Core.Path.{_≡_, refl, ap, sym, _∙_}
 use mathlib.Core.List.{List, [], _∷_, map, flatMap}
 use lib.ListN.{length, getD, length-append, length-map, List·getD-eq-default}
-use lib.Dec.{eqb, leb}
-use borrow.Author.Tests.{leb-true, eqb-true, le-leb, eq-eqb, lt-ltb}
-use Rattle.format.specs.Plan.{legal, groupWords, slots, kindOn}
+use borrow.Author.Tests.{le-leb, eq-eqb, lt-ltb}
+use Rattle.format.specs.Plan.{groupWords, slots, kindOn}
 use Rattle.format.specs.Item.{itemWords, standsOn, busOfItem}
 use Rattle.format.specs.Log.{parsed, onPlan, items, logOf}
-use Rattle.format.specs.Lists.{list, All}
-use Rattle.format.specs.Group.{groupSlots, groupTime, timeInfo, groupFault, Fault, none, found}
+use Rattle.format.specs.Lists.{All, Bytes}
+use Rattle.format.specs.Group.{groupTime, timeInfo, groupFault, none}
 use Rattle.format.specs.Compose.{made, composed, composeWords, captureOf, groupsFor, firstLate}
-use Rattle.format.specs.Read.{Reading, gives, refuses, reading, readGroups, misplaced, settled, roomed, unmisplaced, Got, got, stopped, slotsFrom}
+use Rattle.format.specs.Read.{gives, reading, slotsFrom}
 use Rattle.format.specs.Reader.{dataOf}
 use Rattle.format.specs.Lawful.{Lawful}
-use Rattle.format.specs.Laws.Tests.{clash, and-true}
+use Rattle.format.specs.Word.{bare}
+use Rattle.format.specs.Time.{timeEnd}
+use Rattle.format.specs.Laws.Tests.{clash}
 use Rattle.format.specs.Laws.Lists.{all-map, length-list, getD-list, all-left}
-use Rattle.format.specs.Laws.Word.Parts.{bare, info-low}
+use Rattle.format.specs.Laws.Word.Parts.{info-low}
 use Rattle.format.specs.Laws.Log.Back.{log-back, Logged}
 use Rattle.format.specs.Laws.Log.Sizes.{narrow-of, in-time}
 use Rattle.format.specs.Laws.Reader.Groups.{Faultless}
@@ -33,70 +34,7 @@ use Rattle.format.specs.declared.Plan.{Plan}
 use Rattle.format.specs.declared.Item.{Item}
 use Rattle.format.specs.declared.Kind.{Kind}
 use Rattle.format.specs.declared.Kind.the-variants.{Unused}
-use Rattle.format.specs.declared.Held.the-variants.{Nothing}
-
--- what a closed reading went by
-pub record Closed (p : Plan) (ks : List Kind) (c log times : List ℕ) : Type 0 where
-  pub lawful : legal p ks ≡ true
-  pub evenly : length c % (3 * groupWords p) ≡ 0
-  pub its : List Item
-  pub reads : readGroups p ks c (length c / (3 * groupWords p)) 0 Nothing 0 ≡ got its
-  pub placed : misplaced p (list (λ g. groupSlots p c (g * groupWords p)) 0 (length c / (3 * groupWords p))) ≡ none
-  pub logged : logOf its ≡ log
-  pub short : length (logOf its) ≤ 32768
-  pub timed : list (λ g. groupTime p c (g * groupWords p)) 0 (cond (p .«frame_time») (length c / (3 * groupWords p)) 0) ≡ times
-
-abbrev ReadBy : Plan → List Kind → List ℕ → Reading → Type 0
-ReadBy p ks c (gives log times) = Closed p ks c log times
-ReadBy p ks c (refuses k q) = Unit {0}
-
-module _ (p : Plan) (ks : List Kind) (c : List ℕ) (logRoom timeRoom : ℕ) where
-  abbrev n : ℕ
-  n = length c / (3 * groupWords p)
-
-  abbrev place : Fault
-  place = misplaced p (list (λ g. groupSlots p c (g * groupWords p)) 0 n)
-
-  roomed-by : legal p ks ≡ true → length c % (3 * groupWords p) ≡ 0 → (is : List Item) → readGroups p ks c n 0 Nothing 0 ≡ got is → place ≡ none
-      → ReadBy p ks c (roomed p c n logRoom timeRoom (logOf is))
-  roomed-by l e is r m = go (leb (length (logOf is)) 32768 && leb (length (logOf is)) logRoom) refl
-    where
-      need : ℕ
-      need = cond (p .«frame_time») n 0
-
-      times : List ℕ
-      times = list (λ g. groupTime p c (g * groupWords p)) 0 need
-
-      two : length (logOf is) ≤ 32768 → (b : Bool) → ReadBy p ks c (cond b (gives (logOf is) times) (refuses 7 need))
-      two s true = record { lawful = l; evenly = e; its = is; reads = r; placed = m; logged = refl; short = s; timed = refl }
-      two s false = tt
-
-      go : (b : Bool) → (leb (length (logOf is)) 32768 && leb (length (logOf is)) logRoom) ≡ b
-          → ReadBy p ks c (cond b (cond (leb need timeRoom) (gives (logOf is) times) (refuses 7 need)) (refuses 6 (length (logOf is))))
-      go true b = two (leb-true _ _ (and-true _ _ b .0)) (leb need timeRoom)
-      go false b = tt
-
-  settled-by : legal p ks ≡ true → length c % (3 * groupWords p) ≡ 0 → (g : Got) → readGroups p ks c n 0 Nothing 0 ≡ g → ReadBy p ks c (settled p c n logRoom timeRoom true g)
-  settled-by l e (stopped k q) r = tt
-  settled-by l e (got is) r = go place refl
-    where
-      go : (f : Fault) → place ≡ f → ReadBy p ks c (unmisplaced f (roomed p c n logRoom timeRoom (logOf is)))
-      go none m = roomed-by l e is r m
-      go (found k q) m = tt
-
-  read-by : ReadBy p ks c (reading true p ks c logRoom timeRoom)
-  unfolding reading
-  read-by = go (legal p ks) refl
-    where
-      next : legal p ks ≡ true → (b : Bool) → (leb (length c) 1048576 && eqb (length c % (3 * groupWords p)) 0) ≡ b
-          → ReadBy p ks c (cond b (settled p c n logRoom timeRoom true (readGroups p ks c n 0 Nothing 0)) (refuses 8 (length c)))
-      next l true b = settled-by l (eqb-true (length c % (3 * groupWords p)) 0 (and-true (leb (length c) 1048576) (eqb (length c % (3 * groupWords p)) 0) b .1)) (readGroups p ks c n 0 Nothing 0) refl
-      next l false b = tt
-
-      go : (b : Bool) → legal p ks ≡ b
-          → ReadBy p ks c (cond b (cond (leb (length c) 1048576 && eqb (length c % (3 * groupWords p)) 0) (settled p c n logRoom timeRoom true (readGroups p ks c n 0 Nothing 0)) (refuses 8 (length c))) (refuses 1 0))
-      go true l = next l (leb (length c) 1048576 && eqb (length c % (3 * groupWords p)) 0) refl
-      go false l = tt
+use Rattle.format.specs.Laws.Accepted.Given.{Given, read-by}
 
 -- an item that stands on a bus of sixteen
 stands-in : (ks : List Kind) (i : Item) (b : ℕ) → standsOn i (kindOn ks b) ≡ true → b < length ks
@@ -115,10 +53,10 @@ logged-of ks h i w =
     let b : busOfItem i < 16 = rw h at (stands-in ks i (busOfItem i) (w .stands)) in
     record { narrow = narrow-of i (w .sized) b; passed = rw (w .stands, in-time i (w .sized)) }
 
-none-late : (ts : List ℕ) (i : ℕ) → ((g : ℕ) → getD ts g 0 < 42949672960000) → firstLate i ts ≡ i + length ts
+none-late : (ts : List ℕ) (i : ℕ) → ((g : ℕ) → getD ts g 0 < timeEnd) → firstLate i ts ≡ i + length ts
 unfolding firstLate
 none-late [] i h = omega arith
-none-late (t ∷ ts) i h = rw (lt-ltb t 42949672960000 (h 0), none-late ts (i + 1) (λ g. h (suc g))) (omega arith)
+none-late (t ∷ ts) i h = rw (lt-ltb t timeEnd (h 0), none-late ts (i + 1) (λ g. h (suc g))) (omega arith)
 
 -- the number of groups is the fewest
 fewest-is : (p : Plan) → 1 ≤ slots p → (n d : ℕ) → d ≤ n * slots p → (1 ≤ n → n * slots p < d + slots p) → n ≡ groupsFor p d
@@ -129,7 +67,7 @@ fewest-is p h n d a b = sym (div-eq-of-lt-le (slots p) (low n b) (omega arith))
     low zero b = omega arith
     low (suc m) b = omega (arith, b (omega arith))
 
-module _ (p : Plan) (ks : List Kind) (sixteen : length ks ≡ 16) (c log times : List ℕ) (bytes : All (λ b. b < 256) c) (k : Closed p ks c log times) where
+module _ (p : Plan) (ks : List Kind) (sixteen : length ks ≡ 16) (c log times : List ℕ) (bytes : Bytes c) (k : Given true p ks c log times) where
   l : Legal p ks
   l = legal-is p ks (k .lawful)
 
@@ -178,24 +116,24 @@ module _ (p : Plan) (ks : List Kind) (sixteen : length ks ≡ 16) (c log times :
       go true z = h
       go false z = clash z
 
-  clock-low : p .«frame_time» ≡ true → (g : ℕ) → g < N → clockAt g < 42949672960000
+  clock-low : p .«frame_time» ≡ true → (g : ℕ) → g < N → clockAt g < timeEnd
   unfolding groupTime
   clock-low e g h =
       let z : 0 + g ≡ g = omega arith in
       let n : groupFault p c (g * groupWords p) ≡ none = rw z at (faultless-at p c N 0 g (a .0) h) in
       small (timeInfo p c (g * groupWords p) 0) (timeInfo p c (g * groupWords p) 1) (timeInfo p c (g * groupWords p) 2) (info-low _) (info-low _) (times-are p c (g * groupWords p) n e .3)
     where
-      small : (x y m : ℕ) → x < 65536 → y < 65536 → m < 10000 → 10000 * (65536 * x + y) + m < 42949672960000
+      small : (x y m : ℕ) → x < 65536 → y < 65536 → m < 10000 → 10000 * (65536 * x + y) + m < timeEnd
       small x y m f g h = omega arith
 
-  timely : (g : ℕ) → getD times g 0 < 42949672960000
+  timely : (g : ℕ) → getD times g 0 < timeEnd
   timely g = go (decLt g need) (p .«frame_time») refl
     where
       inside : (b : Bool) → p .«frame_time» ≡ b → g < cond b N 0 → (p .«frame_time» ≡ true) × (g < N)
       inside true e h = (e, h)
       inside false e h = absurd (omega arith)
 
-      go : Dec (g < need) → (b : Bool) → p .«frame_time» ≡ b → getD times g 0 < 42949672960000
+      go : Dec (g < need) → (b : Bool) → p .«frame_time» ≡ b → getD times g 0 < timeEnd
       go (yes h) b e =
           let i = inside (p .«frame_time») refl h in
           rw (time-at g h) (clock-low (i .0) g (i .1))
@@ -222,7 +160,7 @@ module _ (p : Plan) (ks : List Kind) (sixteen : length ks ≡ 16) (c log times :
         ex,
       )
 
--- 16. closed exactly: what the closed reading accepts, composing makes again, byte for byte
-pub closed-exactly : (p : Plan) (ks : List Kind) (c log times : List ℕ) (logRoom timeRoom space : ℕ) → length ks ≡ 16 → All (λ b. b < 256) c
+-- closed exactly: what the closed reading accepts, composing makes again, byte for byte
+pub closed-exactly : (p : Plan) (ks : List Kind) (c log times : List ℕ) (logRoom timeRoom space : ℕ) → length ks ≡ 16 → Bytes c
     → reading true p ks c logRoom timeRoom ≡ gives log times → length c ≤ space → composed p ks log times space ≡ made c
-closed-exactly p ks c log times logRoom timeRoom space sixteen bytes e h = composed-is p ks sixteen c log times bytes (rw e at (read-by p ks c logRoom timeRoom)) space h
+closed-exactly p ks c log times logRoom timeRoom space sixteen bytes e h = composed-is p ks sixteen c log times bytes (rw e at (read-by true p ks c logRoom timeRoom)) space h

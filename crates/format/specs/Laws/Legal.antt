@@ -16,6 +16,7 @@ use Rattle.format.specs.Item.{standsOn, inTime, busOfItem}
 use Rattle.format.specs.Log.{onPlan}
 use Rattle.format.specs.Compose.{firstLate}
 use Rattle.format.specs.Lawful.{Sound, buses}
+use Rattle.format.specs.Time.{timeEnd}
 use Rattle.format.specs.Laws.Tests.{clash, and-true}
 use Rattle.format.specs.Laws.Log.Back.{Logged}
 use Rattle.format.specs.Laws.Log.Sizes.{sized-of}
@@ -110,16 +111,16 @@ logged-sound p ks l i w =
     go false e s h = h
 
 -- no time is late
-late-none : (i : ℕ) (ts : List ℕ) → firstLate i ts ≡ i + length ts → (g : ℕ) → getD ts g 0 < 42949672960000
+late-none : (i : ℕ) (ts : List ℕ) → firstLate i ts ≡ i + length ts → (g : ℕ) → getD ts g 0 < timeEnd
 unfolding firstLate
 late-none i [] e g = omega arith
-late-none i (t ∷ ts) e g = go (ltb t 42949672960000) refl e (late-none (i + 1) ts) g
+late-none i (t ∷ ts) e g = go (ltb t timeEnd) refl e (late-none (i + 1) ts) g
   where
-    go : (b : Bool) → ltb t 42949672960000 ≡ b → cond b (firstLate (i + 1) ts) i ≡ i + suc (length ts)
-        → (firstLate (i + 1) ts ≡ i + 1 + length ts → (g : ℕ) → getD ts g 0 < 42949672960000) → (g : ℕ) → getD (t ∷ ts) g 0 < 42949672960000
+    go : (b : Bool) → ltb t timeEnd ≡ b → cond b (firstLate (i + 1) ts) i ≡ i + suc (length ts)
+        → (firstLate (i + 1) ts ≡ i + 1 + length ts → (g : ℕ) → getD ts g 0 < timeEnd) → (g : ℕ) → getD (t ∷ ts) g 0 < timeEnd
     go true b e ih zero = ltb-true _ _ b
     go true b e ih (suc g) = ih (e ∙ omega arith) g
     go false b e ih g = absurd (omega arith)
 
-pub timely : (times : List ℕ) → firstLate 0 times ≡ length times → (g : ℕ) → getD times g 0 < 42949672960000
+pub timely : (times : List ℕ) → firstLate 0 times ≡ length times → (g : ℕ) → getD times g 0 < timeEnd
 timely times e = late-none 0 times (rw e (omega arith))

@@ -7,6 +7,7 @@ use lib.Seq.{getD-append-add, ext-getD}
 use native.Mathlib.Nat.{mod-lt, div-lt-iff-lt-mul, div-add-mod'}
 use lib.ListN.{length, take, drop, length-append, getD, List·getD-append}
 use Rattle.format.specs.Lists.{All, cons, nil, list}
+use Rattle.format.specs.Laws.Tests.{later}
 
 pub flatMap-append : {A B : Type 0} (f : A → List B) (l m : List A) → flatMap f (l ++ m) ≡ flatMap f l ++ flatMap f m
 unfolding flatMap
@@ -88,10 +89,7 @@ unfolding list
 all-list P f zero a h = nil
 all-list P f (suc n) a h =
     let e : a + 0 ≡ a = omega arith in
-    cons (rw e at (h 0 (omega arith))) (all-list P f n (a + 1) (λ i l. rw (later i) (h (suc i) (omega arith))))
-  where
-    later : (i : ℕ) → a + 1 + i ≡ a + suc i
-    later i = omega arith
+    cons (rw e at (h 0 (omega arith))) (all-list P f n (a + 1) (λ i l. rw (later a i) (h (suc i) (omega arith))))
 
 pub all-flat : {A B : Type 0} (P : B → Type 0) (f : A → List B) (l : List A) → All (λ a. All P (f a)) l → All P (flatMap f l)
 unfolding flatMap
@@ -103,10 +101,7 @@ unfolding list
 list-is f [] a h = refl
 list-is f (x ∷ l) a h =
     let e : a + 0 ≡ a = omega arith in
-    ap₂ (λ (u : ℕ) (m : List ℕ). u ∷ m) (rw e at (h 0 (omega arith))) (list-is f l (a + 1) (λ i k. rw (later i) (h (suc i) (omega arith))))
-  where
-    later : (i : ℕ) → a + 1 + i ≡ a + suc i
-    later i = omega arith
+    ap₂ (λ (u : ℕ) (m : List ℕ). u ∷ m) (rw e at (h 0 (omega arith))) (list-is f l (a + 1) (λ i k. rw (later a i) (h (suc i) (omega arith))))
 
 pub all-both : {A : Type 0} {P Q R : A → Type 0} → ((a : A) → P a → Q a → R a) → {l : List A} → All P l → All Q l → All R l
 all-both f nil nil = nil
@@ -129,9 +124,6 @@ list-same f g (suc n) a b h =
     let y : b + 0 ≡ b = omega arith in
     let z : f a ≡ g b = rw (x, y) at (h 0 (omega arith)) in
     rw (z, list-same f g n (a + 1) (b + 1) (λ i l. rw (later a i, later b i) (h (suc i) (omega arith))))
-  where
-    later : (a i : ℕ) → a + 1 + i ≡ a + suc i
-    later a i = omega arith
 
 -- a list that is blocks
 pub list-blocks : (f : ℕ → ℕ) (F : ℕ → List ℕ) (L : ℕ) → 1 ≤ L → ((t : ℕ) → length (F t) ≡ L) → (n a : ℕ)

@@ -45,9 +45,6 @@ one-low false = omega arith
 pub later : (a i : ℕ) → a + 1 + i ≡ a + suc i
 later a i = omega arith
 
-pub clash′ : {A : Type 0} → true ≡ false → A
-clash′ e = clash (sym e)
-
 pub or-false : (a b : Bool) → (a || b) ≡ false → (a ≡ false) × (b ≡ false)
 or-false false b e = (refl, e)
-or-false true b e = clash′ e
+or-false true b e = clash (sym e)

@@ -11,11 +11,12 @@ use borrow.Author.Tests.{eqb-true, le-leb}
 use Rattle.format.specs.Plan.{legal, groupWords}
 use Rattle.format.specs.Item.{itemWords}
 use Rattle.format.specs.Log.{parsed, onPlan, Parsed, items, fault, logOf}
-use Rattle.format.specs.Lists.{list, All}
+use Rattle.format.specs.Lists.{list, All, Bytes}
 use Rattle.format.specs.Group.{group, groupSlots, groupTime, Fault, none}
 use Rattle.format.specs.Compose.{Composed, made, refused, composed, composeParsed, composeWords, captureOf, dealtFor, groupsFor, firstLate}
 use Rattle.format.specs.Read.{gives, reading, readGroups, misplaced, settled, got}
 use Rattle.format.specs.Lawful.{Sound}
+use Rattle.format.specs.Time.{timeEnd}
 use Rattle.format.specs.Laws.Lists.{all-map, length-blocks, list-is}
 use Rattle.format.specs.Laws.Log.Forth.{log-forth}
 use Rattle.format.specs.Laws.Composed.Frames.{group-length}
@@ -92,7 +93,7 @@ capture-length p l s times ws =
     bytes-three W ∙ rw b (omega arith)
 
 -- the times that are read
-times-back : (p : Plan) (ks : List Kind) → Legal p ks → (times ws : List ℕ) → ((g : ℕ) → getD times g 0 < 42949672960000)
+times-back : (p : Plan) (ks : List Kind) → Legal p ks → (times ws : List ℕ) → ((g : ℕ) → getD times g 0 < timeEnd)
     → length times ≡ cond (p .«frame_time») (groupsFor p (length ws)) 0
     → list (λ g. groupTime p (captureOf p times ws) (g * groupWords p)) 0 (length times) ≡ times
 times-back p ks l times ws t e = list-is (λ g. groupTime p (captureOf p times ws) (g * groupWords p)) times 0 (λ g h. go (p .«frame_time») refl g h)
@@ -126,7 +127,7 @@ settle p c n logRoom timeRoom closed is log times m e l1 l2 t t2 b =
 
 -- a reading of what was composed of the items
 read-back : (p : Plan) (ks : List Kind) (log times : List ℕ) (is : List Item) (logRoom timeRoom : ℕ) (closed : Bool) → legal p ks ≡ true
-    → All (Sound ks (p .parity)) is → ((g : ℕ) → getD times g 0 < 42949672960000)
+    → All (Sound ks (p .parity)) is → ((g : ℕ) → getD times g 0 < timeEnd)
     → logOf is ≡ log → length log ≤ 32768 → length log ≤ logRoom
     → length times ≡ cond (p .«frame_time») (groupsFor p (length (flatMap itemWords is))) 0 → length times ≤ timeRoom
     → length (captureOf p times (flatMap itemWords is)) ≤ 1048576
@@ -144,8 +145,8 @@ read-back p ks log times is logRoom timeRoom closed g s t e l1 l2 k t2 small =
     (settle p (captureOf p times ws) n logRoom timeRoom closed is log times
     (composed-closed p (long p ks l) (l .tracks) (free p ks l) times ws (words-data ks (p .parity) is s)) e l1 l2 k t2 (times-back p ks l times ws t k))
 
--- 13. there and back
-pub there-and-back : (p : Plan) (ks : List Kind) (log times c : List ℕ) (space logRoom timeRoom : ℕ) (closed : Bool) → All (λ b. b < 256) log
+-- there and back
+pub there-and-back : (p : Plan) (ks : List Kind) (log times c : List ℕ) (space logRoom timeRoom : ℕ) (closed : Bool) → Bytes log
     → composed p ks log times space ≡ made c → length log ≤ logRoom → length times ≤ timeRoom → reading closed p ks c logRoom timeRoom ≡ gives log times
 there-and-back p ks log times c space logRoom timeRoom closed bytes e l2 t2 = go c (rw e at (made-by p ks log times space))
   where

@@ -9,16 +9,16 @@ use mathlib.Core.List.{List, [], _∷_, _++_, map, flatMap}
 use lib.ListN.{length, drop, getD, length-append, List·getD-append}
 use lib.Seq.{getD-drop, getD-append-add}
 use borrow.Author.Tests.{eqb-true}
-use Rattle.format.specs.Word.{wordAt, bytesOf, sent, fill, isFill, isOdd, labelOf, infoOf}
+use Rattle.format.specs.Word.{wordAt, bytesOf, sent, fill, isFill, isOdd, labelOf, infoOf, bare, partOf, wordFor}
 use Rattle.format.specs.Plan.{rows, lead, slots, groupWords, placeOf}
 use Rattle.format.specs.Bits.{bit}
 use Rattle.format.specs.Reader.{Slot, dataOf}
-use Rattle.format.specs.Lists.{list, All, nil, cons}
+use Rattle.format.specs.Lists.{list, All, nil, cons, Bytes}
 use Rattle.format.specs.Group.{frame, group, groupTime, timeInfo, groupSlots, groupFault, none, faultAt}
 use Rattle.format.specs.Check.{checkWord}
 use Rattle.format.specs.Compose.{captureOf, dealtFor, groupsFor}
 use Rattle.format.specs.Read.{slotsFrom}
-use Rattle.format.specs.Laws.Word.Parts.{partOf, wordFor, bare, part-forth, info-low}
+use Rattle.format.specs.Laws.Word.Parts.{part-forth, info-low}
 use Rattle.format.specs.Laws.Tests.{and-true}
 use Rattle.format.specs.Laws.Lists.{all-append, map-append, getD-list, getD-blocks, list-is, all-list, all-left, list-blocks}
 use Rattle.format.specs.Laws.Word.Parity.{odd-sent}
@@ -26,7 +26,7 @@ use Rattle.format.specs.Laws.Legal.{Legal, long, room, free}
 use Rattle.format.specs.Laws.Reader.Groups.{Faultless, last, next}
 use Rattle.format.specs.Laws.Composed.Frames.{front, front-length, frame-front, frame-check, frame-length, group-length, dealtOn, track-low, row-in}
 use Rattle.format.specs.Laws.Composed.Faultless.{Timely, timePart, dealt-time}
-use Rattle.format.specs.Laws.Composed.Slots.{dealt-at}
+use Rattle.format.specs.Laws.Composed.Slots.{dealt-at, slot-in}
 use Rattle.format.specs.Laws.Accepted.Tidy.{AllTidy, Blank, wordsIn, slots-length}
 use Rattle.format.specs.Laws.Word.Bytes.{word-at-low, bytes-words}
 use Rattle.format.specs.Laws.Accepted.Stored.{stored-fault, sync-is, odd-is, check-is, TimeWord, times-are}
@@ -69,7 +69,7 @@ group-words p c at = words-list (λ s. (at + placeOf p s, wordAt c (at + placeOf
 group-slot : (p : Plan) (c : List ℕ) (at i : ℕ) → i < slots p → getD (wordsIn (groupSlots p c at)) i 0 ≡ wordAt c (at + placeOf p (lead p + i))
 group-slot p c at i l = ap (λ (x : List ℕ). getD x i 0) (group-words p c at) ∙ getD-list (λ s. wordAt c (at + placeOf p s)) (lead p) (slots p) i 0 l
 
-pub slots-low : (p : Plan) (c : List ℕ) → All (λ b. b < 256) c → (n g : ℕ) → All (λ w. w < 2 ^ 24) (wordsIn (slotsFrom p c n g))
+pub slots-low : (p : Plan) (c : List ℕ) → Bytes c → (n g : ℕ) → All (λ w. w < 2 ^ 24) (wordsIn (slotsFrom p c n g))
 unfolding slotsFrom
 slots-low p c h zero g = nil
 slots-low p c h (suc n) g =
@@ -132,10 +132,6 @@ slot-of : (p : Plan) (s : ℕ) → lead p ≤ s → s < p .tracks * rows p → s
 unfolding slots
 slot-of p s m h = omega arith
 
-slot-in′ : (p : Plan) (i : ℕ) → i < slots p → lead p + i < p .tracks * rows p
-unfolding slots
-slot-in′ p i l = omega arith
-
 -- a time from its three numbers, and back
 time-parts : (a b m : ℕ) → b < 65536 → m < 10000
     → ((10000 * (65536 * a + b) + m) / 10000 / 65536 ≡ a) × ((10000 * (65536 * a + b) + m) / 10000 % 65536 ≡ b) × ((10000 * (65536 * a + b) + m) % 10000 ≡ m)
@@ -143,7 +139,7 @@ time-parts a b m h k =
     let e : (10000 * (65536 * a + b) + m) / 10000 ≡ 65536 * a + b = omega arith in
     (rw e (omega arith), rw e (omega arith), omega arith)
 
-module _ (p : Plan) (ks : List Kind) (l : Legal p ks) (c : List ℕ) (bytes : All (λ b. b < 256) c) (n : ℕ) (f : Faultless p c n 0) (t : AllTidy p c n 0)
+module _ (p : Plan) (ks : List Kind) (l : Legal p ks) (c : List ℕ) (bytes : Bytes c) (n : ℕ) (f : Faultless p c n 0) (t : AllTidy p c n 0)
     (ws : List ℕ) (w : map (bare (p .parity)) (dataOf (slotsFrom p c n 0)) ≡ ws) where
   group-none : (g : ℕ) → g < n → groupFault p c (g * groupWords p) ≡ none
   group-none g h =
@@ -174,7 +170,7 @@ module _ (p : Plan) (ks : List Kind) (l : Legal p ks) (c : List ℕ) (bytes : Al
       let u : bare (p .parity) (wordAt c (g * groupWords p + placeOf p (lead p + i))) ≡ getD (drop (g * slots p) ws) i fill =
       ap (bare (p .parity)) e ∙ bare-at (bare (p .parity)) D (t .fills) (g * slots p + i) b (blanks (p .parity) (t .fills) low (t .blank))
       ∙ ap (λ (x : List ℕ). getD x (g * slots p + i) fill) w ∙ sym (getD-drop (g * slots p) ws i fill) in
-      sym (dealt-sent g (lead p + i) h (slot-in′ p i k)) ∙ ap (sent (p .parity)) u
+      sym (dealt-sent g (lead p + i) h (slot-in p i k)) ∙ ap (sent (p .parity)) u
 
   module _ (times : List ℕ) (fits : n ≡ groupsFor p (length ws)) (timely : Timely times)
       (clock : p .«frame_time» ≡ true → (g : ℕ) → g < n → getD times g 0 ≡ groupTime p c (g * groupWords p)) where
@@ -278,7 +274,7 @@ module _ (p : Plan) (ks : List Kind) (l : Legal p ks) (c : List ℕ) (bytes : Al
         ∙ sym (getD-blocks (frame p (dealtFor p times ws g)) (p .words) (λ t. frame-length p (dealtFor p times ws g) t (long p ks l)) 0 (p .tracks) (j / p .words) (j % p .words) 0 q r)
         ∙ ap (λ (x : ℕ). getD (flatMap (frame p (dealtFor p times ws g)) (list (λ t. t) 0 (p .tracks))) x 0) d
 
-    -- 15. the capture is the bit composed
+    -- the capture is the bit composed
     pub exact : length c ≡ n * (3 * groupWords p) → captureOf p times ws ≡ c
     unfolding captureOf
     exact len =

@@ -10,7 +10,7 @@ use Rattle.format.specs.Group.{groupFault, groupSlots, Fault, none, foun
 use Rattle.format.specs.Read.{Got, got, stopped, before, onward, ifSound, readGroups, slotsFrom}
 use Rattle.format.specs.Lists.{All}
 use Rattle.format.specs.Lawful.{Lawful}
-use Rattle.format.specs.Laws.Word.Parts.{partOf, wordFor, bare}
+use Rattle.format.specs.Word.{partOf, wordFor, bare}
 use Rattle.format.specs.Laws.Reader.Reads.{whole, wholeOf, reads}
 use Rattle.format.specs.Laws.Reader.Forth.{AllRead, parts-forth}
 use Rattle.format.specs.Laws.Reader.Words.{forth-words, said-fits}
@@ -48,7 +48,7 @@ accepted-sound p ks c (suc n) g h at is e = go (groupFault p c (g * groupWords p
         next f (ih (r .0) (r .1) (r .2) (r .3))
     go (found k q) f e ih = no-got k q is e
 
--- 14. an accepted capture: no fault, and the data words, bar their parity, are those of lawful items
+-- an accepted capture: no fault, and the data words, bar their parity, are those of lawful items
 pub accepted : (p : Plan) (ks : List Kind) (c : List ℕ) (n : ℕ) (is : List Item) → readGroups p ks c n 0 Nothing 0 ≡ got is
     → All (λ w. w < 2 ^ 24) (dataOf (slotsFrom p c n 0))
     → Faultless p c n 0 × (map (bare (p .parity)) (dataOf (slotsFrom p c n 0)) ≡ flatMap itemWords is) × All (Lawful ks) is

@@ -5,16 +5,17 @@ use mathlib.Core.Bool.{Bool, true, false, cond}
 use mathlib.Core.Path.{_≡_, _∙_}
 use mathlib.Core.List.{List, [], flatMap}
 use lib.ListN.{length, getD}
-use Rattle.format.specs.Word.{wordOf, fill}
+use Rattle.format.specs.Word.{wordOf, fill, Part, wordFor}
 use Rattle.format.specs.Plan.{rows, slots, groupWords}
-use Rattle.format.specs.Item.{itemWords, sided}
+use Rattle.format.specs.Item.{itemWords, sided, itemParts}
 use Rattle.format.specs.Group.{timeWords, groupFault, none}
 use Rattle.format.specs.Compose.{captureOf, dealtFor, groupsFor}
 use Rattle.format.specs.Read.{got, readGroups}
 use Rattle.format.specs.Lists.{All, nil, cons}
 use Rattle.format.specs.Lawful.{Sound}
-use Rattle.format.specs.Laws.Word.Parts.{Part, wordFor, Holds, not-fill}
-use Rattle.format.specs.Laws.Reader.Parts.{itemParts, item-holds, words-of}
+use Rattle.format.specs.Time.{timeEnd}
+use Rattle.format.specs.Laws.Word.Parts.{Holds, not-fill}
+use Rattle.format.specs.Laws.Reader.Parts.{words-of, items-hold}
 use Rattle.format.specs.Laws.Reader.Back.{parts-back}
 use Rattle.format.specs.Laws.Reader.Back as back
 use Rattle.format.specs.Laws.Lists.{all-append, all-drop, all-take, all-of, all-map, all-flat, all-both, all-mapped, all-getD}
@@ -22,6 +23,7 @@ use Rattle.format.specs.Laws.Reader.Words.{words-said, got-whole}
 use Rattle.format.specs.Laws.Reader.Groups.{Faultless, last, next, groups-read}
 use Rattle.format.specs.Laws.Composed.Slots.{IsData, composed-data}
 use Rattle.format.specs.Laws.Composed.Faultless.{stored-none, Timely, time-holds, time-none}
+use Rattle.format.specs.Laws.Tests.{clash}
 use Rattle.format.specs.declared.Kind.{Kind}
 use Rattle.format.specs.declared.Plan.{Plan}
 use Rattle.format.specs.declared.Tag.the-variants.{Untagged, At}
@@ -29,7 +31,6 @@ use Rattle.format.specs.declared.Response.the-variants.{Untimed, After}
 use Rattle.format.specs.declared.Item.{Item}
 use Rattle.format.specs.declared.Item.the-variants.{Command, Status, Data, BusError, Arinc, Notice, User, Overflow}
 use Rattle.format.specs.declared.Held.the-variants.{Nothing}
-use Rattle.format.specs.Laws.Tests.{clash}
 
 abbrev NoFill : Part → Type 0
 NoFill x = x .label ≡ 1 → ⊥
@@ -65,22 +66,19 @@ fill-low : (parity : Bool) → Low parity fill
 unfolding fill wordOf
 fill-low parity e = omega arith
 
-time-low : (parity : Bool) (t : ℕ) → t < 42949672960000 → All (Low parity) (timeWords t)
+time-low : (parity : Bool) (t : ℕ) → t < timeEnd → All (Low parity) (timeWords t)
 unfolding timeWords
 time-low parity t h = cons (holds-low parity _ (time-holds parity t 0 h)) (cons (holds-low parity _ (time-holds parity t 1 h)) (cons (holds-low parity _ (time-holds parity t 2 h)) nil))
 
 module _ (ks : List Kind) (parity : Bool) (is : List Item) (sound : All (Sound ks parity) is) where
-  all-hold : All (Holds parity) (flatMap itemParts is)
-  all-hold = all-flat (Holds parity) itemParts is (all-map (λ i w. item-holds parity i (w .lawful .sized) (w .bus)) sound)
-
   no-fills : All NoFill (flatMap itemParts is)
   no-fills = all-flat NoFill itemParts is (all-map (λ i w. item-labels i) sound)
 
   pub words-data : All (IsData parity) (flatMap itemWords is)
-  words-data = rw (words-of is) (all-mapped (IsData parity) wordFor (flatMap itemParts is) (all-both (λ x h n. not-fill parity x h n) all-hold no-fills))
+  words-data = rw (words-of is) (all-mapped (IsData parity) wordFor (flatMap itemParts is) (all-both (λ x h n. not-fill parity x h n) (items-hold ks parity is sound) no-fills))
 
   words-fit : All (Low parity) (flatMap itemWords is)
-  words-fit = rw (words-of is) (all-mapped (Low parity) wordFor (flatMap itemParts is) (all-map (λ x h. holds-low parity x h) all-hold))
+  words-fit = rw (words-of is) (all-mapped (Low parity) wordFor (flatMap itemParts is) (all-map (λ x h. holds-low parity x h) (items-hold ks parity is sound)))
 
 module _ (p : Plan) (long : 2 ≤ p .words) (some : 1 ≤ p .tracks) (room : 3 ≤ p .tracks * rows p) (free : 1 ≤ slots p)
     (ks : List Kind) (times : List ℕ) (timely : Timely times) (is : List Item) (sound : All (Sound ks (p .parity)) is) where
@@ -105,7 +103,7 @@ module _ (p : Plan) (long : 2 ≤ p .words) (some : 1 ≤ p .tracks) (room : 3 �
   faultless zero g h = last
   faultless (suc n) g h = next (group-sound g (omega arith)) (faultless n (g + 1) (omega arith))
 
-  -- 11. composed and read, the items come back
+  -- composed and read, the items come back
   pub composed-read : readGroups p ks (captureOf p times ws) (groupsFor p (length ws)) 0 Nothing 0 ≡ got is
   composed-read =
       got-whole (readGroups p ks (captureOf p times ws) (groupsFor p (length ws)) 0 Nothing 0) is

@@ -110,7 +110,7 @@ items-eight (i ∷ is) = rw (length-append (itemBits i) (flatMap itemBits is)) (
 enough : (is : List Item) (log t : List ℕ) → bytesBits log ≡ flatMap itemBits is ++ t → length is < length log + 1
 enough is log t e = omega (arith, sym (length-bytes log) ∙ ap length e ∙ length-append (flatMap itemBits is) t, items-eight is)
 
--- 3. the log of the items parses as the items
+-- the log of the items parses as the items
 pub log-back : (check : Item → ℕ) (is : List Item) → All (Logged check) is → length (logOf is) ≤ 32768 → parsed check (logOf is) ≡ items is
 unfolding parsed logOf
 log-back check is w l =

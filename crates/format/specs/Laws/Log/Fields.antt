@@ -11,7 +11,7 @@ use lib.Pow.{mod-pow-add, high}
 use Rattle.format.specs.Bits.{bitsOf, bytesBits, numFrom, numOf, packed}
 use Rattle.format.specs.Item.{Field}
 use Rattle.format.specs.Log.{field}
-use Rattle.format.specs.Lists.{All, nil, cons}
+use Rattle.format.specs.Lists.{All, nil, cons, Bytes}
 use Rattle.format.specs.Laws.Lists.{all-append}
 
 pub length-bits : (k v : ℕ) → length (bitsOf k v) ≡ k
@@ -119,7 +119,7 @@ pub record Packs (bs : List ℕ) : Type 0 where
   pub more : ℕ
   pub few : more < 8
   pub bits : bytesBits (packed bs) ≡ bs ++ replicate more 0
-  pub bytes : All (λ b. b < 256) (packed bs)
+  pub bytes : Bytes (packed bs)
 
 all-zeros : (n : ℕ) → All (λ (b : ℕ). b < 2) (replicate n 0)
 all-zeros zero = nil

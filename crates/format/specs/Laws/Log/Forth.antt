@@ -12,7 +12,7 @@ use borrow.Author.Tests.{ltb-false, leb-true, eqb-true, ltb-true}
 use Rattle.format.specs.Bits.{bit, bitsOf, bytesBits, packed, numFrom, numOf}
 use Rattle.format.specs.Item.{Field, itemFields, itemBits}
 use Rattle.format.specs.Log.{ifThere, tagged, timed, endAt, consed, logOf, Next, has, ends, wrong, field, flag, nextAt, itemAt, Parsed, items, fault, parseFrom, parsed, parseNext}
-use Rattle.format.specs.Lists.{All, nil, cons}
+use Rattle.format.specs.Lists.{All, nil, cons, Bytes}
 use Rattle.format.specs.Laws.Log.Fields.{onto, size, Narrow, fields-onto, packs, num-low, bits-num, num-bits, Stand, length-bytes}
 use Rattle.format.specs.Laws.Lists.{all-append, all-drop, all-take, take-drop}
 use Rattle.format.specs.Laws.Tests.{and-true, below16}
@@ -221,7 +221,7 @@ bytes-none : (s : List ℕ) → [] ≡ bytesBits s → [] ≡ s
 bytes-none [] e = refl
 bytes-none (y ∷ t) e = absurd (omega (arith, ap length e ∙ length-bytes (y ∷ t)))
 
-pub bytes-same : (s t : List ℕ) → All (λ b. b < 256) s → All (λ b. b < 256) t → bytesBits s ≡ bytesBits t → s ≡ t
+pub bytes-same : (s t : List ℕ) → Bytes s → Bytes t → bytesBits s ≡ bytesBits t → s ≡ t
 unfolding bytesBits bitsOf
 bytes-same [] t a b e = bytes-none t e
 bytes-same (x ∷ s) [] a b e = sym (bytes-none (x ∷ s) (sym e))
@@ -230,7 +230,7 @@ bytes-same (x ∷ s) (y ∷ t) (cons a as′) (cons b bs) e =
     ap₂ (λ (u : ℕ) (l : List ℕ). u ∷ l) (sym (byte-num x a) ∙ ap (numFrom 0) h ∙ byte-num y b) (bytes-same s t as′ bs (ap (drop 8) e))
 
 -- bytes whose bits are bs and fewer than eight zeros are those that bs pack into
-packed-forth : (bs log : List ℕ) (m : ℕ) → AllBits bs → All (λ b. b < 256) log → m < 8 → bytesBits log ≡ bs ++ replicate m 0 → packed bs ≡ log
+packed-forth : (bs log : List ℕ) (m : ℕ) → AllBits bs → Bytes log → m < 8 → bytesBits log ≡ bs ++ replicate m 0 → packed bs ≡ log
 packed-forth bs log m a w h e =
     let k = packs bs a in
     let l1 : length log * 8 ≡ length bs + m = sym (length-bytes log) ∙ ap length e ∙ length-append bs (replicate m 0) ∙ simp length-replicate in
@@ -238,12 +238,12 @@ packed-forth bs log m a w h e =
     let d : k .more ≡ m = omega (arith, k .few) in
     bytes-same (packed bs) log (k .bytes) w (k .bits ∙ ap (λ (n : ℕ). bs ++ replicate n 0) d ∙ sym e)
 
--- 4. a log that parses is the log of its items
+-- a log that parses is the log of its items
 abbrev pub LogRight : (Item → ℕ) → List ℕ → Parsed → Type 0
 LogRight check log (fault n q) = Unit {0}
 LogRight check log (items is) = (logOf is ≡ log) × All (Logged check) is × (length log ≤ 32768)
 
-log-right : (check : Item → ℕ) (log : List ℕ) → All (λ b. b < 256) log → length log ≤ 32768 → (r : Parsed) → ParsedRight check (bytesBits log) 0 r → LogRight check log r
+log-right : (check : Item → ℕ) (log : List ℕ) → Bytes log → length log ≤ 32768 → (r : Parsed) → ParsedRight check (bytesBits log) 0 r → LogRight check log r
 unfolding logOf
 log-right check log w h (fault n q) g = tt
 log-right check log w h (items is) g = (
@@ -253,7 +253,7 @@ log-right check log w h (items is) g = (
   h,
 )
 
-pub parsed-right : (check : Item → ℕ) (log : List ℕ) → All (λ b. b < 256) log → LogRight check log (parsed check log)
+pub parsed-right : (check : Item → ℕ) (log : List ℕ) → Bytes log → LogRight check log (parsed check log)
 unfolding parsed
 parsed-right check log w = go (ltb 32768 (length log)) refl
   where
@@ -261,6 +261,6 @@ parsed-right check log w = go (ltb 32768 (length log)) refl
     go true t = tt
     go false t = log-right check log w (ltb-false 32768 (length log) t) (parseFrom (length log + 1) check (bytesBits log) 0) (parse-forth check (bytesBits log) (bytes-low log) (length log + 1) 0)
 
-pub log-forth : (check : Item → ℕ) (log : List ℕ) (is : List Item) → All (λ b. b < 256) log → parsed check log ≡ items is
+pub log-forth : (check : Item → ℕ) (log : List ℕ) (is : List Item) → Bytes log → parsed check log ≡ items is
     → (logOf is ≡ log) × All (Logged check) is × (length log ≤ 32768)
 log-forth check log is w e = rw e at (parsed-right check log w)

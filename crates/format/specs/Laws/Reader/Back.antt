@@ -7,12 +7,11 @@ use mathlib.Core.List.{List, [], _∷_, _++_, flatMap, append-assoc}
 use lib.Dec.{eqb}
 use borrow.Author.Tests.{lt-ltb, eq-eqb, ne-eqb}
 use Rattle.format.specs.Plan.{kindOn}
-use Rattle.format.specs.Item.{standsOn, busOfItem, sided, highLabel, lowLabel, channelOf}
+use Rattle.format.specs.Item.{standsOn, busOfItem, sided, highLabel, lowLabel, channelOf, itemParts, tagParts}
 use Rattle.format.specs.Reader.{Fed, bad, fed, feed, starts, withTag, after, baseBus}
 use Rattle.format.specs.Lists.{All, cons}
 use Rattle.format.specs.Lawful.{Lawful}
-use Rattle.format.specs.Laws.Word.Parts.{Part, part}
-use Rattle.format.specs.Laws.Reader.Parts.{itemParts, tagParts}
+use Rattle.format.specs.Word.{Part, part}
 use Rattle.format.specs.Laws.Reader.Reads.{whole, reads}
 use Rattle.format.specs.Laws.Tests.{clash}
 use Rattle.format.specs.declared.Kind.{Kind}

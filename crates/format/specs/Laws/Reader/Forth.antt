@@ -9,12 +9,12 @@ use lib.Seq.{append-snoc}
 use lib.Dec.{eqb, ltb}
 use borrow.Author.Tests.{ltb-true, eqb-true}
 use Rattle.format.specs.Plan.{kindOn}
-use Rattle.format.specs.Item.{standsOn, busOfItem, sided, highLabel, lowLabel, channelOf}
+use Rattle.format.specs.Item.{standsOn, busOfItem, sided, highLabel, lowLabel, channelOf, itemParts, tagParts}
 use Rattle.format.specs.Reader.{holds, alone, isPair, Fed, bad, fed, feed, starts, withTag, after, baseBus}
 use Rattle.format.specs.Lists.{All, cons, nil}
 use Rattle.format.specs.Lawful.{Lawful, Sized, tagSized}
-use Rattle.format.specs.Laws.Word.Parts.{Part, part, same-part}
-use Rattle.format.specs.Laws.Reader.Parts.{itemParts, tagParts}
+use Rattle.format.specs.Word.{Part, part}
+use Rattle.format.specs.Laws.Word.Parts.{same-part}
 use Rattle.format.specs.Laws.Reader.Reads.{Whole, cut, whole, ahead, chain, reads}
 use Rattle.format.specs.Laws.Tests.{clash, and-true, below16}
 use Rattle.format.specs.Laws.Lists.{flatMap-append, all-append}

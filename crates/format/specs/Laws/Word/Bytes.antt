@@ -6,7 +6,7 @@ use mathlib.Core.List.{List, [], _∷_, _++_, flatMap}
 use lib.ListN.{length, getD}
 use lib.Pow.{shr-shr}
 use Rattle.format.specs.Word.{wordAt, bytesOf}
-use Rattle.format.specs.Lists.{list, All, nil, cons}
+use Rattle.format.specs.Lists.{list, nil, cons, Bytes}
 use Rattle.format.specs.Laws.Lists.{list-same}
 
 -- the words of bytes that are words
@@ -29,12 +29,12 @@ bytes-three (w ∷ ws) = rw (bytes-three ws) (omega arith)
 pub word-low : (x y z : ℕ) → x < 256 → y < 256 → z < 256 → x * 2 ^ 16 + y * 2 ^ 8 + z < 2 ^ 24
 word-low x y z a b c = omega arith
 
-pub getD-low : (c : List ℕ) → All (λ b. b < 256) c → (i : ℕ) → getD c i 0 < 256
+pub getD-low : (c : List ℕ) → Bytes c → (i : ℕ) → getD c i 0 < 256
 getD-low [] nil i = omega arith
 getD-low (x ∷ c) (cons h t) zero = h
 getD-low (x ∷ c) (cons h t) (suc i) = getD-low c t i
 
-pub word-at-low : (c : List ℕ) → All (λ b. b < 256) c → (i : ℕ) → wordAt c i < 2 ^ 24
+pub word-at-low : (c : List ℕ) → Bytes c → (i : ℕ) → wordAt c i < 2 ^ 24
 unfolding wordAt
 word-at-low c h i = word-low _ _ _ (getD-low c h (3 * i)) (getD-low c h (3 * i + 1)) (getD-low c h (3 * i + 2))
 
@@ -59,7 +59,7 @@ unfolding wordAt
 first-word x y z c a b = bytes-of x y z a b
 
 -- bytes are those of their words
-pub bytes-words : (k : ℕ) (c : List ℕ) → length c ≡ k * 3 → All (λ b. b < 256) c → flatMap bytesOf (list (wordAt c) 0 k) ≡ c
+pub bytes-words : (k : ℕ) (c : List ℕ) → length c ≡ k * 3 → Bytes c → flatMap bytesOf (list (wordAt c) 0 k) ≡ c
 unfolding flatMap list
 bytes-words zero [] e h = refl
 bytes-words zero (x ∷ c) e h = absurd (omega arith)

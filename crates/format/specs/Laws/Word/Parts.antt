@@ -1,26 +1,12 @@
 -- A word as its three parts, and back.
-use Prim.Native.Nat.{ℕ, _+_, _%_, _^_, _<_}
+use Prim.Native.Nat.{ℕ, _+_, _^_, _<_}
 use mathlib.Core.Bool.{Bool, cond, true, false}
 use mathlib.Core.Path.{_≡_, refl, ap}
 use native.Mathlib.Omega.{arith}
 use lib.Pow.{shr-shr}
 use borrow.Author.Tests.{ne-eqb}
-use Rattle.format.specs.Word.{wordOf, busOf, labelOf, infoOf, isFill, isOdd, sent, fill, ones}
+use Rattle.format.specs.Word.{wordOf, busOf, labelOf, infoOf, isFill, isOdd, sent, fill, ones, bare, Part, partOf, wordFor, part}
 use Rattle.format.specs.Lawful.{buses}
-
-pub record Part : Type 0 where
-  pub bus : ℕ
-  pub label : ℕ
-  pub info : ℕ
-
-abbrev pub part : ℕ → ℕ → ℕ → Part
-part b l i = record { bus = b; label = l; info = i }
-
-abbrev pub wordFor : Part → ℕ
-wordFor x = wordOf (x .bus) (x .label) (x .info)
-
-abbrev pub partOf : Bool → ℕ → Part
-partOf parity w = part (busOf parity w) (labelOf w) (infoOf w)
 
 pub same-part : (x : Part) (b l : ℕ) → x .bus ≡ b → x .label ≡ l → x ≡ part b l (x .info)
 same-part x b l p q = λ i. record { bus = p i; label = q i; info = x .info }
@@ -30,9 +16,6 @@ pub record Holds (parity : Bool) (x : Part) : Type 0 where
   pub bus : x .bus < buses parity
   pub label : x .label < 16
   pub info : x .info < 2 ^ 16
-
-abbrev pub bare : Bool → ℕ → ℕ
-bare parity w = cond parity (w % 2 ^ 23) w
 
 pub part-same : (x y : Part) → x .bus ≡ y .bus → x .label ≡ y .label → x .info ≡ y .info → x ≡ y
 part-same x y p q r = λ i. record { bus = p i; label = q i; info = r i }
