@@ -16,3 +16,4 @@ pub mod Answer
 pub mod Listing
 pub mod Cases
 pub mod Laws
+pub mod Promises

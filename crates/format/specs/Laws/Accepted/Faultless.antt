@@ -4,7 +4,7 @@ use native.Mathlib.Omega.{arith}
 use mathlib.Core.Path.{_≡_, refl, ap, sym, _∙_}
 use mathlib.Core.List.{List, map, flatMap}
 use Rattle.format.specs.Plan.{groupWords}
-use Rattle.format.specs.Item.{itemWords}
+use Rattle.format.specs.Item.{itemWords, itemParts}
 use Rattle.format.specs.Reader.{Ran, badAt, ran, run, dataOf}
 use Rattle.format.specs.Group.{groupFault, groupSlots, Fault, none, found}
 use Rattle.format.specs.Read.{Got, got, stopped, before, onward, ifSound, readGroups, slotsFrom}
@@ -12,7 +12,7 @@ use Rattle.format.specs.Lists.{All}
 use Rattle.format.specs.Lawful.{Lawful}
 use Rattle.format.specs.Word.{partOf, wordFor, bare}
 use Rattle.format.specs.Laws.Reader.Reads.{whole, wholeOf, reads}
-use Rattle.format.specs.Laws.Reader.Forth.{AllRead, parts-forth}
+use Rattle.format.specs.Laws.Reader.Forth.{parts-forth}
 use Rattle.format.specs.Laws.Reader.Words.{forth-words, said-fits}
 use Rattle.format.specs.Laws.Reader.Parts.{words-of}
 use Rattle.format.specs.Laws.Reader.Groups.{Faultless, last, next, groups-read}
@@ -48,13 +48,19 @@ accepted-sound p ks c (suc n) g h at is e = go (groupFault p c (g * groupWords p
         next f (ih (r .0) (r .1) (r .2) (r .3))
     go (found k q) f e ih = no-got k q is e
 
+-- its data words say what the words of lawful items say
+pub accepted-parts : (p : Plan) (ks : List Kind) (c : List ℕ) (n : ℕ) (is : List Item) → readGroups p ks c n 0 Nothing 0 ≡ got is
+    → All (λ w. w < 2 ^ 24) (dataOf (slotsFrom p c n 0))
+    → (map (partOf (p .parity)) (dataOf (slotsFrom p c n 0)) ≡ flatMap itemParts is) × All (Lawful ks) is
+accepted-parts p ks c n is e w =
+    let d : List ℕ = dataOf (slotsFrom p c n 0) in
+    let r : reads ks Nothing (map (partOf (p .parity)) d) ≡ whole is = sym (groups-read p ks c n 0 (accepted-sound p ks c n 0 Nothing 0 is e) Nothing 0) ∙ ap wholeOf e in
+    rw r at (parts-forth ks (map (partOf (p .parity)) d) Nothing tt (said-fits (p .parity) d w))
+
 -- an accepted capture: no fault, and the data words, bar their parity, are those of lawful items
 pub accepted : (p : Plan) (ks : List Kind) (c : List ℕ) (n : ℕ) (is : List Item) → readGroups p ks c n 0 Nothing 0 ≡ got is
     → All (λ w. w < 2 ^ 24) (dataOf (slotsFrom p c n 0))
     → Faultless p c n 0 × (map (bare (p .parity)) (dataOf (slotsFrom p c n 0)) ≡ flatMap itemWords is) × All (Lawful ks) is
 accepted p ks c n is e w =
-    let f : Faultless p c n 0 = accepted-sound p ks c n 0 Nothing 0 is e in
-    let d : List ℕ = dataOf (slotsFrom p c n 0) in
-    let r : reads ks Nothing (map (partOf (p .parity)) d) ≡ whole is = sym (groups-read p ks c n 0 f Nothing 0) ∙ ap wholeOf e in
-    let a : AllRead ks (map (partOf (p .parity)) d) (whole is) = rw r at (parts-forth ks (map (partOf (p .parity)) d) Nothing tt (said-fits (p .parity) d w)) in
-    (f, sym (forth-words (p .parity) d w) ∙ ap (map wordFor) (a .0) ∙ sym (words-of is), a .1)
+    let a = accepted-parts p ks c n is e w in
+    (accepted-sound p ks c n 0 Nothing 0 is e, sym (forth-words (p .parity) (dataOf (slotsFrom p c n 0)) w) ∙ ap (map wordFor) (a .0) ∙ sym (words-of is), a .1)
