@@ -1,0 +1,4 @@
+-- The laws of one word, over plain numbers and lists.
+pub mod Ones
+pub mod Below
+pub mod Stored
