@@ -64,7 +64,7 @@ getD-list f a (suc n) (suc i) d h =
     let e : a + 1 + i ≡ a + suc i = omega arith in
     getD-list f (a + 1) n i d (omega arith) ∙ ap f e
 
--- blocks of bit length
+-- blocks of one length
 module _ (f : ℕ → List ℕ) (L : ℕ) (same : (t : ℕ) → length (f t) ≡ L) where
   pub length-blocks : (a n : ℕ) → length (flatMap f (list (λ t. t) a n)) ≡ n * L
   unfolding flatMap list

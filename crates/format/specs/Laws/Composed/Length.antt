@@ -21,6 +21,7 @@ use Rattle.format.specs.declared.Item.{Item}
 use Rattle.format.specs.declared.Item.the-variants.{Command, Status, Data, BusError, Arinc, Notice, User, Overflow}
 use Rattle.format.specs.declared.Tag.the-variants.{Untagged, At}
 use Rattle.format.specs.declared.Response.the-variants.{Untimed, After}
+use Rattle.format.specs.Laws.Tests.{bit-low}
 
 -- seventeen bits or more a word
 item-seventeen : (i : Item) → length (itemWords i) * 17 ≤ size (itemFields i)
@@ -60,16 +61,12 @@ module _ (p : Plan) (ks : List Kind) (l : Legal p ks) where
       let x : L ≡ r + 2 = omega arith in
       rw x (omega arith)
 
-  bit-low : (b : Bool) → bit b ≤ 1
-  bit-low true = omega arith
-  bit-low false = omega arith
-
   words-near : groupWords p ≤ slots p + 11
   unfolding slots lead rows
   words-near = go (p .«frame_time»)
     where
       n : p .tracks * p .words ≤ p .tracks * (p .words - 1 - bit (p .crc)) + 8
-      n = near (bit (p .crc)) (bit-low (p .crc)) (p .tracks) (p .words) (p .words - 1 - bit (p .crc)) refl (l .words) (l .few)
+      n = near (bit (p .crc)) (omega (arith, bit-low (p .crc))) (p .tracks) (p .words) (p .words - 1 - bit (p .crc)) refl (l .words) (l .few)
 
       go : (b : Bool) → p .tracks * p .words ≤ p .tracks * (p .words - 1 - bit (p .crc)) - cond b 3 0 + 11
       go true = omega (arith, n)

@@ -13,7 +13,7 @@ use Rattle.format.specs.Log.{logOf, has, ends, nextAt, itemAt, items, pa
 use Rattle.format.specs.Lists.{All, cons}
 use Rattle.format.specs.Laws.Log.Fields.{Rest, onto, size, Narrow, stands, rest-skip, rest-length, fields-onto, packs, field-rest, rest-all, length-bytes}
 use Rattle.format.specs.Laws.Lists.{all-append}
-use Rattle.format.specs.Laws.Tests.{one-flag}
+use Rattle.format.specs.Laws.Tests.{bit-flag}
 use Rattle.format.specs.Laws.Log.Sizes.{bits-low, items-low, fields-length}
 use Rattle.format.specs.declared.Tag.the-variants.{Untagged, At}
 use Rattle.format.specs.declared.Response.the-variants.{Untimed, After}
@@ -26,22 +26,22 @@ item-next : (s : List ℕ) (p : ℕ) (i : Item) (t : List ℕ) → Rest s p (ont
 unfolding nextAt itemAt itemFields
 item-next s p (Command bus b Untagged word) t r z =
     let (f, l) = stands s p (itemFields (Command bus b Untagged word)) t r z in
-    simp (f .0, f .1 .0, f .1 .1 .0, f .1 .1 .1 .0, f .1 .1 .1 .1 .0, one-flag b, le-leb (p + 4) (length s) (omega arith), le-leb (p + 26) (length s) (omega arith))
+    simp (f .0, f .1 .0, f .1 .1 .0, f .1 .1 .1 .0, f .1 .1 .1 .1 .0, bit-flag b, le-leb (p + 4) (length s) (omega arith), le-leb (p + 26) (length s) (omega arith))
 item-next s p (Command bus b (At u) word) t r z =
     let (f, l) = stands s p (itemFields (Command bus b (At u) word)) t r z in
-    simp (f .0, f .1 .0, f .1 .1 .0, f .1 .1 .1 .0, f .1 .1 .1 .1 .0, f .1 .1 .1 .1 .1 .0, f .1 .1 .1 .1 .1 .1 .0, f .1 .1 .1 .1 .1 .1 .1 .0, one-flag b, le-leb (p + 4) (length s) (omega arith), le-leb (p + 26) (length s) (omega arith), le-leb (p + 72) (length s) (omega arith), add-assoc p 26)
+    simp (f .0, f .1 .0, f .1 .1 .0, f .1 .1 .1 .0, f .1 .1 .1 .1 .0, f .1 .1 .1 .1 .1 .0, f .1 .1 .1 .1 .1 .1 .0, f .1 .1 .1 .1 .1 .1 .1 .0, bit-flag b, le-leb (p + 4) (length s) (omega arith), le-leb (p + 26) (length s) (omega arith), le-leb (p + 72) (length s) (omega arith), add-assoc p 26)
 item-next s p (Status bus b Untimed word) t r z =
     let (f, l) = stands s p (itemFields (Status bus b Untimed word)) t r z in
-    simp (f .0, f .1 .0, f .1 .1 .0, f .1 .1 .1 .0, f .1 .1 .1 .1 .0, one-flag b, le-leb (p + 4) (length s) (omega arith), le-leb (p + 26) (length s) (omega arith))
+    simp (f .0, f .1 .0, f .1 .1 .0, f .1 .1 .1 .0, f .1 .1 .1 .1 .0, bit-flag b, le-leb (p + 4) (length s) (omega arith), le-leb (p + 26) (length s) (omega arith))
 item-next s p (Status bus b (After u) word) t r z =
     let (f, l) = stands s p (itemFields (Status bus b (After u) word)) t r z in
-    simp (f .0, f .1 .0, f .1 .1 .0, f .1 .1 .1 .0, f .1 .1 .1 .1 .0, f .1 .1 .1 .1 .1 .0, one-flag b, le-leb (p + 4) (length s) (omega arith), le-leb (p + 26) (length s) (omega arith), le-leb (p + 40) (length s) (omega arith), add-assoc p 26)
+    simp (f .0, f .1 .0, f .1 .1 .0, f .1 .1 .1 .0, f .1 .1 .1 .1 .0, f .1 .1 .1 .1 .1 .0, bit-flag b, le-leb (p + 4) (length s) (omega arith), le-leb (p + 26) (length s) (omega arith), le-leb (p + 40) (length s) (omega arith), add-assoc p 26)
 item-next s p (Data bus b word) t r z =
     let (f, l) = stands s p (itemFields (Data bus b word)) t r z in
-    simp (f .0, f .1 .0, f .1 .1 .0, f .1 .1 .1 .0, one-flag b, le-leb (p + 4) (length s) (omega arith), le-leb (p + 25) (length s) (omega arith))
+    simp (f .0, f .1 .0, f .1 .1 .0, f .1 .1 .1 .0, bit-flag b, le-leb (p + 4) (length s) (omega arith), le-leb (p + 25) (length s) (omega arith))
 item-next s p (BusError bus b word) t r z =
     let (f, l) = stands s p (itemFields (BusError bus b word)) t r z in
-    simp (f .0, f .1 .0, f .1 .1 .0, f .1 .1 .1 .0, one-flag b, le-leb (p + 4) (length s) (omega arith), le-leb (p + 25) (length s) (omega arith))
+    simp (f .0, f .1 .0, f .1 .1 .0, f .1 .1 .1 .0, bit-flag b, le-leb (p + 4) (length s) (omega arith), le-leb (p + 25) (length s) (omega arith))
 item-next s p (Arinc bus c Untagged word) t r z =
     let (f, l) = stands s p (itemFields (Arinc bus c Untagged word)) t r z in
     simp (f .0, f .1 .0, f .1 .1 .0, f .1 .1 .1 .0, f .1 .1 .1 .1 .0, le-leb (p + 4) (length s) (omega arith), le-leb (p + 43) (length s) (omega arith))
@@ -53,7 +53,7 @@ item-next s p (Notice bus c diag) t r z =
     simp (f .0, f .1 .0, f .1 .1 .0, f .1 .1 .1 .0, le-leb (p + 4) (length s) (omega arith), le-leb (p + 18) (length s) (omega arith))
 item-next s p (User bus b word) t r z =
     let (f, l) = stands s p (itemFields (User bus b word)) t r z in
-    simp (f .0, f .1 .0, f .1 .1 .0, f .1 .1 .1 .0, one-flag b, le-leb (p + 4) (length s) (omega arith), le-leb (p + 25) (length s) (omega arith))
+    simp (f .0, f .1 .0, f .1 .1 .0, f .1 .1 .1 .0, bit-flag b, le-leb (p + 4) (length s) (omega arith), le-leb (p + 25) (length s) (omega arith))
 item-next s p (Overflow bus word) t r z =
     let (f, l) = stands s p (itemFields (Overflow bus word)) t r z in
     simp (f .0, f .1 .0, f .1 .1 .0, le-leb (p + 4) (length s) (omega arith), le-leb (p + 24) (length s) (omega arith))

@@ -1,4 +1,4 @@
--- Bits of numbers and of bytes.
+-- Bits of numbers and of bytes, and fields that stand where they were put: one law over the width for every field.
 use Prim.Native.Nat.{ℕ, zero, suc, _+_, _*_, _/_, _%_, _^_, _≤_, _<_}
 use native.Mathlib.Nat.{mul-le-mul-right, le-pred-of-lt, mod-eq-of-lt, mod-one, pow-succ'}
 use native.Mathlib.Omega.{arith}

@@ -12,7 +12,7 @@ use Rattle.format.specs.Lawful.{Sized}
 use Rattle.format.specs.Lists.{All, nil, cons}
 use Rattle.format.specs.Laws.Log.Fields.{size, Narrow, length-bits}
 use Rattle.format.specs.Laws.Lists.{all-append}
-use Rattle.format.specs.Laws.Tests.{one-low}
+use Rattle.format.specs.Laws.Tests.{bit-low}
 use Rattle.format.specs.declared.Tag.the-variants.{Untagged, At}
 use Rattle.format.specs.declared.Response.the-variants.{Untimed, After}
 use Rattle.format.specs.declared.Item.{Item}
@@ -21,16 +21,16 @@ use Rattle.format.specs.declared.Item.the-variants.{Command, Status, Dat
 -- an item whose fields are within their ranges has them within their widths
 pub narrow-of : (i : Item) → Sized i → busOfItem i < 16 → Narrow (itemFields i)
 unfolding itemFields busOfItem
-narrow-of (Command bus b Untagged word) z h = omega (arith, one-low b)
-narrow-of (Command bus b (At t) word) z h = omega (arith, one-low b)
-narrow-of (Status bus b Untimed word) z h = omega (arith, one-low b)
-narrow-of (Status bus b (After r) word) z h = omega (arith, one-low b)
-narrow-of (Data bus b word) z h = omega (arith, one-low b)
-narrow-of (BusError bus b word) z h = omega (arith, one-low b)
+narrow-of (Command bus b Untagged word) z h = omega (arith, bit-low b)
+narrow-of (Command bus b (At t) word) z h = omega (arith, bit-low b)
+narrow-of (Status bus b Untimed word) z h = omega (arith, bit-low b)
+narrow-of (Status bus b (After r) word) z h = omega (arith, bit-low b)
+narrow-of (Data bus b word) z h = omega (arith, bit-low b)
+narrow-of (BusError bus b word) z h = omega (arith, bit-low b)
 narrow-of (Arinc bus c Untagged word) z h = omega arith
 narrow-of (Arinc bus c (At t) word) z h = omega arith
 narrow-of (Notice bus c diag) z h = omega arith
-narrow-of (User bus b word) z h = omega (arith, one-low b)
+narrow-of (User bus b word) z h = omega (arith, bit-low b)
 narrow-of (Overflow bus word) z h = omega arith
 
 -- and the other way, if the times are within theirs

@@ -167,7 +167,7 @@ sided-status l s true e f g = eqb-true _ _ f
 sided-status l true false e f g = eqb-true _ _ e
 sided-status l false false e f g = clash g
 
--- alone word, in any state
+-- one word, in any state
 feed-good : (ks : List Kind) (h : Held) (x : Part) → HeldOk ks h → Fits x → Good ks (heldParts h ++ x ∷ []) (feed ks h (x .bus) (x .label) (x .info))
 unfolding feed standsOn busOfItem flatMap
 feed-good ks Nothing x o z = starts-good ks _ (x .bus) (x .label) (x .info) refl (z .label) (z .info)
