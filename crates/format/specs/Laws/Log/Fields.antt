@@ -4,7 +4,7 @@ use native.Mathlib.Nat.{mul-le-mul-right, le-pred-of-lt, mod-eq-of-lt, mod-one, 
 use native.Mathlib.Omega.{arith}
 use native.Mathlib.Numerals.{one-add}
 use mathlib.Core.Path.{_≡_, refl, sym, ap, ap₂, _∙_}
-use mathlib.Core.List.{List, [], _∷_, _++_, append-assoc, flatMap}
+use mathlib.Core.List.{List, [], _∷_, _++_, append-assoc, flatMap, append-nil}
 use lib.ListN.{length, replicate, length-append}
 use lib.Seq.{take-at, drop-at}
 use lib.Pow.{mod-pow-add, high}
@@ -125,37 +125,28 @@ all-zeros : (n : ℕ) → All (λ (b : ℕ). b < 2) (replicate n 0)
 all-zeros zero = nil
 all-zeros (suc n) = cons {a = 0} (omega arith) (all-zeros n)
 
+-- a last byte, its m zeros included
+last-byte : (bs : List ℕ) (m : ℕ) → m < 8 → All (λ b. b < 2) bs → length (bs ++ replicate m 0) ≡ 8 → packed bs ≡ numOf (bs ++ replicate m 0) ∷ [] → Packs bs
+unfolding bytesBits numOf
+last-byte bs m h z l e =
+    let y : All (λ b. b < 2) (bs ++ replicate m 0) = all-append z (all-zeros m) in
+    record {
+      more = m;
+      few = h;
+      bits = rw e (ap (λ (r : List ℕ). r ++ []) (rw l at (bits-num 0 (bs ++ replicate m 0) y)) ∙ append-nil (bs ++ replicate m 0));
+      bytes = rw e (cons {a = numOf (bs ++ replicate m 0)} (rw l at (num-low (bs ++ replicate m 0) y)) nil);
+    }
+
 pub packs : (bs : List ℕ) → All (λ b. b < 2) bs → Packs bs
 unfolding packed bytesBits numOf
 packs [] z = record { more = 0; few = omega arith; bits = refl; bytes = nil }
-packs (a ∷ []) z =
-    let l : List ℕ = a ∷ 0 ∷ 0 ∷ 0 ∷ 0 ∷ 0 ∷ 0 ∷ 0 ∷ [] in
-    let y : All (λ b. b < 2) l = all-append z (all-zeros 7) in
-    record { more = 7; few = omega arith; bits = ap (λ (m : List ℕ). m ++ []) (bits-num 0 l y); bytes = cons {a = numOf l} (num-low l y) nil }
-packs (a ∷ b ∷ []) z =
-    let l : List ℕ = a ∷ b ∷ 0 ∷ 0 ∷ 0 ∷ 0 ∷ 0 ∷ 0 ∷ [] in
-    let y : All (λ b. b < 2) l = all-append z (all-zeros 6) in
-    record { more = 6; few = omega arith; bits = ap (λ (m : List ℕ). m ++ []) (bits-num 0 l y); bytes = cons {a = numOf l} (num-low l y) nil }
-packs (a ∷ b ∷ c ∷ []) z =
-    let l : List ℕ = a ∷ b ∷ c ∷ 0 ∷ 0 ∷ 0 ∷ 0 ∷ 0 ∷ [] in
-    let y : All (λ b. b < 2) l = all-append z (all-zeros 5) in
-    record { more = 5; few = omega arith; bits = ap (λ (m : List ℕ). m ++ []) (bits-num 0 l y); bytes = cons {a = numOf l} (num-low l y) nil }
-packs (a ∷ b ∷ c ∷ d ∷ []) z =
-    let l : List ℕ = a ∷ b ∷ c ∷ d ∷ 0 ∷ 0 ∷ 0 ∷ 0 ∷ [] in
-    let y : All (λ b. b < 2) l = all-append z (all-zeros 4) in
-    record { more = 4; few = omega arith; bits = ap (λ (m : List ℕ). m ++ []) (bits-num 0 l y); bytes = cons {a = numOf l} (num-low l y) nil }
-packs (a ∷ b ∷ c ∷ d ∷ e ∷ []) z =
-    let l : List ℕ = a ∷ b ∷ c ∷ d ∷ e ∷ 0 ∷ 0 ∷ 0 ∷ [] in
-    let y : All (λ b. b < 2) l = all-append z (all-zeros 3) in
-    record { more = 3; few = omega arith; bits = ap (λ (m : List ℕ). m ++ []) (bits-num 0 l y); bytes = cons {a = numOf l} (num-low l y) nil }
-packs (a ∷ b ∷ c ∷ d ∷ e ∷ f ∷ []) z =
-    let l : List ℕ = a ∷ b ∷ c ∷ d ∷ e ∷ f ∷ 0 ∷ 0 ∷ [] in
-    let y : All (λ b. b < 2) l = all-append z (all-zeros 2) in
-    record { more = 2; few = omega arith; bits = ap (λ (m : List ℕ). m ++ []) (bits-num 0 l y); bytes = cons {a = numOf l} (num-low l y) nil }
-packs (a ∷ b ∷ c ∷ d ∷ e ∷ f ∷ g ∷ []) z =
-    let l : List ℕ = a ∷ b ∷ c ∷ d ∷ e ∷ f ∷ g ∷ 0 ∷ [] in
-    let y : All (λ b. b < 2) l = all-append z (all-zeros 1) in
-    record { more = 1; few = omega arith; bits = ap (λ (m : List ℕ). m ++ []) (bits-num 0 l y); bytes = cons {a = numOf l} (num-low l y) nil }
+packs (a ∷ []) z = last-byte (a ∷ []) 7 (omega arith) z refl refl
+packs (a ∷ b ∷ []) z = last-byte (a ∷ b ∷ []) 6 (omega arith) z refl refl
+packs (a ∷ b ∷ c ∷ []) z = last-byte (a ∷ b ∷ c ∷ []) 5 (omega arith) z refl refl
+packs (a ∷ b ∷ c ∷ d ∷ []) z = last-byte (a ∷ b ∷ c ∷ d ∷ []) 4 (omega arith) z refl refl
+packs (a ∷ b ∷ c ∷ d ∷ e ∷ []) z = last-byte (a ∷ b ∷ c ∷ d ∷ e ∷ []) 3 (omega arith) z refl refl
+packs (a ∷ b ∷ c ∷ d ∷ e ∷ f ∷ []) z = last-byte (a ∷ b ∷ c ∷ d ∷ e ∷ f ∷ []) 2 (omega arith) z refl refl
+packs (a ∷ b ∷ c ∷ d ∷ e ∷ f ∷ g ∷ []) z = last-byte (a ∷ b ∷ c ∷ d ∷ e ∷ f ∷ g ∷ []) 1 (omega arith) z refl refl
 packs (a ∷ b ∷ c ∷ d ∷ e ∷ f ∷ g ∷ h ∷ rest) (cons za (cons zb (cons zc (cons zd (cons ze (cons zf (cons zg (cons zh z)))))))) =
     let r : Packs rest = packs rest z in
     let l : List ℕ = a ∷ b ∷ c ∷ d ∷ e ∷ f ∷ g ∷ h ∷ [] in
