@@ -1,15 +1,14 @@
 -- The tables hold their rule, and three look-ups are the check of a word.
 use Prim.Native.Nat.{ℕ, zero, suc, _+_, _*_, _/_, _%_, _^_, _<_}
 use native.Mathlib.Nat.{mod-lt, add-zero, mul-one, le-of-suc-le-suc}
-use native.Mathlib.Numerals.{add-one}
 use native.Mathlib.Omega.{arith}
 use mathlib.Core.Bool.{Bool, true, false, _&&_}
 use mathlib.Core.Path.{_≡_, refl, sym, ap, ap₂, _∙_}
 use mathlib.Core.List.{List, [], _∷_}
 use lib.ListN.{length, getD}
-use lib.Pow.{pow-pos, shr-shr}
+use lib.Pow.{pow-pos, split}
 use lib.Dec.{T, eqb, eqb→eq, lit<}
-use lib.Bits.{bitXor, xor-lt, xor-shifted}
+use lib.Bits.{bitXor, xor-lt, xor-comm, xor-zero-l, xor-shifted, xor-block}
 use Rattle.format.specs.Check.{checkOf}
 use Rattle.format.specs.Lists.{list}
 use Rattle.crc.specs.Running.{nextCheck, entryOf, entries}
@@ -47,34 +46,38 @@ entry-at p k i e hp hk =
     let m : (0 + i) % 256 ≡ k = omega arith in
     list-at entryOf 0 768 i (omega arith) ∙ ap₂ (λ (x y : ℕ). checkOf (x * 2 ^ (8 * y) ∷ [])) m q
 
--- a number of three bytes is the xor of its bytes where they stand
-bytes-xor : (x : ℕ) → bitXor (bitXor (x / 2 ^ 16 * 2 ^ 16) (x / 2 ^ 8 % 2 ^ 8 * 2 ^ 8)) (x % 2 ^ 8) ≡ x
-bytes-xor x =
-    let h : ℕ = x / 2 ^ 16 in
-    let m : ℕ = x / 2 ^ 8 % 2 ^ 8 in
-    let e : h * 2 ^ 16 + m * 2 ^ 8 ≡ (h * 2 ^ 8 + m) * 2 ^ 8 = omega arith in
-    ap (λ (n : ℕ). bitXor n (x % 2 ^ 8)) (xor-shifted h 16 (m * 2 ^ 8) (omega arith) ∙ e)
-    ∙ xor-shifted (h * 2 ^ 8 + m) 8 (x % 2 ^ 8) (mod-lt x (pow-pos 8)) ∙ omega (arith, shr-shr x 8 8)
+-- what the entries of the word's last byte and of its upper 16 bits make together
+abbrev looked : List ℕ → ℕ → ℕ → ℕ
+looked t last upper = bitXor (bitXor (getD t last 0) (getD t (256 + upper % 2 ^ 8) 0)) (getD t (512 + upper / 2 ^ 8) 0)
 
--- the entries of the three bytes of x in a table t
-abbrev pub looked : List ℕ → ℕ → ℕ
-looked t x = bitXor (bitXor (getD t (512 + x / 2 ^ 16) 0) (getD t (256 + x / 2 ^ 8 % 2 ^ 8) 0)) (getD t (x % 2 ^ 8) 0)
+-- a word is the xor of its bytes where they stand
+bytes-xor : (l u : ℕ) → l < 2 ^ 8 → bitXor (bitXor l (u % 2 ^ 8 * 2 ^ 8)) (u / 2 ^ 8 * 2 ^ 16) ≡ u * 2 ^ 8 + l
+bytes-xor l u h =
+    let m : ℕ = u % 2 ^ 8 in
+    let f : ℕ = u / 2 ^ 8 in
+    ap (λ (n : ℕ). bitXor n (f * 2 ^ 16)) (xor-comm l (m * 2 ^ 8) ∙ xor-shifted m 8 l h)
+    ∙ xor-comm (m * 2 ^ 8 + l) (f * 2 ^ 16) ∙ xor-shifted f 16 (m * 2 ^ 8 + l) (omega arith) ∙ omega arith
 
-three-entries : (x : ℕ) → x < 2 ^ 24 → looked entries x ≡ checkOf (x ∷ [])
-three-entries x h =
-    let first : ℕ = x / 2 ^ 16 in
-    let middle : ℕ = x / 2 ^ 8 % 2 ^ 8 in
-    let last : ℕ = x % 2 ^ 8 in
-    ap₂ bitXor (ap₂ bitXor (entry-at 2 first (512 + first) (omega arith) (lit< tt) (omega arith)) (entry-at 1 middle (256 + middle) (omega arith) (lit< tt) (omega arith)))
-    (entry-at 0 last last (omega arith) (lit< tt) (omega arith) ∙ ap (λ (n : ℕ). checkOf (n ∷ [])) (mul-one last))
-    ∙ sym (check-xor (bitXor (first * 2 ^ 16) (middle * 2 ^ 8)) last ∙ ap (λ (n : ℕ). bitXor n (checkOf (last ∷ []))) (check-xor (first * 2 ^ 16) (middle * 2 ^ 8)))
-    ∙ ap (λ (n : ℕ). checkOf (n ∷ [])) (bytes-xor x)
+three-entries : (l u : ℕ) → l < 2 ^ 8 → u < 2 ^ 16 → looked entries l u ≡ checkOf ((u * 2 ^ 8 + l) ∷ [])
+three-entries l u hl hu =
+    let m : ℕ = u % 2 ^ 8 in
+    let f : ℕ = u / 2 ^ 8 in
+    ap₂ bitXor
+    (ap₂ bitXor (entry-at 0 l l (omega arith) (lit< tt) hl ∙ ap (λ (n : ℕ). checkOf (n ∷ [])) (mul-one l)) (entry-at 1 m (256 + m) (omega arith) (lit< tt) (omega arith)))
+    (entry-at 2 f (512 + f) (omega arith) (lit< tt) (omega arith))
+    ∙ sym (check-xor (bitXor l (m * 2 ^ 8)) (f * 2 ^ 16) ∙ ap (λ (n : ℕ). bitXor n (checkOf (f * 2 ^ 16 ∷ []))) (check-xor l (m * 2 ^ 8)))
+    ∙ ap (λ (n : ℕ). checkOf (n ∷ [])) (bytes-xor l u hl)
 
--- the check r is met by the word w
-pub met-low : (r w : ℕ) → r < 2 ^ 16 → w < 2 ^ 24 → bitXor (r * 2 ^ 8) w < 2 ^ 24
-met-low r w hr hw = xor-lt 24 (r * 2 ^ 8) w (omega arith) hw
+-- the check r meets the upper 16 bits of the word w
+pub met-low : (r w : ℕ) → r < 2 ^ 16 → w < 2 ^ 24 → bitXor r (w / 2 ^ 8) < 2 ^ 16
+met-low r w hr hw = xor-lt 16 r (w / 2 ^ 8) hr (omega arith)
 
-pub next-entries : (t : List ℕ) (r w : ℕ) → t ≡ entries → r < 2 ^ 16 → w < 2 ^ 24
-    → looked t (bitXor (r * 2 ^ 8) w) ≡ nextCheck r w
+met : (r w : ℕ) → bitXor r (w / 2 ^ 8) * 2 ^ 8 + w % 2 ^ 8 ≡ bitXor (r * 2 ^ 8) w
+met r w =
+    sym (ap₂ bitXor (sym (add-zero (r * 2 ^ 8))) (sym (split w 8)) ∙ xor-block 8 r (w / 2 ^ 8) 0 (w % 2 ^ 8) (pow-pos 8) (mod-lt w (pow-pos 8))
+    ∙ ap (λ (n : ℕ). bitXor r (w / 2 ^ 8) * 2 ^ 8 + n) (xor-zero-l (w % 2 ^ 8)))
+
+pub next-entries : (t : List ℕ) (r w : ℕ) → t ≡ entries → r < 2 ^ 16 → w < 2 ^ 24 → looked t (w % 2 ^ 8) (bitXor r (w / 2 ^ 8)) ≡ nextCheck r w
 unfolding nextCheck
-next-entries t r w e hr hw = rw e (three-entries (bitXor (r * 2 ^ 8) w) (met-low r w hr hw))
+next-entries t r w e hr hw =
+    rw e (three-entries (w % 2 ^ 8) (bitXor r (w / 2 ^ 8)) (mod-lt w (pow-pos 8)) (met-low r w hr hw)) ∙ ap (λ (n : ℕ). checkOf (n ∷ [])) (met r w)

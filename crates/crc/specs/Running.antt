@@ -1,12 +1,12 @@
 -- The check of a frame, a word at a time; and the three tables, one a byte of the word.
-use Prim.Native.Nat.{ℕ, _+_, _*_, _/_, _%_, _^_}
+use Prim.Native.Nat.{ℕ, _*_, _/_, _%_, _^_}
 use mathlib.Core.List.{List, [], _∷_}
 use lib.Bits.{bitXor}
 use Rattle.format.specs.Check.{checkOf}
 use Rattle.format.specs.Lists.{list}
 
 -- the check of one word more, after words whose check is r:
--- r stands 8 bits below the top of the word, so that it is brought down together with the word's first 16 bits
+-- r is what those leave over the 16 bits that come next, which are the first 16 bits of w
 unfoldable pub nextCheck : ℕ → ℕ → ℕ
 nextCheck r w = checkOf (bitXor (r * 2 ^ 8) w ∷ [])
 

@@ -2,12 +2,12 @@
 use Prim.Native.Nat.{ℕ, zero, suc, _+_, _/_, _%_, _^_, _<_}
 use native.Mathlib.Nat.{mod-one, mod-eq-of-lt}
 use native.Mathlib.Numerals.{add-one}
-use mathlib.Core.Path.{_≡_, refl, sym, ap, ap₂, _∙_}
+use mathlib.Core.Path.{_≡_, refl, sym, ap, _∙_}
 use lib.Pow.{field, mod-mod-pow}
-use lib.Count.{onesIn, ones-step}
-use lib.Count.{ones as count}
+use lib.Count.{ones as count, onesIn, ones-step}
 use Rattle.format.specs.Word.{ones}
 
+-- `count` is what the code counts by, `ones k` the sum over the k lowest bits
 count-none : count 0 ≡ 0
 unfolding count onesIn
 count-none = refl
