@@ -1,0 +1,54 @@
+-- A dealt word's position and its number are each other's.
+use Prim.Native.Nat.{ℕ, _+_, _*_, _/_, _%_, _≤_, _<_}
+use native.Mathlib.Omega.{arith}
+use native.Mathlib.Nat.{add-mul-div-right, add-mul-mod-self-right, mod-eq-of-lt, div-eq-of-lt, div-add-mod', mod-lt, div-le-self, mul-le-mul-right}
+use mathlib.Core.Path.{_≡_, refl, sym, ap, ap₂, _∙_}
+use Rattle.format.specs.Plan.{placeOf, groupWords}
+use Rattle.format.specs.declared.Plan.{Plan}
+use Rattle.group.specs.declared.reading.Position.{Position}
+use Rattle.group.specs.Shape.{Shape}
+use Rattle.group.specs.Position.{positionOf, slotAt, placeAt}
+
+-- the dealt word with this number stands there
+pub position-is : (p : Plan) (track row s : ℕ) → track < p .tracks → row * p .tracks + track ≡ s → _≡_ {A = Position} (record { track = track; row = row }) (positionOf p s)
+position-is p track row s h e =
+    let T : ℕ = p .tracks in
+    let z : track + row * T ≡ s = omega arith in
+    let m : s % T ≡ track = ap (λ (n : ℕ). n % T) (sym z) ∙ add-mul-mod-self-right track row T ∙ mod-eq-of-lt h in
+    let d : s / T ≡ row = ap (λ (n : ℕ). n / T) (sym z) ∙ add-mul-div-right track row (omega arith) ∙ rw (div-eq-of-lt h) (omega arith) in
+    rw (m, d)
+
+pub slot-of-position : (p : Plan) (s : ℕ) → slotAt p (positionOf p s) ≡ s
+slot-of-position p s = div-add-mod' s (p .tracks)
+
+pub track-of-position : (p : Plan) (s : ℕ) → 1 ≤ p .tracks → positionOf p s .track < p .tracks
+track-of-position p s h = mod-lt s h
+
+pub place-of-position : (p : Plan) (s : ℕ) → placeAt p (positionOf p s) ≡ placeOf p s
+unfolding placeOf
+place-of-position p s = refl
+
+-- a track begins within the 2,048 words of the largest group
+pub track-low : (p : Plan) (track : ℕ) → track < p .tracks → p .tracks ≤ 4 → p .words < 512 → track * p .words < 1536
+track-low p track h k l =
+    let z : track ≤ 3 = omega arith in
+    omega (arith, mul-le-mul-right (p .words) z)
+
+pub dealt-low : (p : Plan) (s : ℕ) → s < 3 → 1 ≤ p .tracks → p .tracks ≤ 4 → p .words < 512 → (s % p .tracks * p .words < 1536) × (s / p .tracks < 3)
+dealt-low p s h i k l = (track-low p (s % p .tracks) (mod-lt s i) k l, (let z : s / p .tracks ≤ s = div-le-self s (p .tracks) in omega arith))
+
+-- the first three dealt words stand within the group
+dealt-within : (p : Plan) (s : ℕ) → s < 3 → 1 ≤ p .tracks → 128 < p .words → placeOf p s + 1 ≤ groupWords p
+unfolding placeOf
+dealt-within p s h i k =
+    let m : s % p .tracks + 1 ≤ p .tracks = let l : s % p .tracks < p .tracks = mod-lt s i in omega arith in
+    let d : s / p .tracks ≤ s = div-le-self s (p .tracks) in
+    omega (arith, mul-le-mul-right (p .words) m)
+
+-- and their bytes within the capture
+pub dealt-room : (p : Plan) (at s n place : ℕ) → Shape p → 3 * (at + groupWords p) ≤ n → s < 3 → place ≡ at + placeOf p s → 3 * (place + 1) ≤ n
+dealt-room p at s n place h room l e = omega (arith, dealt-within p s l (h .tracks-over) (h .words-over))
+
+-- the word j of the track t is within the capture
+pub word-room : (p : Plan) (at t j n : ℕ) → 3 * (at + groupWords p) ≤ n → t < p .tracks → j < p .words → 3 * (at + t * p .words + j + 1) ≤ n
+word-room p at t j n room h l = omega (arith, mul-le-mul-right (p .words) h)

@@ -1,0 +1,5 @@
+-- What the contracts cite beside the definitions of `format`.
+pub mod Shape
+pub mod Writing
+pub mod Position
+pub mod Faults
