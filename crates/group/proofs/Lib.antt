@@ -1,6 +1,7 @@
 -- The laws of one group, over plain numbers and lists.
 pub mod WritingLaws
 pub mod WritingWords
+pub mod WritingDealt
 pub mod WritingFrames
 pub mod ReadingPlaces
 pub mod ReadingTime

@@ -3,7 +3,7 @@ use native.Mathlib.Omega.{arith}
 use mathlib.Core.Path.{sym, _∙_}
 use lib.ListN.{List·getD-eq-default}
 use borrow.Author.Needs.{needs}
-use Rattle.group.proofs.WritingFrames.{dealt-time, dealt-past, within}
+use Rattle.group.proofs.WritingDealt.{dealt-time, dealt-past, within}
 use Rattle.group.proofs.writing.dealt_word.Statement.{statement}
 use Rattle.group.proofs.writing.dealt_word.Tie as tie
 

@@ -12,7 +12,8 @@ use Rattle.word.proofs.Below.{sent-below}
 use Rattle.group.specs.Shape.{dealtOf}
 use Rattle.group.specs.Writing.{front}
 use Rattle.group.proofs.WritingWords.{Written, written-is, written-length, written-word}
-use Rattle.group.proofs.WritingFrames.{dealt-is, time-words-unsent, time-words-three, on-bus-0, unsent-below, front-count, check-chosen, frame-checked, frame-plain, rows-checked, rows-plain, rows-under}
+use Rattle.group.proofs.WritingDealt.{dealt-is, time-words-unsent, time-words-three, on-bus-0, unsent-below}
+use Rattle.group.proofs.WritingFrames.{front-count, check-chosen, frame-checked, frame-plain, rows-checked, rows-plain, rows-under}
 use Rattle.group.proofs.writing.write_frame.Statement.{statement}
 use Rattle.group.proofs.writing.write_frame.Tie as tie
 

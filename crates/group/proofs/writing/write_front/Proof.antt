@@ -11,7 +11,8 @@ use Rattle.format.specs.Lawful.{buses}
 use Rattle.word.proofs.Below.{sent-below}
 use Rattle.group.specs.Writing.{front, rowWord, checkIf, nextIf}
 use Rattle.group.proofs.WritingWords.{Written, written-none, written-length, written-word, written-again, written-over}
-use Rattle.group.proofs.WritingFrames.{dealt-unsent, front-none, front-more, check-first-if, check-more-if, rows-under, sync-below, unsent-below}
+use Rattle.group.proofs.WritingDealt.{dealt-unsent, unsent-below}
+use Rattle.group.proofs.WritingFrames.{front-none, front-more, check-first-if, check-more-if, rows-under, sync-below}
 use Rattle.group.proofs.writing.write_front.Statement.{statement}
 use Rattle.group.proofs.writing.write_front.Tie as tie
 
