@@ -3,6 +3,7 @@ pub mod WritingLaws
 pub mod WritingWords
 pub mod WritingDealt
 pub mod WritingFrames
+pub mod ReadingNumbers
 pub mod ReadingPlaces
 pub mod ReadingTime
 pub mod ReadingSearch
