@@ -1,7 +1,7 @@
 -- A dealt word's position and its number are each other's.
-use Prim.Native.Nat.{ℕ, _+_, _*_, _/_, _%_, _≤_, _<_}
+use Prim.Native.Nat.{ℕ, _+_, _*_, _-_, _/_, _%_, _≤_, _<_}
 use native.Mathlib.Omega.{arith}
-use native.Mathlib.Nat.{add-mul-div-right, add-mul-mod-self-right, mod-eq-of-lt, div-eq-of-lt, div-add-mod', mod-lt, div-le-self, mul-le-mul-right}
+use native.Mathlib.Nat.{add-mul-div-right, add-mul-mod-self-right, mod-eq-of-lt, div-eq-of-lt, div-add-mod', mod-lt, div-le-self, mul-le-mul-right, mul-le-mul, div-lt-iff-lt-mul}
 use mathlib.Core.Path.{_≡_, refl, sym, ap, ap₂, _∙_}
 use Rattle.format.specs.Plan.{placeOf, groupWords}
 use Rattle.format.specs.declared.Plan.{Plan}
@@ -37,17 +37,29 @@ track-low p track h k l =
 pub dealt-low : (p : Plan) (s : ℕ) → s < 3 → 1 ≤ p .tracks → p .tracks ≤ 4 → p .words < 512 → (s % p .tracks * p .words < 1536) × (s / p .tracks < 3)
 dealt-low p s h i k l = (track-low p (s % p .tracks) (mod-lt s i) k l, (let z : s / p .tracks ≤ s = div-le-self s (p .tracks) in omega arith))
 
--- the first three dealt words stand within the group
-dealt-within : (p : Plan) (s : ℕ) → s < 3 → 1 ≤ p .tracks → 128 < p .words → placeOf p s + 1 ≤ groupWords p
+pub row-of-position : (p : Plan) (s k : ℕ) → 1 ≤ p .tracks → s < k * p .tracks → positionOf p s .row < k
+row-of-position p s k h l = div-lt-iff-lt-mul h .1 l
+
+-- a dealt word stands within the group, one row of each frame being its sync words
+pub dealt-within : (p : Plan) (s : ℕ) → 1 ≤ p .tracks → s < (p .words - 1) * p .tracks → placeOf p s + 1 ≤ groupWords p
 unfolding placeOf
-dealt-within p s h i k =
+dealt-within p s i k =
     let m : s % p .tracks + 1 ≤ p .tracks = let l : s % p .tracks < p .tracks = mod-lt s i in omega arith in
-    let d : s / p .tracks ≤ s = div-le-self s (p .tracks) in
+    let d : s / p .tracks < p .words - 1 = row-of-position p s (p .words - 1) i k in
     omega (arith, mul-le-mul-right (p .words) m)
 
--- and their bytes within the capture
-pub dealt-room : (p : Plan) (at s n place : ℕ) → Shape p → 3 * (at + groupWords p) ≤ n → s < 3 → place ≡ at + placeOf p s → 3 * (place + 1) ≤ n
-dealt-room p at s n place h room l e = omega (arith, dealt-within p s l (h .tracks-over) (h .words-over))
+-- and its bytes within the capture
+pub dealt-room : (p : Plan) (at s n place : ℕ) → 1 ≤ p .tracks → 3 * (at + groupWords p) ≤ n → s < (p .words - 1) * p .tracks → place ≡ at + placeOf p s
+    → 3 * (place + 1) ≤ n
+dealt-room p at s n place i room l e = omega (arith, dealt-within p s i l)
+
+-- as for the time words
+pub time-room : (p : Plan) (at s n place : ℕ) → Shape p → 3 * (at + groupWords p) ≤ n → s < 3 → place ≡ at + placeOf p s → 3 * (place + 1) ≤ n
+time-room p at s n place h room l e =
+    let i : 1 ≤ p .tracks = h .tracks-over in
+    let o : 128 ≤ p .words - 1 = let w : 128 < p .words = h .words-over in omega arith in
+    let m : 128 * 1 ≤ (p .words - 1) * p .tracks = mul-le-mul o i in
+    dealt-room p at s n place i room (omega arith) e
 
 -- the word j of the track t is within the capture
 pub word-room : (p : Plan) (at t j n : ℕ) → 3 * (at + groupWords p) ≤ n → t < p .tracks → j < p .words → 3 * (at + t * p .words + j + 1) ≤ n

@@ -1,7 +1,7 @@
 use Rattle.group.specs.Faults.{faultOf, earlierFault}
 use Rattle.group.proofs.ReadingTime.{no-time-fault, time-word-at, time-faults}
 use mathlib.Core.Path.{sym, ap, ap₂, _∙_}
-use Rattle.group.proofs.ReadingPlaces.{dealt-room}
+use Rattle.group.proofs.ReadingPlaces.{time-room}
 use native.Mathlib.Omega.{arith}
 use borrow.Author.Needs.{needs}
 use Rattle.group.proofs.reading.time_fault.Statement.{statement}
@@ -11,19 +11,19 @@ time-place-requires : tie.Need-time-place-requires
 time-place-requires c κs = search needs
 
 time-word-fault-requires : tie.Need-time-word-fault-requires
-time-word-fault-requires c κs = (dealt-room _ _ 0 _ _ (c .before .before .before .pre .0) (c .before .before .before .pre .1) (omega arith) (c .time-place .ensures), c .before .before .before .pre .2)
+time-word-fault-requires c κs = (time-room _ _ 0 _ _ (c .before .before .before .pre .0) (c .before .before .before .pre .1) (omega arith) (c .time-place .ensures), c .before .before .before .pre .2)
 
 time-place-requires-2 : tie.Need-time-place-requires-2
 time-place-requires-2 c κs = search needs
 
 time-word-fault-requires-2 : tie.Need-time-word-fault-requires-2
-time-word-fault-requires-2 c κs = (dealt-room _ _ 1 _ _ (c .before .before .before .before .before .pre .0) (c .before .before .before .before .before .pre .1) (omega arith) (c .time-place2 .ensures), c .before .before .before .before .before .pre .2)
+time-word-fault-requires-2 c κs = (time-room _ _ 1 _ _ (c .before .before .before .before .before .pre .0) (c .before .before .before .before .before .pre .1) (omega arith) (c .time-place2 .ensures), c .before .before .before .before .before .pre .2)
 
 time-place-requires-3 : tie.Need-time-place-requires-3
 time-place-requires-3 c κs = search needs
 
 time-word-fault-requires-3 : tie.Need-time-word-fault-requires-3
-time-word-fault-requires-3 c κs = (dealt-room _ _ 2 _ _ (c .before .before .before .before .before .before .before .pre .0) (c .before .before .before .before .before .before .before .pre .1) (omega arith) (c .time-place3 .ensures), c .before .before .before .before .before .before .before .pre .2)
+time-word-fault-requires-3 c κs = (time-room _ _ 2 _ _ (c .before .before .before .before .before .before .before .pre .0) (c .before .before .before .before .before .before .before .pre .1) (omega arith) (c .time-place3 .ensures), c .before .before .before .before .before .before .before .pre .2)
 
 earlier-requires : tie.Need-earlier-requires
 earlier-requires c κs = search needs

@@ -1,5 +1,5 @@
 use Rattle.group.proofs.ReadingTime.{info-low}
-use Rattle.group.proofs.ReadingPlaces.{dealt-room}
+use Rattle.group.proofs.ReadingPlaces.{time-room}
 use native.Mathlib.Omega.{arith}
 use borrow.Author.Needs.{needs}
 use Rattle.group.proofs.reading.time_information.Statement.{statement}
@@ -9,7 +9,7 @@ time-place-requires : tie.Need-time-place-requires
 time-place-requires c κs = search needs
 
 stored-word-requires : tie.Need-stored-word-requires
-stored-word-requires c κs = (dealt-room _ _ _ _ _ (c .before .before .pre .0) (c .before .before .pre .1) (c .before .before .pre .3) (c .time-place .ensures), c .before .before .pre .2)
+stored-word-requires c κs = (time-room _ _ _ _ _ (c .before .before .pre .0) (c .before .before .pre .1) (c .before .before .pre .3) (c .time-place .ensures), c .before .before .pre .2)
 
 information-of-requires : tie.Need-information-of-requires
 information-of-requires c κs = search needs
