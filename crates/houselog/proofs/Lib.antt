@@ -1,0 +1,4 @@
+pub mod Eight
+pub mod Splice
+pub mod Items
+pub mod Parsing

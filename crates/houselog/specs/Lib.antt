@@ -1,0 +1,4 @@
+-- What the functions of this crate answer, by the definitions of `format`.
+pub mod Cursor
+pub mod Found
+pub mod Tally

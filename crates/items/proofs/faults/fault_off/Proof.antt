@@ -1,0 +1,15 @@
+use borrow.Author.Needs.{needs}
+use Rattle.items.proofs.faults.fault_off.Statement.{statement}
+use Rattle.items.proofs.faults.fault_off.Tie as tie
+
+in-time-requires : tie.Need-in-time-requires
+in-time-requires c κs = search needs
+
+returns : tie.Need-returns
+returns c = rw (← (c .before .in-time .ensures), c .if1 .taken)
+
+returns-2 : tie.Need-returns-2
+returns-2 c = rw (← (c .before .in-time .ensures), c .if1 .left)
+
+pub fault-off-spec : {M : Type 1} → statement M
+fault-off-spec = tie.close (tie.spec in-time-requires returns returns-2)
