@@ -1,0 +1,65 @@
+-- Frame times from the left, and the groups one behind the other.
+use Prim.Native.Nat.{ℕ, zero, suc, _+_, _*_, _<_, _≤_}
+use native.Mathlib.Nat.{mul-le-mul-right}
+use native.Mathlib.Omega.{arith}
+use native.Mathlib.Numerals.{add-one}
+use mathlib.Core.Path.{_≡_, refl, ap, sym, _∙_}
+use mathlib.Core.List.{List, [], _∷_, _++_, flatMap, append-nil}
+use lib.ListN.{length, take, drop, getD, drop-of-length-le}
+use lib.Seq.{drop-cons}
+use borrow.Author.Tests.{lt-ltb, le-ltb}
+use Rattle.format.specs.Answer.{over}
+use Rattle.format.specs.Compose.{captureOf, dealtFor, firstLate, groupsFor}
+use Rattle.format.specs.Group.{group}
+use Rattle.format.specs.Lists.{list}
+use Rattle.format.specs.Plan.{slots}
+use Rattle.format.specs.Word.{bytesOf}
+use Rattle.format.specs.declared.Plan.{Plan}
+use Rattle.group.specs.Shape.{dealtOf}
+use Rattle.composing.specs.Compose.{groupsTo}
+use Rattle.composing.proofs.Laws.{Written, bytes-count, flatMap-append}
+use Rattle.format.specs.Time.{timeEnd}
+
+module _ (times : List ℕ) (i : ℕ) where
+  pub late-end : length times ≤ i → firstLate i (drop i times) ≡ i
+  unfolding firstLate
+  late-end h = rw (drop-of-length-le times h)
+
+  pub late-here : i < length times → timeEnd ≤ getD times i 0 → firstLate i (drop i times) ≡ i
+  unfolding firstLate
+  late-here h l = rw (drop-cons times i 0 h, le-ltb (getD times i 0) timeEnd l)
+
+  pub late-later : i < length times → getD times i 0 < timeEnd → firstLate i (drop i times) ≡ firstLate (i + 1) (drop (i + 1) times)
+  unfolding firstLate
+  late-later h l = rw (drop-cons times i 0 h, lt-ltb (getD times i 0) timeEnd l, add-one i)
+
+list-more : (n a : ℕ) → list (λ g. g) a (suc n) ≡ list (λ g. g) a n ++ (a + n) ∷ []
+unfolding list
+list-more zero a = let e : a + 0 ≡ a = omega arith in rw e
+list-more (suc n) a =
+    let e : a + suc n ≡ a + 1 + n = omega arith in
+    rw e (ap (λ (l : List ℕ). a ∷ l) (list-more n (a + 1)))
+
+module _ (p : Plan) (times ws : List ℕ) where
+  pub groups-none : groupsTo p times ws 0 ≡ []
+  unfolding groupsTo flatMap list
+  groups-none = refl
+
+  pub groups-more : (n : ℕ) → groupsTo p times ws (n + 1) ≡ groupsTo p times ws n ++ group p (dealtOf p (getD times n 0) (take (slots p) (drop (n * slots p) ws)))
+  unfolding groupsTo flatMap dealtFor dealtOf
+  groups-more n =
+      let F : ℕ → List ℕ = λ g. group p (dealtFor p times ws g) in
+      let e : 0 + n ≡ n = omega arith in
+      rw (add-one n, list-more n 0, flatMap-append F (list (λ g. g) 0 n) ((0 + n) ∷ []), e) (ap (λ (l : List ℕ). flatMap F (list (λ g. g) 0 n) ++ l) (append-nil (F n)))
+
+  pub groups-all : (n : ℕ) → n ≡ groupsFor p (length ws) → flatMap bytesOf (groupsTo p times ws n) ≡ captureOf p times ws
+  unfolding groupsTo captureOf
+  groups-all n e = ap (λ (k : ℕ). flatMap bytesOf (flatMap (λ (g : ℕ). group p (dealtFor p times ws g)) (list (λ g. g) 0 k))) e
+
+-- all the groups written, and the rest as it was
+pub written-all : {ws d xs : List ℕ} {n : ℕ} (capture : List ℕ) → Written ws n d xs → flatMap bytesOf ws ≡ capture → xs ≡ over capture d
+written-all {ws} {d} {xs} {n} capture w e = rw (← e) (w .is ∙ ap (λ (k : ℕ). flatMap bytesOf ws ++ drop k d) (sym (bytes-count ws n (w .count))))
+
+-- the next of n parts of this size is within
+pub part-within : (g n size L : ℕ) → g < n → n * size ≤ L → g * size + size ≤ L
+part-within g n size L h l = omega (arith, mul-le-mul-right size h)

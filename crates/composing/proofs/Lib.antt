@@ -1,0 +1,6 @@
+pub mod Laws
+pub mod ComposeLog
+pub mod ComposeWritten
+pub mod ComposeGather
+pub mod ComposeGroups
+pub mod ComposeAnswer

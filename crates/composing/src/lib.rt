@@ -1,0 +1,6 @@
+// Composing (document 01): a log and its frame times to the bytes of the groups.
+
+mod composing;
+mod gather;
+
+pub use composing::compose;

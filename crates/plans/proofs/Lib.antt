@@ -1,0 +1,2 @@
+-- The laws of a plan's sizes.
+pub mod Sizes
