@@ -89,12 +89,12 @@ found-has (has j q) i c e =
     let d : Cursor = record { at = q } in
     ap₂ has (same-item j i d c e) (ap (λ (f : Cursor). f .at) (same-place j i d c e))
 
-found-end : (n : Next) → foundOf n ≡ End → n ≡ ends
+pub found-end : (n : Next) → foundOf n ≡ End → n ≡ ends
 found-end ends e = refl
 found-end wrong e = let z : _≡_ {A = ℕ} 0 1 = cc in absurd (omega arith)
 found-end (has j q) e = let z : _≡_ {A = ℕ} 0 1 = cc in absurd (omega arith)
 
-found-wrong : (n : Next) → foundOf n ≡ Wrong → n ≡ wrong
+pub found-wrong : (n : Next) → foundOf n ≡ Wrong → n ≡ wrong
 found-wrong wrong e = refl
 found-wrong ends e = let z : _≡_ {A = ℕ} 0 1 = cc in absurd (omega arith)
 found-wrong (has j q) e = let z : _≡_ {A = ℕ} 0 1 = cc in absurd (omega arith)

@@ -28,14 +28,6 @@ four-bits w h =
     let e : joined 0 (four w) ≡ w = omega (arith, shr-shr w 8 8, shr-shr w 16 8) in
     sym (joined-bits 0 0 (four w) (omega arith)) ∙ ap (bitsOf 32) e
 
-pub four-sets : (d : List ℕ) (i a b c e : ℕ) → i + 4 ≤ length d
-    → set (set (set (set d i a) (i + 1) b) (i + 2) c) (i + 3) e ≡ take i d ++ ((a ∷ b ∷ c ∷ e ∷ []) ++ drop (i + 4) d)
-four-sets d i a b c e h =
-    let e1 : i + 1 ≡ suc i = omega arith in
-    let e2 : i + 2 ≡ suc (suc i) = omega arith in
-    let e3 : i + 3 ≡ suc (suc (suc i)) = omega arith in
-    rw (e1, e2, e3) (sets-eq (a ∷ b ∷ c ∷ e ∷ []) d i h ∙ append-assoc (take i d) (a ∷ b ∷ c ∷ e ∷ []) (drop (i + 4) d))
-
 -- ---- more bits
 
 module _ (d : List ℕ) (p : Pen) (v n : ℕ) (ready : Ready (length d) p) (hn : n ≤ 32) (hv : v < 2 ^ n) (room : p .at * 8 + p .count + n ≤ length d * 8) where

@@ -1,4 +1,4 @@
-use Rattle.pen.proofs.Writing.{four-sets}
+use Rattle.items.proofs.Stores.{four-sets}
 use lib.ListN.{length-set}
 use native.Mathlib.Omega.{arith}
 use borrow.Author.Needs.{needs}

@@ -1,0 +1,38 @@
+use Rattle.listing.proofs.Digits.{hex-two}
+use Rattle.listing.proofs.Adding.{adds-same, adds-then}
+use borrow.Author.Needs.{needs}
+use Rattle.listing.proofs.hex2.Statement.{statement}
+use Rattle.listing.proofs.hex2.Tie as tie
+use Rattle.listing.proofs.hex2.Reads as reads
+use Rattle.listing.proofs.hex2.Lts as lts
+use Rattle.listing.proofs.digit.Reads as digit-reads
+use Rattle.listing.proofs.put.Reads as put-reads
+
+-- src/lib.rt:32:29
+digit-requires : tie.Need-digit-requires
+digit-requires c κs = search needs
+
+-- src/lib.rt:32:9
+put-requires : tie.Need-put-requires
+put-requires c κs = search needs
+
+-- src/lib.rt:33:20
+digit-requires-2 : tie.Need-digit-requires-2
+digit-requires-2 c κs = search needs
+
+-- src/lib.rt:33:5
+put-requires-2 : tie.Need-put-requires-2
+put-requires-2 c κs = search needs
+
+-- src/lib.rt:28:1
+same-length : tie.Need-same-length
+same-length c = search needs
+
+-- src/lib.rt:28:1
+returns : tie.Need-returns
+returns c = adds-same (adds-then (c .before .before .before .before .before .before .before .put .ensures) (c .before .before .put2 .ensures)) (rw (c .before .before .before .before .before .before .before .before .digit .ensures, c .before .before .before .digit2 .ensures, hex-two (c .before .before .before .before .before .before .before .before .before .before .before .args .n)))
+
+pub hex2-spec : {M : Type 1} → statement M
+hex2-spec =
+    tie.close
+    (tie.spec digit-requires put-requires digit-requires-2 put-requires-2 same-length returns)

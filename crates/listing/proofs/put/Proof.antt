@@ -1,0 +1,25 @@
+use Rattle.listing.proofs.Adding.{adds-one}
+use borrow.Author.Needs.{needs}
+use Rattle.listing.proofs.put.Statement.{statement}
+use Rattle.listing.proofs.put.Tie as tie
+use Rattle.listing.proofs.put.Reads as reads
+use Rattle.listing.proofs.put.Lts as lts
+
+-- src/lib.rt:16:5
+slice-write-out : tie.Need-slice-write-out
+slice-write-out c = search needs
+
+-- src/lib.rt:17:5
+add-result : tie.Need-add-result
+add-result c = search needs
+
+-- src/lib.rt:12:1
+same-length : tie.Need-same-length
+same-length c = search needs
+
+-- src/lib.rt:12:1
+returns : tie.Need-returns
+returns c = adds-one (c .args .out .now) (c .args .at) (c .args .b) (c .pre)
+
+pub put-spec : {M : Type 1} → statement M
+put-spec = tie.close (tie.spec slice-write-out add-result same-length returns)
