@@ -1,0 +1,9 @@
+-- The laws of the readings.
+pub mod ReadFills
+pub mod ReadWriter
+pub mod ReadPass
+pub mod ReadSlots
+pub mod ReadGroups
+pub mod ReadEnd
+pub mod ReadFront
+pub mod ReadGiven

@@ -1,0 +1,156 @@
+-- The refusals behind the groups, and what is handed over.
+use Prim.Native.Nat.{ℕ, zero, suc, _+_, _*_, _-_, _/_, _%_, _≤_, _<_}
+use native.Mathlib.Nat.{mul-le-mul-right, div-add-mod'}
+use native.Mathlib.Omega.{arith}
+use mathlib.Core.Bool.{Bool, true, false, cond, _&&_}
+use mathlib.Core.Path.{_≡_, refl, sym, ap, ap₂, subst, _∙_}
+use mathlib.Core.List.{List, [], _∷_, _++_}
+use lib.ListN.{length, take, drop}
+use lib.Dec.{leb, eqb, ltb}
+use borrow.Author.Tests.{le-leb, lt-leb, eq-eqb, ne-eqb}
+use Rattle.format.specs.Lists.{list}
+use Rattle.format.specs.Log.{logOf}
+use Rattle.format.specs.Plan.{groupWords, legal}
+use Rattle.format.specs.Group.{Fault, none, found, groupTime, groupSlots}
+use Rattle.format.specs.Read.{Got, got, stopped, Reading, gives, refuses, roomed, unmisplaced, settled, reading, readGroups, misplaced}
+use Rattle.format.specs.Answer.{success, refusal, over, readAnswer, logAfter, timesAfter}
+use Rattle.format.specs.declared.Answer.{Answer}
+use Rattle.format.specs.declared.Item.{Item}
+use Rattle.format.specs.declared.Kind.{Kind}
+use Rattle.format.specs.declared.Held.the-variants.{Nothing}
+use Rattle.format.specs.declared.Plan.{Plan}
+use Rattle.format.specs.Laws.Lists.{length-list}
+use Rattle.format.specs.Laws.Legal.{Legal, legal-is}
+use Rattle.format.specs.Laws.Tests.{clash}
+use Rattle.group.specs.Shape.{Shape}
+use Rattle.readings.specs.declared.reading.Outcome.{Outcome}
+use Rattle.readings.specs.ReadFills.{earliest}
+use Rattle.readings.specs.ReadGroups.{groupsOn}
+use Rattle.readings.specs.ReadEnd.{EndsAs}
+use Rattle.readings.specs.ReadGiven.{timesNeeded, Built, Enough, Given}
+
+pub given-refused : {g : Reading} {r : Answer} {number place : ℕ} (log times : List ℕ) → g ≡ refuses number place → r ≡ refusal number place → Given g r log log times times
+given-refused {g} {r} log times e a = subst (λ (x : Reading). Given x r log log times times) (sym e) (a, refl, refl)
+
+given-whole : (g : Reading) (r : Answer) (log log′ times times′ whole table : List ℕ) → g ≡ gives whole table → r ≡ success (length whole) (length table)
+    → log′ ≡ whole ++ drop (length whole) log → times′ ≡ table ++ drop (length table) times → Given g r log log′ times times′
+given-whole g r log log′ times times′ whole table e a b c = subst (λ (x : Reading). Given x r log log′ times times′) (sym e) (a, b, c)
+
+-- "6, 7"
+module _ (p : Plan) (c : List ℕ) (n logRoom timeRoom : ℕ) (whole : List ℕ) where
+  pub log-above : 32768 < length whole → roomed p c n logRoom timeRoom whole ≡ refuses 6 (length whole)
+  log-above h = rw (lt-leb (length whole) 32768 h) refl
+
+  pub log-beyond : length whole ≤ 32768 → logRoom < length whole → roomed p c n logRoom timeRoom whole ≡ refuses 6 (length whole)
+  log-beyond h k = rw (le-leb (length whole) 32768 h, lt-leb (length whole) logRoom k) refl
+
+  pub times-beyond : length whole ≤ 32768 → length whole ≤ logRoom → timeRoom < timesNeeded p n → roomed p c n logRoom timeRoom whole ≡ refuses 7 (timesNeeded p n)
+  times-beyond h k l = rw (le-leb (length whole) 32768 h, le-leb (length whole) logRoom k, lt-leb (timesNeeded p n) timeRoom l) refl
+
+  pub both-fit : length whole ≤ 32768 → length whole ≤ logRoom → timesNeeded p n ≤ timeRoom
+      → roomed p c n logRoom timeRoom whole ≡ gives whole (list (λ g. groupTime p c (g * groupWords p)) 0 (timesNeeded p n))
+  both-fit h k l = rw (le-leb (length whole) 32768 h, le-leb (length whole) logRoom k, le-leb (timesNeeded p n) timeRoom l) refl
+
+table-long : (p : Plan) (c : List ℕ) (k : ℕ) → length (list (λ g. groupTime p c (g * groupWords p)) 0 k) ≡ k
+table-long p c k = length-list (λ g. groupTime p c (g * groupWords p)) 0 k
+
+pub times-few : (p : Plan) (n : ℕ) → timesNeeded p n ≤ n
+times-few p n = go (p .«frame_time»)
+  where
+    go : (b : Bool) → cond b n 0 ≤ n
+    go true = omega arith
+    go false = omega arith
+
+-- the log is copied and the times are written
+pub given-copied : (p : Plan) (c : List ℕ) (n : ℕ) (whole built : List ℕ) (bytes need : ℕ) (log log′ times times′ : List ℕ) → Built whole built bytes
+    → bytes ≤ 32768 → bytes ≤ length log → bytes ≤ length built → need ≡ timesNeeded p n → need ≤ length times
+    → log′ ≡ take bytes built ++ drop bytes log → times′ ≡ list (λ g. groupTime p c (g * groupWords p)) 0 need ++ drop need times
+    → Given (roomed p c n (length log) (length times) whole) (success bytes need) log log′ times times′
+given-copied p c n whole built bytes need log log′ times times′ b small fits room e some el et =
+    let table : List ℕ = list (λ g. groupTime p c (g * groupWords p)) 0 (timesNeeded p n) in
+    let t : length table ≡ timesNeeded p n = table-long p c (timesNeeded p n) in
+    let x : length whole ≤ 32768 = omega (arith, b .size) in
+    let y : length whole ≤ length log = omega (arith, b .size) in
+    let z : timesNeeded p n ≤ length times = omega (arith, e) in
+    given-whole (roomed p c n (length log) (length times) whole) (success bytes need) log log′ times times′ whole table
+    (both-fit p c n (length log) (length times) whole x y z)
+    (ap₂ success (b .size) (e ∙ sym t))
+    (el ∙ ap₂ (λ (l : List ℕ) (k : ℕ). l ++ drop k log) (b .is room) (b .size))
+    (et ∙ ap (λ (k : ℕ). list (λ g. groupTime p c (g * groupWords p)) 0 k ++ drop k times) e ∙ ap (λ (k : ℕ). table ++ drop k times) (sym t))
+
+-- misplaced fill, as it was found
+fill-by : (b : Bool) (x : Reading) (f : Fault) (m q : ℕ) → earliest (record { first = 0; misplaced = m }) ≡ f → q ≡ cond b m 0 → (q ≡ 0 → ⊥)
+    → unmisplaced (cond b f none) x ≡ refuses 14 (q - 1)
+fill-by false x f m q e a z = absurd (z a)
+fill-by true x f m q e a z =
+    let k : earliest (record { first = 0; misplaced = m }) ≡ found 14 (q - 1) = rw (ne-eqb m 0 (λ w. z (a ∙ w))) (ap (λ (j : ℕ). found 14 (j - 1)) (sym a)) in
+    ap (λ (y : Fault). unmisplaced y x) (sym e ∙ k)
+
+none-by : (b : Bool) (x : Reading) (f : Fault) (m : ℕ) → earliest (record { first = 0; misplaced = m }) ≡ f → cond b m 0 ≡ 0 → unmisplaced (cond b f none) x ≡ x
+none-by false x f m e a = refl
+none-by true x f m e a =
+    let k : earliest (record { first = 0; misplaced = m }) ≡ none = rw (eq-eqb m 0 a) refl in
+    ap (λ (y : Fault). unmisplaced y x) (sym e ∙ k)
+
+-- what the groups brought
+pub record Log (p : Plan) (c : List ℕ) (n : ℕ) (g : Got) (r : Outcome) (out : List ℕ) : Type 0 where
+  pub items : List Item
+  pub is : g ≡ got items
+  pub built : Built (logOf items) out (r .bytes)
+  pub fill : earliest (record { first = 0; misplaced = r .misplaced }) ≡ misplaced p (groupsOn p c 0 n)
+
+pub log-of : (p : Plan) (c : List ℕ) (n : ℕ) (g : Got) (r : Outcome) (out : List ℕ) → EndsAs p c n g r out → r .number ≡ 0 → Log p c n g r out
+log-of p c n (got is) r out e z = record {
+  items = is;
+  is = refl;
+  built = record { size = e .1; is = λ h. ap (λ (k : ℕ). take k out) (e .1) ∙ e .3 (rw (e .1) at h) };
+  fill = e .2;
+}
+log-of p c n (stopped k q) r out e z = absurd (e .2 (sym (e .0) ∙ z))
+
+module _ (p : Plan) (ks : List Kind) (c : List ℕ) (n logRoom timeRoom : ℕ) (closed : Bool) where
+  abbrev answers : Got → Reading
+  answers g = settled p c n logRoom timeRoom closed g
+
+  pub stops-settled : (g : Got) (r : Outcome) (out : List ℕ) → EndsAs p c n g r out → (r .number ≡ 0 → ⊥) → answers g ≡ refuses (r .number) (r .place)
+  stops-settled (got is) r out e z = absurd (z (e .0))
+  stops-settled (stopped k q) r out e z = sym (ap₂ refuses (e .0) (e .1))
+
+  module _ (g : Got) (r : Outcome) (out : List ℕ) (l : Log p c n g r out) where
+    pub fill-settled : (q : ℕ) → q ≡ cond closed (r .misplaced) 0 → (q ≡ 0 → ⊥) → answers g ≡ refuses 14 (q - 1)
+    fill-settled q e z = rw (l .is) (fill-by closed (roomed p c n logRoom timeRoom (logOf (l .items))) (misplaced p (groupsOn p c 0 n)) (r .misplaced) q (l .fill) e z)
+
+    pub log-settled : (q : ℕ) → q ≡ cond closed (r .misplaced) 0 → q ≡ 0 → answers g ≡ roomed p c n logRoom timeRoom (logOf (l .items))
+    log-settled q e z = rw (l .is) (none-by closed (roomed p c n logRoom timeRoom (logOf (l .items))) (misplaced p (groupsOn p c 0 n)) (r .misplaced) (l .fill) (sym e ∙ z))
+
+-- ---- "Reading checks 1, 8"
+
+pub shape-of : (p : Plan) (ks : List Kind) → legal p ks ≡ true → Shape p
+shape-of p ks e =
+    let l : Legal p ks = legal-is p ks e in
+    record { words-over = l .words; words-under = l .below; tracks-over = l .tracks; tracks-under = l .few }
+
+pub some-words : (p : Plan) → Shape p → 1 ≤ groupWords p
+some-words p s = omega (arith, mul-le-mul-right (p .words) (s .tracks-over), s .words-over)
+
+pub whole-groups : (p : Plan) (k : ℕ) → k % (3 * groupWords p) ≡ 0 → k ≡ k / (3 * groupWords p) * (3 * groupWords p)
+whole-groups p k e = sym (div-add-mod' k (3 * groupWords p)) ∙ rw e (omega arith)
+
+module _ (closed : Bool) (p : Plan) (ks : List Kind) (c : List ℕ) (logRoom timeRoom : ℕ) where
+  pub illegal-refused : legal p ks ≡ false → reading closed p ks c logRoom timeRoom ≡ refuses 1 0
+  unfolding reading
+  illegal-refused e = rw e refl
+
+  pub long-refused : legal p ks ≡ true → 1048576 < length c → reading closed p ks c logRoom timeRoom ≡ refuses 8 (length c)
+  unfolding reading
+  long-refused e h = rw (e, lt-leb (length c) 1048576 h) refl
+
+  pub ragged-refused : legal p ks ≡ true → length c ≤ 1048576 → (length c % (3 * groupWords p) ≡ 0 → ⊥) → reading closed p ks c logRoom timeRoom ≡ refuses 8 (length c)
+  unfolding reading
+  ragged-refused e h z = rw (e, le-leb (length c) 1048576 h, ne-eqb (length c % (3 * groupWords p)) 0 z) refl
+
+  pub read-on : legal p ks ≡ true → length c ≤ 1048576 → length c % (3 * groupWords p) ≡ 0
+      → reading closed p ks c logRoom timeRoom
+      ≡ settled p c (length c / (3 * groupWords p)) logRoom timeRoom closed (readGroups p ks c (length c / (3 * groupWords p)) 0 Nothing 0)
+  unfolding reading
+  read-on e h z = rw (e, le-leb (length c) 1048576 h, eq-eqb (length c % (3 * groupWords p)) 0 z) refl

@@ -1,0 +1,18 @@
+use borrow.Author.Tests.{eq-eqb, ne-eqb}
+use mathlib.Core.Path.{refl}
+use borrow.Author.Needs.{needs}
+use Rattle.readings.proofs.reading.is_odd_fill.Statement.{statement}
+use Rattle.readings.proofs.reading.is_odd_fill.Tie as tie
+use Rattle.readings.proofs.reading.is_odd_fill.Reads as reads
+use Rattle.readings.proofs.reading.is_odd_fill.Lts as lts
+
+-- src/read.rt:121:1
+returns : tie.Need-returns
+returns c = rw (eq-eqb _ 0 (c .if1 .taken)) refl
+
+-- src/read.rt:121:1
+returns-2 : tie.Need-returns-2
+returns-2 c = rw (ne-eqb _ 0 (c .if1 .left)) refl
+
+pub is-odd-fill-spec : {M : Type 1} → statement M
+is-odd-fill-spec = tie.close (tie.spec returns returns-2)
