@@ -19,31 +19,31 @@ window-requires : tie.Need-window-requires
 window-requires c κs = search needs
 
 end-mark-requires : tie.Need-end-mark-requires
-end-mark-requires c κs = search needs
+end-mark-requires c κs = (c .before .window .ensures, (omega arith, c .before .before .before .before .before .pre, omega arith, c .match .keys1))
 
 command-requires : tie.Need-command-requires
-command-requires c κs = search needs
+command-requires c κs = (c .before .window .ensures, (omega arith, c .before .before .before .before .before .pre))
 
 status-requires : tie.Need-status-requires
-status-requires c κs = search needs
+status-requires c κs = (c .before .window .ensures, (omega arith, c .before .before .before .before .before .pre))
 
 data-requires : tie.Need-data-requires
-data-requires c κs = search needs
+data-requires c κs = (c .before .window .ensures, (omega arith, c .before .before .before .before .before .pre))
 
 bus-error-requires : tie.Need-bus-error-requires
-bus-error-requires c κs = search needs
+bus-error-requires c κs = (c .before .window .ensures, (omega arith, c .before .before .before .before .before .pre))
 
 arinc-requires : tie.Need-arinc-requires
-arinc-requires c κs = search needs
+arinc-requires c κs = (c .before .window .ensures, (omega arith, c .before .before .before .before .before .pre))
 
 notice-requires : tie.Need-notice-requires
-notice-requires c κs = search needs
+notice-requires c κs = (c .before .window .ensures, (omega arith, c .before .before .before .before .before .pre))
 
 user-requires : tie.Need-user-requires
-user-requires c κs = search needs
+user-requires c κs = (c .before .window .ensures, (omega arith, c .before .before .before .before .before .pre))
 
 overflow-requires : tie.Need-overflow-requires
-overflow-requires c κs = search needs
+overflow-requires c κs = (c .before .window .ensures, (omega arith, c .before .before .before .before .before .pre))
 
 returns-3 : tie.Need-returns-3
 returns-3 c =
