@@ -1,18 +1,17 @@
 -- What composing answers, case by case: first of the words, then of the log.
-use Prim.Native.Nat.{ℕ, suc, _*_, _+_, _^_, _<_, _≤_}
+use Prim.Native.Nat.{ℕ, suc, _*_, _^_, _<_, _≤_}
 use native.Mathlib.Omega.{arith}
 use mathlib.Core.Bool.{Bool, true, false, cond}
 use mathlib.Core.Path.{_≡_, refl, ap, sym, _∙_}
 use mathlib.Core.List.{List, [], _∷_, flatMap}
 use lib.ListN.{length, getD}
-use lib.Dec.{eqb, leb}
 use borrow.Author.Tests.{eq-eqb, ne-eqb, le-leb, lt-leb}
-use Rattle.format.specs.Compose.{Composed, made, refused, captureOf, composeParsed, composeWords, composed, dealtFor, firstLate, groupsFor}
+use Rattle.format.specs.Compose.{made, refused, captureOf, composeParsed, composeWords, composed, dealtFor, firstLate, groupsFor}
 use Rattle.format.specs.Group.{group}
 use Rattle.format.specs.Item.{itemParts, itemWords}
-use Rattle.format.specs.Lawful.{Sound, buses}
-use Rattle.format.specs.Lists.{All, cons, nil, Bytes}
-use Rattle.format.specs.Log.{Parsed, items, fault, logOf, onPlan, parsed}
+use Rattle.format.specs.Lawful.{buses}
+use Rattle.format.specs.Lists.{cons, nil, Bytes}
+use Rattle.format.specs.Log.{Parsed, items, fault, onPlan, parsed}
 use Rattle.format.specs.Plan.{groupWords, legal}
 use Rattle.format.specs.Word.{Part, wordFor, wordOf}
 use Rattle.format.specs.declared.Item.{Item}
@@ -21,10 +20,9 @@ use Rattle.format.specs.declared.Plan.{Plan}
 use Rattle.group.specs.Shape.{Shape}
 use Rattle.group.specs.Writing.{Unsent}
 use Rattle.houselog.specs.Tally.{talliedOf}
-use Rattle.houselog.specs.declared.Tally.{Tally}
 use Rattle.houselog.specs.declared.Tally.the-variants.{Items, Fault}
 use Rattle.composing.specs.Compose.{wordsFrom}
-use Rattle.composing.proofs.Laws.{Holds, all-map, all-mapped, bytes-count, group-count, items-hold, legal-is, length-blocks, log-forth, logged-sound, words-few, words-of}
+use Rattle.composing.proofs.ComposeLaws.{Holds, all-map, all-mapped, bytes-count, group-count, items-hold, legal-is, length-blocks, log-forth, logged-sound, words-few, words-of}
 use Rattle.composing.proofs.ComposeLog.{words-parsed}
 
 module _ (p : Plan) (times : List ℕ) (room : ℕ) (ws : List ℕ) where

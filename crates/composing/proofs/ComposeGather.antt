@@ -1,10 +1,10 @@
 -- A row of words: an item more in it, a group's share taken from it, and the rest kept for the next group.
 use Prim.Native.Nat.{ℕ, zero, suc, _+_, _-_, _≤_, _<_}
 use native.Mathlib.Omega.{arith}
-use mathlib.Core.Path.{_≡_, refl, ap, sym, _∙_}
+use mathlib.Core.Path.{_≡_, ap, sym, _∙_}
 use mathlib.Core.List.{List, [], _∷_, _++_, append-assoc, append-nil}
 use lib.ListN.{length, take, drop, getD, set, length-drop, length-take, drop-of-length-le}
-use lib.Seq.{sets-eq, take-all, take-at, take-nil, take-take, take-append-le, drop-append-le, drop-cons, length-take-le}
+use lib.Seq.{sets-eq, take-all, take-nil, take-take, take-append-le, drop-append-le, drop-cons, length-take-le}
 use Rattle.composing.specs.Compose.{wordsFrom, Puts, written}
 use Rattle.composing.specs.Gather.{Gathers, toCome}
 use Rattle.composing.specs.declared.gather.Row.{Row}

@@ -17,7 +17,7 @@ use Rattle.format.specs.Word.{bytesOf}
 use Rattle.format.specs.declared.Plan.{Plan}
 use Rattle.group.specs.Shape.{dealtOf}
 use Rattle.composing.specs.Compose.{groupsTo}
-use Rattle.composing.proofs.Laws.{Written, bytes-count, flatMap-append}
+use Rattle.composing.proofs.ComposeLaws.{Written, bytes-count, flatMap-append}
 use Rattle.format.specs.Time.{timeEnd}
 
 module _ (times : List ℕ) (i : ℕ) where

@@ -3,8 +3,8 @@ use Prim.Native.Nat.{ℕ, zero, suc, _+_, _*_, _<_, _≤_}
 use native.Mathlib.Omega.{arith}
 use native.Mathlib.Numerals.{add-one}
 use mathlib.Core.Bool.{Bool, true, false, cond}
-use mathlib.Core.Path.{_≡_, refl, ap, sym, subst, _∙_}
-use mathlib.Core.List.{List, [], _∷_, _++_, flatMap}
+use mathlib.Core.Path.{_≡_, refl, ap, sym, subst}
+use mathlib.Core.List.{List, [], _++_, flatMap}
 use lib.ListN.{length}
 use lib.Dec.{eqb, ltb}
 use borrow.Author.Tests.{lt-leb}
@@ -13,11 +13,10 @@ use Rattle.format.specs.Item.{itemWords}
 use Rattle.format.specs.Log.{Next, ends, has, wrong, nextAt, Parsed, items, fault, consed, parseNext, parseFrom, parsed}
 use Rattle.format.specs.declared.Item.{Item}
 use Rattle.houselog.specs.Found.{foundOf}
-use Rattle.houselog.specs.declared.Cursor.{Cursor}
 use Rattle.houselog.specs.declared.Found.{Found}
 use Rattle.houselog.specs.declared.Found.the-variants.{Has, End, Wrong}
 use Rattle.composing.specs.Compose.{wordsNext, wordsBy, wordsFrom}
-use Rattle.composing.proofs.Laws.{clash, follows, length-bytes}
+use Rattle.composing.proofs.ComposeLaws.{follows, length-bytes}
 
 -- no item was found
 abbrev pub Empty : Found → Type 0

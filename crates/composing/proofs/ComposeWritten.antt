@@ -1,19 +1,19 @@
 -- Words written into a row, one behind the other.
-use Prim.Native.Nat.{ℕ, zero, suc, _+_, _≤_, _<_}
+use Prim.Native.Nat.{ℕ, suc, _+_, _≤_}
 use native.Mathlib.Omega.{arith}
 use native.Mathlib.Numerals.{add-one}
 use mathlib.Core.Bool.{Bool}
-use mathlib.Core.Path.{_≡_, refl, ap, ap₂, sym, _∙_}
+use mathlib.Core.Path.{_≡_, ap, ap₂, sym, _∙_}
 use mathlib.Core.List.{List, [], _∷_, _++_, map, append-assoc}
 use lib.ListN.{length, take, drop, set, length-append, length-take, length-drop, take-append-drop}
-use lib.Seq.{sets, sets-eq, take-at, drop-at, drop-drop, length-take-le}
+use lib.Seq.{sets-eq, take-at, drop-at, drop-drop, length-take-le}
 use Rattle.format.specs.Word.{wordFor, wordOf, part}
 use Rattle.format.specs.Item.{itemWords, responseParts, sided}
 use Rattle.format.specs.declared.Item.the-variants.{Status}
 use Rattle.format.specs.declared.Response.{Response}
 use Rattle.format.specs.declared.Response.the-variants.{Untimed, After}
 use Rattle.composing.specs.Compose.{written, Puts}
-use Rattle.composing.proofs.Laws.{map-append}
+use Rattle.composing.proofs.ComposeLaws.{map-append}
 
 pub none-written : (at : ℕ) (xs : List ℕ) → xs ≡ written at [] xs
 none-written at xs =

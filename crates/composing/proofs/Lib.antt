@@ -1,4 +1,5 @@
-pub mod Laws
+-- The laws of composing.
+pub mod ComposeLaws
 pub mod ComposeLog
 pub mod ComposeWritten
 pub mod ComposeGather

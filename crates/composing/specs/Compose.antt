@@ -1,4 +1,4 @@
--- Composing by parts: the words of a log from a bit on, words put into a row, and the first groups' bytes.
+-- Composing by parts: the words of a log from a bit on, the first groups, and words put into a row.
 use Prim.Native.Nat.{ℕ, zero, suc, _+_}
 use mathlib.Core.List.{List, [], _++_, flatMap}
 use mathlib.Core.Path.{_≡_}

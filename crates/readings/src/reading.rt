@@ -299,14 +299,15 @@ fn over_groups(
     ensures { λ r. ⌜ Walked kinds plan (now (capture .entry)) groups (now (out .entry)) r (now (out .exit)) ⌝ }
 {
     let size = plan.tracks * plan.words;
-    let mut pass = start_pass();
+    let start = start_pass();
+    let mut pass = start;
     let mut g: usize = 0;
     let mut group: usize = 0;
     while g < groups {
         let fault = reading::first_fault(capture, tables, plan, group);
         if fault.number != 0 {
             return Walk {
-                pass: pass,
+                pass: start,
                 number: fault.number,
                 place: fault.place as u64,
             };
@@ -314,7 +315,7 @@ fn over_groups(
         pass = on_group(pass, kinds, plan, count, capture, group, out);
         if pass.bad {
             return Walk {
-                pass: pass,
+                pass: start,
                 number: 13,
                 place: pass.since,
             };

@@ -1,6 +1,6 @@
 use Rattle.composing.proofs.ComposeAnswer.{times-wrong, time-late, room-short, all-made, capture-length}
 use Rattle.plans.proofs.Sizes.{shape-legal}
-use Rattle.composing.proofs.Laws.{small, timely}
+use Rattle.composing.proofs.ComposeLaws.{small, timely}
 use Rattle.composing.specs.Compose.{wordsFrom}
 use Rattle.format.specs.Plan.{groupWords}
 use Rattle.format.specs.Compose.{groupsFor}

@@ -7,7 +7,7 @@ use lib.Seq.{drop-drop}
 use Rattle.format.specs.Plan.{groupWords, slots}
 use Rattle.composing.specs.Compose.{groupsTo, wordsFrom}
 use Rattle.composing.specs.Gather.{toCome}
-use Rattle.composing.proofs.Laws.{Written, all-drop, group-count, written-length, written-none, written-part}
+use Rattle.composing.proofs.ComposeLaws.{Written, all-drop, group-count, written-length, written-none, written-part}
 use Rattle.composing.proofs.ComposeGroups.{groups-none, groups-more, groups-all, part-within, written-all}
 use borrow.Author.Needs.{needs}
 use Rattle.composing.proofs.composing.write_groups.Statement.{statement}

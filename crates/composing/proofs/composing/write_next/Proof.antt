@@ -1,5 +1,5 @@
 use Rattle.composing.proofs.ComposeGather.{last-share, last-rest, full-share, full-rest, kept-front}
-use Rattle.composing.proofs.Laws.{all-take}
+use Rattle.composing.proofs.ComposeLaws.{all-take}
 use lib.Seq.{length-take-le}
 use lib.ListN.{length}
 use mathlib.Core.Path.{sym}

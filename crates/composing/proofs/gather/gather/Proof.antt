@@ -4,7 +4,7 @@ use mathlib.Core.List.{_++_}
 use mathlib.Core.Path.{_≡_, refl, sym, subst, _∙_}
 use lib.ListN.{length, take}
 use Rattle.composing.specs.Compose.{wordsFrom}
-use Rattle.composing.proofs.Laws.{follows, item-few}
+use Rattle.composing.proofs.ComposeLaws.{follows, item-few}
 use Rattle.composing.proofs.ComposeLog.{Empty, words-more, words-none}
 use Rattle.composing.proofs.ComposeGather.{item-taken}
 use borrow.Author.Needs.{needs}
