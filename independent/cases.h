@@ -1,0 +1,61 @@
+/* What the files of the program `cases` share. */
+#ifndef CASES_H
+#define CASES_H
+
+#include <inttypes.h>
+#include <stdio.h>
+
+#include "independent.h"
+
+#define LOG_ROOM 32769     /* one byte above the limit */
+#define CAPTURE_ROOM 32768 /* twenty groups of 511 words, and a bit more */
+#define TIMES_ROOM 1024    /* 128 frame times */
+
+typedef struct {
+    uint32_t words, tracks, frame_time, crc, parity;
+    uint8_t kinds[16];
+    uint32_t kinds_len;
+} plan_numbers;
+
+typedef struct {
+    ind_answer answer;
+    uint64_t first, second; /* digests of the lent buffers: out and 0, or log and times */
+} result;
+
+/* What a case lends. */
+extern uint8_t log_in[LOG_ROOM], times_in[TIMES_ROOM], capture[CAPTURE_ROOM];
+extern uint8_t log_out[LOG_ROOM], times_out[TIMES_ROOM], out[CAPTURE_ROOM];
+
+/* The calls: composing log_in and times_in into out; reading capture into log_out and times_out. */
+result composing(plan_numbers p, uint32_t log_len, uint32_t times_len, uint32_t out_len);
+result reading(int closed, plan_numbers p, uint32_t capture_len, uint32_t log_len, uint32_t times_len);
+uint64_t fold(uint64_t digest, uint64_t value);
+
+/* A named case's line. */
+void name(const char letters[4], uint32_t number);
+void say(char function, result r);
+void say_both_readings(plan_numbers p, uint32_t capture_len, uint32_t log_len, uint32_t times_len);
+void line_end(void);
+
+/* What cases are made of. A put_ function puts an item at a bit of log_in and returns the bit behind it. */
+plan_numbers plan(uint32_t words, uint32_t tracks, uint32_t frame_time, uint32_t crc, uint32_t parity);
+uint32_t put(uint32_t bit, uint32_t width, uint64_t value);
+uint32_t put_command(uint32_t bit, uint32_t bus, uint32_t b, uint32_t tagged, uint32_t word, uint32_t micro);
+uint32_t put_status(uint32_t bit, uint32_t bus, uint32_t b, uint32_t timed, uint32_t word, uint32_t response);
+uint32_t put_data(uint32_t bit, uint32_t kind, uint32_t bus, uint32_t b, uint32_t word); /* kind 3, 4, or 7: a user word */
+uint32_t put_arinc(uint32_t bit, uint32_t bus, uint32_t channel, uint32_t tagged, uint64_t word, uint32_t micro);
+uint32_t put_notice(uint32_t bit, uint32_t bus, uint32_t channel, uint32_t diagnostics);
+uint32_t put_overflow(uint32_t bit, uint32_t bus, uint32_t word);
+uint32_t put_end(uint32_t bit);            /* ends the log; returns its length in bytes */
+uint32_t log_of_data(uint32_t items);      /* so many data words on bus 2; returns the log's length in bytes */
+void put_time(uint32_t index, uint64_t time);
+void word(uint32_t place, uint32_t bits);  /* a word of the capture */
+uint32_t group_of_fill(plan_numbers p, uint32_t group); /* of a plan without frame time and CRC; returns its length in bytes */
+void take_composed(uint32_t length);       /* what was composed becomes the capture to read */
+
+/* The cases. */
+void tempting_cases(void);
+void refusal_cases(void);
+void random_cases(void);
+
+#endif

@@ -1,0 +1,303 @@
+/* Ten blocks of 200 pseudo-random cases: composed and read back, composed and damaged, and noise. Every answer and every lent byte
+ * goes into the block's digest. */
+#include "cases.h"
+
+/* "minimal standard" generator: 1 to 2147483646, and no product reaches 48 bits */
+static uint64_t state = 20241001;
+
+/* No expression draws twice, so the order of the draws is the order of the lines. */
+static uint32_t draw(uint32_t below)
+{
+    state = state * 48271 % 2147483647;
+    return (uint32_t)(state % below);
+}
+
+static int one_in(uint32_t n)
+{
+    return draw(n) == 0;
+}
+
+/* ==== Plans ==== */
+
+static uint32_t draw_words(void)
+{
+    uint32_t shape = draw(4);
+    if (shape == 0)
+        return 129;
+    if (shape == 1)
+        return 511;
+    return 129 + draw(383);
+}
+
+/* A legal plan. */
+static plan_numbers draw_plan(void)
+{
+    plan_numbers p = plan(129, 1, 0, 0, 0);
+    uint32_t buses;
+    p.words = draw_words();
+    p.tracks = 1 + draw(4);
+    p.frame_time = draw(2);
+    p.crc = draw(2);
+    p.parity = draw(2);
+    buses = p.parity == 1 ? 8 : 16;
+    if (p.tracks > 1) {
+        uint32_t bus = draw(buses);
+        p.kinds[bus] = (uint8_t)(1 + draw(2));
+    } else {
+        for (uint32_t bus = 0; bus < buses; bus++)
+            p.kinds[bus] = (uint8_t)draw(3);
+    }
+    return p;
+}
+
+/* Now and then a number that makes it illegal, or another legal plan. */
+static plan_numbers spoil_plan(plan_numbers p)
+{
+    uint32_t what = draw(8), bus = draw(16);
+    if (what == 0)
+        p.words = draw(700);
+    if (what == 1)
+        p.tracks = draw(7);
+    if (what == 2)
+        p.frame_time = draw(4);
+    if (what == 3)
+        p.crc = draw(4);
+    if (what == 4)
+        p.parity = draw(4);
+    if (what == 5)
+        p.kinds[bus] = (uint8_t)draw(5);
+    if (what == 6)
+        p.kinds_len = draw(17);
+    return p;
+}
+
+/* The n-th used bus, counted from a drawn number; 16 if no bus is used. */
+static uint32_t draw_bus(plan_numbers p)
+{
+    uint32_t used = 0, wanted, found = 16;
+    for (uint32_t bus = 0; bus < 16; bus++)
+        if (p.kinds[bus] != 0)
+            used = used + 1;
+    if (used == 0)
+        return 16;
+    wanted = draw(used);
+    for (uint32_t bus = 0; bus < 16; bus++)
+        if (p.kinds[bus] != 0) {
+            if (wanted == 0 && found == 16)
+                found = bus;
+            else if (wanted > 0)
+                wanted = wanted - 1;
+        }
+    return found;
+}
+
+/* ==== Logs ==== */
+
+static uint32_t draw_below_10000(uint32_t faults)
+{
+    if (faults == 1 && one_in(100))
+        return draw(16384);
+    return draw(10000);
+}
+
+/* An item of the bus's kind; with faults, now and then of another. */
+static uint32_t draw_item(uint32_t bit, uint32_t bus, uint32_t bus_kind, uint32_t faults)
+{
+    static const uint32_t kinds[2][8] = {{1, 1, 2, 2, 3, 4, 7, 8}, {5, 5, 5, 5, 6, 6, 7, 8}};
+    uint32_t kind, b = draw(2), flag = draw(2), word = draw(65536), other = draw(65536), limited = draw_below_10000(faults);
+    kind = kinds[bus_kind == 2 ? 1 : 0][draw(8)];
+    if (faults == 1 && one_in(100))
+        kind = draw(16);
+    if (faults == 1 && one_in(100))
+        bus = draw(16);
+    if (kind == 1)
+        return put_command(bit, bus, b, flag, word, limited);
+    if (kind == 2)
+        return put_status(bit, bus, b, flag, word, limited);
+    if (kind == 3 || kind == 4 || kind == 7)
+        return put_data(bit, kind, bus, b, word);
+    if (kind == 5)
+        return put_arinc(bit, bus, 2 * b + other % 2, flag, (uint64_t)word * 65536 + other, limited);
+    if (kind == 6)
+        return put_notice(bit, bus, 2 * b + flag, word % 256);
+    if (kind == 8)
+        return put_overflow(bit, bus, word);
+    return put(bit, 4, kind);
+}
+
+/* A log of up to 60, or of up to 600 items; returns its length in bytes. */
+static uint32_t draw_log(plan_numbers p, uint32_t faults)
+{
+    uint32_t items = draw(60), bit = 0, length;
+    if (one_in(16))
+        items = draw(600);
+    if (one_in(16))
+        items = 0;
+    for (uint32_t n = 0; n < items; n++) {
+        uint32_t bus = draw_bus(p);
+        if (bus < 16)
+            bit = draw_item(bit, bus, p.kinds[bus], faults);
+    }
+    length = put_end(bit);
+    if (faults == 1 && one_in(4)) { /* a byte less, a byte more, or a byte changed */
+        uint32_t what = draw(3), byte = draw(length);
+        if (what == 0)
+            length = length - 1;
+        if (what == 1) {
+            put(8 * length, 8, 0);
+            length = length + 1;
+        }
+        if (what == 2)
+            log_in[byte] = (uint8_t)draw(256);
+    }
+    return length;
+}
+
+static void draw_times(uint32_t times, uint32_t faults)
+{
+    for (uint32_t n = 0; n < times; n++) {
+        uint64_t high = draw(65536), low = draw(65536), micro = draw(10000);
+        put_time(n, 10000 * (65536 * high + low) + micro);
+        if (faults == 1 && one_in(20))
+            put_time(n, 42949672950000 + draw(20000));
+    }
+}
+
+/* ==== Captures ==== */
+
+static uint32_t odd_parity(uint32_t bits)
+{
+    uint32_t ones = 0;
+    for (uint32_t n = 0; n < 24; n++)
+        ones = ones + ((bits >> n) & 1);
+    return ones % 2 == 1 ? bits : bits ^ 0x800000;
+}
+
+/* A word that is often lawful on a used bus. */
+static uint32_t draw_word(plan_numbers p)
+{
+    uint32_t bus = draw_bus(p), label = draw(16), information = draw(65536), shape = draw(4), bits;
+    if (shape == 0)
+        information = 0xAAAA;
+    if (shape == 1)
+        information = information % 12000;
+    bits = bus % 16 * 1048576 + label * 65536 + information;
+    if (one_in(3))
+        bits = 0x01AAAA;
+    return p.parity == 1 ? odd_parity(bits) : bits;
+}
+
+/* One to three changes: a word drawn, noise, fill, a bit turned, two words made alike, or the label of track 1's second word. */
+static void damage(plan_numbers p, uint32_t length)
+{
+    uint32_t words = length / 3, times = 1 + draw(3);
+    for (uint32_t n = 0; n < times; n++) {
+        uint32_t what = draw(6), place = draw(words), byte = draw(length), turned = draw(8), from = draw(words);
+        uint32_t top = draw(65536), bottom = draw(256);
+        if (what == 0)
+            word(place, draw_word(p));
+        if (what == 1)
+            word(place, top * 256 + bottom);
+        if (what == 2)
+            word(place, 0x01AAAA);
+        if (what == 3)
+            capture[byte] = (uint8_t)(capture[byte] ^ (1u << turned));
+        if (what == 4)
+            for (uint32_t i = 0; i < 3; i++)
+                capture[3 * place + i] = capture[3 * from + i];
+        if (what == 5)
+            capture[3] = capture[3] ^ 3;
+    }
+}
+
+/* Syncs, a few drawn words in front of each frame, and fill: for a plan without frame time and CRC. */
+static uint32_t noise(plan_numbers p)
+{
+    uint32_t groups = 1 + draw(2), length = 0;
+    for (uint32_t group = 0; group < groups; group++) {
+        length = length + group_of_fill(p, group);
+        for (uint32_t track = 0; track < p.tracks; track++)
+            for (uint32_t n = 1; n < 4; n++)
+                word((group * p.tracks + track) * p.words + n, draw_word(p));
+    }
+    return length;
+}
+
+/* ==== A case ==== */
+
+static uint64_t fold_result(uint64_t digest, result r)
+{
+    digest = fold(fold(fold(digest, r.answer.number), r.answer.place), r.answer.second);
+    digest = fold(fold(digest, r.answer.bytes), r.answer.times);
+    return fold(fold(digest, r.first), r.second);
+}
+
+/* Both readings: first with no room, to learn the log's length, then with room a little off now and then. */
+static uint64_t read_case(uint64_t digest, plan_numbers p, uint32_t length, uint32_t faults)
+{
+    result asked;
+    uint32_t log_len = 40, times_len = 8 * draw(10);
+    if (faults == 1 && length > 0 && one_in(16))
+        length = length - 1;
+    asked = reading(0, p, length, 0, 0);
+    if (asked.answer.number == 6 && asked.answer.place < LOG_ROOM)
+        log_len = (uint32_t)asked.answer.place + draw(3);
+    if (faults == 1 && one_in(4))
+        log_len = log_len - 1;
+    if (faults == 0 || one_in(2))
+        times_len = 1000 + draw(8);
+    digest = fold_result(digest, asked);
+    digest = fold_result(digest, reading(0, p, length, log_len, times_len));
+    return fold_result(digest, reading(1, p, length, log_len, times_len));
+}
+
+/* Composing: first with no times, to learn how many, then with no room, to learn how much. Then reading what was composed. */
+static uint64_t compose_case(uint64_t digest, plan_numbers p, uint32_t faults)
+{
+    uint32_t log_len = draw_log(p, faults), times = 0, out_len = 0;
+    result asked = composing(p, log_len, 0, 0);
+    digest = fold_result(digest, asked);
+    if (asked.answer.number == 5 && asked.answer.place <= 120)
+        times = (uint32_t)asked.answer.place;
+    draw_times(times, faults);
+    if (faults == 1 && one_in(8))
+        times = times + 1;
+    asked = composing(p, log_len, 8 * times, 0);
+    digest = fold_result(digest, asked);
+    if (asked.answer.number == 6 && asked.answer.place <= CAPTURE_ROOM - 2)
+        out_len = (uint32_t)asked.answer.place + draw(3);
+    if (faults == 1 && out_len > 0 && one_in(8))
+        out_len = out_len - 1;
+    asked = composing(p, log_len, 8 * times, out_len);
+    digest = fold_result(digest, asked);
+    take_composed((uint32_t)asked.answer.bytes);
+    if (faults == 1 && asked.answer.bytes > 0)
+        damage(p, (uint32_t)asked.answer.bytes);
+    return read_case(digest, p, (uint32_t)asked.answer.bytes, faults);
+}
+
+static uint64_t random_case(uint64_t digest)
+{
+    plan_numbers p = draw_plan();
+    uint32_t what = draw(8);
+    if (what == 0) {
+        p.frame_time = 0;
+        p.crc = 0;
+        return read_case(digest, p, noise(p), 1);
+    }
+    if (what < 4)
+        return compose_case(digest, p, 0);
+    if (one_in(8))
+        p = spoil_plan(p);
+    return compose_case(digest, p, 1);
+}
+
+void random_cases(void)
+{
+    for (uint32_t block = 0; block < 10; block++) {
+        uint64_t digest = 0;
+        for (uint32_t n = 0; n < 200; n++)
+            digest = random_case(digest);
+        printf("block %" PRIu32 ": %" PRIu64 "\n", block, digest);
+    }
+}

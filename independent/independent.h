@@ -1,0 +1,47 @@
+/* Document 01, the rules of Vinculampe, once more in plain C11.
+ *
+ * This implementation was written from document 01 and the decisions of docs/DECISIONS.md alone, without a look at the
+ * library, and it is written to be read: each rule stands once, under the sentence that states it. It is what the tests
+ * compare the library with. It is slow; bench/fast.c is the fast one.
+ *
+ * The three functions take what vin_compose, vin_read and vin_read_closed of include/vinculampe.h take and answer as they
+ * must answer. They use no heap, keep nothing between calls, and take a null pointer for a run of length 0. */
+#ifndef INDEPENDENT_H
+#define INDEPENDENT_H
+
+#include <stddef.h>
+#include <stdint.h>
+
+typedef struct {
+    uint32_t number; /* 0, or the refusal's number */
+    uint64_t place;  /* the refusal's place */
+    uint64_t second; /* always 0 */
+    uint64_t bytes;  /* composing: bytes of capture written; reading: bytes of log written */
+    uint64_t times;  /* reading: frame times written */
+} ind_answer;
+
+ind_answer ind_compose(uint32_t words, uint32_t tracks, uint32_t frame_time, uint32_t crc, uint32_t parity,
+                       const uint8_t *kinds, size_t kinds_len,
+                       const uint8_t *log, size_t log_len,
+                       const uint8_t *times, size_t times_len,
+                       uint8_t *out, size_t out_len);
+
+ind_answer ind_read(uint32_t words, uint32_t tracks, uint32_t frame_time, uint32_t crc, uint32_t parity,
+                    const uint8_t *kinds, size_t kinds_len,
+                    const uint8_t *capture, size_t capture_len,
+                    uint8_t *log, size_t log_len,
+                    uint8_t *times, size_t times_len);
+
+ind_answer ind_read_closed(uint32_t words, uint32_t tracks, uint32_t frame_time, uint32_t crc, uint32_t parity,
+                           const uint8_t *kinds, size_t kinds_len,
+                           const uint8_t *capture, size_t capture_len,
+                           uint8_t *log, size_t log_len,
+                           uint8_t *times, size_t times_len);
+
+/* The lister's text for what it reads from standard input. Returns the text's length and writes as much of it as `room`
+ * holds, without a closing zero; IND_TEXT_MAX bytes hold every text. */
+size_t ind_list(const uint8_t *log, size_t log_len, char *text, size_t room);
+
+#define IND_TEXT_MAX 200000
+
+#endif

@@ -1,0 +1,166 @@
+/* Document 01: the plain and the closed reading. */
+#include <string.h>
+
+#include "rules.h"
+
+/* A capture and the plan it is read by. */
+typedef struct {
+    const plan *p;
+    const uint8_t *bytes;
+    uint64_t groups;
+} capture;
+
+static word word_at(const capture *c, uint64_t place)
+{
+    return received(c->p, stored(c->bytes, place));
+}
+
+/* "each word as stored (9 for a frame's first word, 10 for any other, 11 after 10 for a CRC word)" */
+static ind_answer check_stored(const capture *c, uint64_t group)
+{
+    const plan *p = c->p;
+    for (uint32_t track = 0; track < p->tracks; track++) {
+        uint64_t first = group * group_words(p) + (uint64_t)track * p->length;
+        for (uint32_t position = 0; position < p->length; position++) {
+            uint32_t bits = stored(c->bytes, first + position);
+            if (position == 0) {
+                if (bits != SYNC)
+                    return refused(9, first);
+                continue;
+            }
+            if (p->parity && !odd(bits))
+                return refused(10, first + position);
+            if (p->crc && position == p->length - 1 && bits != crc_word(p, c->bytes + 3 * first))
+                return refused(11, first + position);
+        }
+    }
+    return passed();
+}
+
+/* "12: frame time word: bus, label or micro wrong" */
+static ind_answer check_frame_time(const capture *c, uint64_t group)
+{
+    static const uint32_t labels[3] = {LABEL_HIGH, LABEL_LOW, LABEL_MICRO};
+    for (uint64_t dealt = 0; dealt < furniture(c->p); dealt++) {
+        uint64_t place = dealt_place(c->p, group, dealt);
+        word w = word_at(c, place);
+        if (w.bus != 0 || w.label != labels[dealt] || (w.label == LABEL_MICRO && w.information >= MICRO_LIMIT))
+            return refused(12, place);
+    }
+    return passed();
+}
+
+static uint64_t frame_time_of(const capture *c, uint64_t group)
+{
+    time_words t = {word_at(c, dealt_place(c->p, group, 0)).information, word_at(c, dealt_place(c->p, group, 1)).information,
+                    word_at(c, dealt_place(c->p, group, 2)).information};
+    return time_join(t);
+}
+
+static uint64_t slot_place(const capture *c, uint64_t group, uint64_t slot)
+{
+    return dealt_place(c->p, group, furniture(c->p) + slot);
+}
+
+/* "13: data word starts or continues no item, fill not AAAA". "The plain reading drops fill on any bus in any slot". */
+static ind_answer read_slots(const capture *c, uint64_t group, held *h, log_writer *log)
+{
+    for (uint64_t slot = 0; slot < group_slots(c->p); slot++) {
+        uint64_t place = slot_place(c, group, slot);
+        word w = word_at(c, place);
+        if (!is_fill(w) && !reader_feed(h, c->p, w, place, log))
+            return refused(13, place);
+    }
+    return passed();
+}
+
+/* "then group by group: each word as stored .., then 12, then 13, both in dealt order; after the last group the cut item" */
+static ind_answer read_groups(const capture *c, log_writer *log)
+{
+    held h = {.stage = NOTHING};
+    for (uint64_t group = 0; group < c->groups; group++) {
+        ind_answer answer = check_stored(c, group);
+        if (answer.number == 0)
+            answer = check_frame_time(c, group);
+        if (answer.number == 0)
+            answer = read_slots(c, group, &h, log);
+        if (answer.number != 0)
+            return answer;
+    }
+    return reader_end(&h, log) ? passed() : refused(13, h.first);
+}
+
+/* "Fill is misplaced if a data word follows it, if neither its group nor a later one has a data word, or if its bus is not
+ * 0." "14: earliest such word, dealt order" */
+static ind_answer check_fill(const capture *c)
+{
+    uint64_t slots = group_slots(c->p);
+    uint64_t data_end = 0; /* one more than the last data word's slot, counted over all groups; 0 if there is none */
+    for (uint64_t slot = 0; slot < c->groups * slots; slot++)
+        if (!is_fill(word_at(c, slot_place(c, slot / slots, slot % slots))))
+            data_end = slot + 1;
+    for (uint64_t slot = 0; slot < c->groups * slots; slot++) {
+        uint64_t place = slot_place(c, slot / slots, slot % slots);
+        word w = word_at(c, place);
+        bool data_follows = slot + 1 < data_end;
+        bool data_here_or_later = data_end > 0 && slot / slots <= (data_end - 1) / slots;
+        if (is_fill(w) && (data_follows || !data_here_or_later || w.bus != 0))
+            return refused(14, place);
+    }
+    return passed();
+}
+
+static ind_answer reading(bool closed, uint32_t words, uint32_t tracks, uint32_t frame_time, uint32_t crc, uint32_t parity,
+                          const uint8_t *kinds, size_t kinds_len, const uint8_t *bytes, size_t bytes_len,
+                          uint8_t *log, size_t log_len, uint8_t *times, size_t times_len)
+{
+    plan p;
+    log_writer made;
+    ind_answer answer;
+    uint64_t log_bytes, times_needed;
+    capture c = {&p, bytes, 0};
+
+    /* "Reading checks 1, 8" */
+    if (!plan_of(&p, words, tracks, frame_time, crc, parity, kinds, kinds_len))
+        return refused(1, 0);
+    if (bytes_len > CAPTURE_MAX || bytes_len % (3 * group_words(&p)) != 0)
+        return refused(8, bytes_len);
+    c.groups = bytes_len / (3 * group_words(&p));
+
+    log_begin(&made);
+    answer = read_groups(&c, &made);
+    if (answer.number == 0 && closed)
+        answer = check_fill(&c);
+    if (answer.number != 0)
+        return answer;
+
+    /* "6: output too short, or a log above 32,768"; "7: time table too short"; "in a reading's room the spare bytes count for
+     * nothing and stay" */
+    log_bytes = log_end(&made);
+    if (log_bytes > LOG_MAX || log_bytes > log_len)
+        return refused(6, log_bytes);
+    times_needed = p.frame_time ? c.groups : 0;
+    if (times_len / 8 < times_needed)
+        return refused(7, times_needed);
+
+    memcpy(log, made.bytes, log_bytes);
+    for (uint64_t group = 0; group < times_needed; group++)
+        time_to_bytes(times + 8 * group, frame_time_of(&c, group));
+    return (ind_answer){.bytes = log_bytes, .times = times_needed};
+}
+
+ind_answer ind_read(uint32_t words, uint32_t tracks, uint32_t frame_time, uint32_t crc, uint32_t parity,
+                    const uint8_t *kinds, size_t kinds_len, const uint8_t *capture, size_t capture_len,
+                    uint8_t *log, size_t log_len, uint8_t *times, size_t times_len)
+{
+    return reading(false, words, tracks, frame_time, crc, parity, kinds, kinds_len, capture, capture_len,
+                   log, log_len, times, times_len);
+}
+
+ind_answer ind_read_closed(uint32_t words, uint32_t tracks, uint32_t frame_time, uint32_t crc, uint32_t parity,
+                           const uint8_t *kinds, size_t kinds_len, const uint8_t *capture, size_t capture_len,
+                           uint8_t *log, size_t log_len, uint8_t *times, size_t times_len)
+{
+    return reading(true, words, tracks, frame_time, crc, parity, kinds, kinds_len, capture, capture_len,
+                   log, log_len, times, times_len);
+}
