@@ -7,3 +7,4 @@ pub mod ReadGroups
 pub mod ReadEnd
 pub mod ReadFront
 pub mod ReadGiven
+pub mod ReadShort

@@ -498,7 +498,7 @@ fn read_by(
     give(plan, capture, n, built, end.bytes, log, times)
 }
 
-// No large array is cleared for a small room.
+// No large array is cleared for a small capture, or for a small room.
 fn read_small(
     closed: bool,
     plan: Plan,
@@ -508,7 +508,7 @@ fn read_small(
     times: &mut [u64],
 ) -> Answer
     requires { ⌜ Shape plan × (length (now capture) ≤ 1048576) × (length (now capture) % (3 * groupWords plan) ≡ 0) ⌝ }
-    requires { ⌜ length (now log) ≤ 2048 ⌝ }
+    requires { ⌜ Enough plan kinds (now capture) 2048 (length (now log)) ⌝ }
     ensures { λ r. ⌜ Given (settled plan (now (capture .entry)) (length (now (capture .entry)) / (3 * groupWords plan)) (length (now (log .entry))) (length (now (times .entry))) closed (readGroups plan kinds (now (capture .entry)) (length (now (capture .entry)) / (3 * groupWords plan)) 0 Nothing 0)) r (now (log .entry)) (now (log .exit)) (now (times .entry)) (now (times .exit)) ⌝ }
 {
     let mut built = [0u8; 2048];
@@ -550,6 +550,9 @@ fn read_either(
     }
     if length % (3 * group_words(plan)) != 0 {
         return refusal(8, length as u64);
+    }
+    if length <= 1884 {
+        return read_small(closed, plan, kinds, capture, log, times);
     }
     if log.len() <= 2048 {
         return read_small(closed, plan, kinds, capture, log, times);

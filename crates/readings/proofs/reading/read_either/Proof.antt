@@ -1,7 +1,8 @@
-use borrow.Author.Tests.{not-true, not-false}
+use Rattle.readings.proofs.ReadShort.{small-enough, room-enough}
 use Rattle.readings.proofs.ReadGiven.{given-refused, shape-of, some-words, illegal-refused, long-refused, ragged-refused, read-on}
 use lib.ListN.{length}
 use native.Mathlib.Omega.{arith}
+use borrow.Author.Tests.{not-true, not-false}
 use mathlib.Core.Path.{sym, _∙_}
 use borrow.Author.Needs.{needs}
 use Rattle.readings.proofs.reading.read_either.Statement.{statement}
@@ -14,77 +15,93 @@ use Rattle.readings.proofs.reading.read_large.Reads as read-large-reads
 use Rattle.readings.proofs.reading.read_small.Reads as read-small-reads
 use Rattle.readings.proofs.reading.refusal.Reads as refusal-reads
 
--- src/reading.rt:384:9
+-- src/reading.rt:545:9
 legal-requires : tie.Need-legal-requires
 legal-requires c κs = search needs
 
--- src/reading.rt:385:9
+-- src/reading.rt:546:9
 refusal-requires : tie.Need-refusal-requires
 refusal-requires c κs = search needs
 
--- src/reading.rt:385:9
+-- src/reading.rt:546:9
 returns : tie.Need-returns
 returns c = given-refused (c .before .before .before .before .before .before .args .log .now) (c .before .before .before .before .before .before .args .times .now) (illegal-refused (c .before .before .before .before .before .before .args .closed) (c .before .before .before .before .before .before .args .plan) (c .before .before .before .before .before .before .args .kinds) (c .before .before .before .before .before .before .args .capture .now) (length (c .before .before .before .before .before .before .args .log .now)) (length (c .before .before .before .before .before .before .args .times .now)) (sym (c .before .before .legal .ensures) ∙ not-true _ (c .before .if1 .taken))) (c .refusal .ensures)
 
--- src/reading.rt:388:9
+-- src/reading.rt:549:9
 refusal-requires-2 : tie.Need-refusal-requires-2
 refusal-requires-2 c κs = search needs
 
--- src/reading.rt:388:9
+-- src/reading.rt:549:9
 returns-2 : tie.Need-returns-2
 returns-2 c = given-refused (c .before .before .before .before .before .before .before .args .log .now) (c .before .before .before .before .before .before .before .args .times .now) (long-refused (c .before .before .before .before .before .before .before .args .closed) (c .before .before .before .before .before .before .before .args .plan) (c .before .before .before .before .before .before .before .args .kinds) (c .before .before .before .before .before .before .before .args .capture .now) (length (c .before .before .before .before .before .before .before .args .log .now)) (length (c .before .before .before .before .before .before .before .args .times .now)) (sym (c .before .before .before .legal .ensures) ∙ not-false _ (c .before .before .if1 .left)) (c .before .if2 .taken)) (c .refusal2 .ensures)
 
--- src/reading.rt:390:22
+-- src/reading.rt:551:22
 group-words-requires : tie.Need-group-words-requires
 group-words-requires c κs = shape-of _ _ (sym (c .before .before .legal .ensures) ∙ not-false _ (c .before .if1 .left))
 
--- src/reading.rt:390:18
+-- src/reading.rt:551:18
 mul-if3 : tie.Need-mul-if3
 mul-if3 c = search needs
 
--- src/reading.rt:390:8
+-- src/reading.rt:551:8
 rem-if3 : tie.Need-rem-if3
 rem-if3 c = omega (arith, c .group-words .ensures .0, some-words _ (shape-of _ _ (sym (c .before .before .before .legal .ensures) ∙ not-false _ (c .before .before .if1 .left))))
 
--- src/reading.rt:391:9
+-- src/reading.rt:552:9
 refusal-requires-3 : tie.Need-refusal-requires-3
 refusal-requires-3 c κs = search needs
 
--- src/reading.rt:391:9
+-- src/reading.rt:552:9
 returns-3 : tie.Need-returns-3
 returns-3 c = given-refused (c .before .before .before .before .before .before .before .before .before .args .log .now) (c .before .before .before .before .before .before .before .before .before .args .times .now) (ragged-refused (c .before .before .before .before .before .before .before .before .before .args .closed) (c .before .before .before .before .before .before .before .before .before .args .plan) (c .before .before .before .before .before .before .before .before .before .args .kinds) (c .before .before .before .before .before .before .before .before .before .args .capture .now) (length (c .before .before .before .before .before .before .before .before .before .args .log .now)) (length (c .before .before .before .before .before .before .before .before .before .args .times .now)) (sym (c .before .before .before .before .before .legal .ensures) ∙ not-false _ (c .before .before .before .before .if1 .left)) (c .before .before .before .if2 .left) (rw (c .before .before .group-words .ensures .0) at (c .before .if3 .taken))) (c .refusal3 .ensures)
 
--- src/reading.rt:394:9
+-- src/reading.rt:555:9
 read-small-requires : tie.Need-read-small-requires
-read-small-requires c κs = ((shape-of _ _ (sym (c .before .before .before .before .before .before .before .legal .ensures) ∙ not-false _ (c .before .before .before .before .before .before .if1 .left)), c .before .before .before .before .before .if2 .left, rw (c .before .before .before .before .group-words .ensures .0) at (c .before .before .before .if3 .left)), c .before .before .if4 .taken)
+read-small-requires c κs = let s = shape-of _ _ (sym (c .before .before .before .before .before .before .before .legal .ensures) ∙ not-false _ (c .before .before .before .before .before .before .if1 .left)) in let z = (rw (c .before .before .before .before .group-words .ensures .0) at (c .before .before .before .if3 .left)) in ((s, c .before .before .before .before .before .if2 .left, z), small-enough (c .before .before .before .before .before .before .before .before .before .before .before .args .plan) (c .before .before .before .before .before .before .before .before .before .before .before .args .capture .now) (λ i. omega (arith, c .before .before .before .before .before .before .before .before .before .before .shared-slice-known .given i)) (c .before .before .before .before .before .before .before .before .before .before .before .args .kinds) (length (c .before .before .before .before .before .before .before .before .before .before .before .args .log .now)) s z (c .before .before .if4 .taken))
 
--- src/reading.rt:394:9
+-- src/reading.rt:555:9
 same-length : tie.Need-same-length
 same-length c = search needs
 
--- src/reading.rt:394:9
+-- src/reading.rt:555:9
 same-length-2 : tie.Need-same-length-2
 same-length-2 c = search needs
 
--- src/reading.rt:394:9
+-- src/reading.rt:555:9
 returns-4 : tie.Need-returns-4
 returns-4 c = rw (read-on (c .before .before .before .before .before .before .before .before .before .before .before .before .before .before .before .before .args .closed) (c .before .before .before .before .before .before .before .before .before .before .before .before .before .before .before .before .args .plan) (c .before .before .before .before .before .before .before .before .before .before .before .before .before .before .before .before .args .kinds) (c .before .before .before .before .before .before .before .before .before .before .before .before .before .before .before .before .args .capture .now) (length (c .before .before .before .before .before .before .before .before .before .before .before .before .before .before .before .before .args .log .now)) (length (c .before .before .before .before .before .before .before .before .before .before .before .before .before .before .before .before .args .times .now)) (sym (c .before .before .before .before .before .before .before .before .before .before .before .before .legal .ensures) ∙ not-false _ (c .before .before .before .before .before .before .before .before .before .before .before .if1 .left)) (c .before .before .before .before .before .before .before .before .before .before .if2 .left) (rw (c .before .before .before .before .before .before .before .before .before .group-words .ensures .0) at (c .before .before .before .before .before .before .before .before .if3 .left))) (c .before .before .before .before .read-small .ensures)
 
--- src/reading.rt:396:5
-read-large-requires : tie.Need-read-large-requires
-read-large-requires c κs = (shape-of _ _ (sym (c .before .before .before .before .before .before .before .legal .ensures) ∙ not-false _ (c .before .before .before .before .before .before .if1 .left)), c .before .before .before .before .before .if2 .left, rw (c .before .before .before .before .group-words .ensures .0) at (c .before .before .before .if3 .left))
+-- src/reading.rt:558:9
+read-small-requires-2 : tie.Need-read-small-requires-2
+read-small-requires-2 c κs = ((shape-of _ _ (sym (c .before .before .before .before .before .before .before .before .legal .ensures) ∙ not-false _ (c .before .before .before .before .before .before .before .if1 .left)), c .before .before .before .before .before .before .if2 .left, (rw (c .before .before .before .before .before .group-words .ensures .0) at (c .before .before .before .before .if3 .left))), room-enough _ _ _ _ (c .before .before .if5 .taken))
 
--- src/reading.rt:380:1
+-- src/reading.rt:558:9
 same-length-3 : tie.Need-same-length-3
 same-length-3 c = search needs
 
--- src/reading.rt:380:1
+-- src/reading.rt:558:9
 same-length-4 : tie.Need-same-length-4
 same-length-4 c = search needs
 
--- src/reading.rt:380:1
+-- src/reading.rt:558:9
 returns-5 : tie.Need-returns-5
-returns-5 c = rw (read-on (c .before .before .before .before .before .before .before .before .before .before .before .before .before .before .before .before .args .closed) (c .before .before .before .before .before .before .before .before .before .before .before .before .before .before .before .before .args .plan) (c .before .before .before .before .before .before .before .before .before .before .before .before .before .before .before .before .args .kinds) (c .before .before .before .before .before .before .before .before .before .before .before .before .before .before .before .before .args .capture .now) (length (c .before .before .before .before .before .before .before .before .before .before .before .before .before .before .before .before .args .log .now)) (length (c .before .before .before .before .before .before .before .before .before .before .before .before .before .before .before .before .args .times .now)) (sym (c .before .before .before .before .before .before .before .before .before .before .before .before .legal .ensures) ∙ not-false _ (c .before .before .before .before .before .before .before .before .before .before .before .if1 .left)) (c .before .before .before .before .before .before .before .before .before .before .if2 .left) (rw (c .before .before .before .before .before .before .before .before .before .group-words .ensures .0) at (c .before .before .before .before .before .before .before .before .if3 .left))) (c .before .before .before .before .read-large .ensures)
+returns-5 c = rw (read-on (c .before .before .before .before .before .before .before .before .before .before .before .before .before .before .before .before .before .args .closed) (c .before .before .before .before .before .before .before .before .before .before .before .before .before .before .before .before .before .args .plan) (c .before .before .before .before .before .before .before .before .before .before .before .before .before .before .before .before .before .args .kinds) (c .before .before .before .before .before .before .before .before .before .before .before .before .before .before .before .before .before .args .capture .now) (length (c .before .before .before .before .before .before .before .before .before .before .before .before .before .before .before .before .before .args .log .now)) (length (c .before .before .before .before .before .before .before .before .before .before .before .before .before .before .before .before .before .args .times .now)) (sym (c .before .before .before .before .before .before .before .before .before .before .before .before .before .legal .ensures) ∙ not-false _ (c .before .before .before .before .before .before .before .before .before .before .before .before .if1 .left)) (c .before .before .before .before .before .before .before .before .before .before .before .if2 .left) (rw (c .before .before .before .before .before .before .before .before .before .before .group-words .ensures .0) at (c .before .before .before .before .before .before .before .before .before .if3 .left))) (c .before .before .before .before .read-small2 .ensures)
+
+-- src/reading.rt:560:5
+read-large-requires : tie.Need-read-large-requires
+read-large-requires c κs = (shape-of _ _ (sym (c .before .before .before .before .before .before .before .before .legal .ensures) ∙ not-false _ (c .before .before .before .before .before .before .before .if1 .left)), c .before .before .before .before .before .before .if2 .left, (rw (c .before .before .before .before .before .group-words .ensures .0) at (c .before .before .before .before .if3 .left)))
+
+-- src/reading.rt:534:1
+same-length-5 : tie.Need-same-length-5
+same-length-5 c = search needs
+
+-- src/reading.rt:534:1
+same-length-6 : tie.Need-same-length-6
+same-length-6 c = search needs
+
+-- src/reading.rt:534:1
+returns-6 : tie.Need-returns-6
+returns-6 c = rw (read-on (c .before .before .before .before .before .before .before .before .before .before .before .before .before .before .before .before .before .args .closed) (c .before .before .before .before .before .before .before .before .before .before .before .before .before .before .before .before .before .args .plan) (c .before .before .before .before .before .before .before .before .before .before .before .before .before .before .before .before .before .args .kinds) (c .before .before .before .before .before .before .before .before .before .before .before .before .before .before .before .before .before .args .capture .now) (length (c .before .before .before .before .before .before .before .before .before .before .before .before .before .before .before .before .before .args .log .now)) (length (c .before .before .before .before .before .before .before .before .before .before .before .before .before .before .before .before .before .args .times .now)) (sym (c .before .before .before .before .before .before .before .before .before .before .before .before .before .legal .ensures) ∙ not-false _ (c .before .before .before .before .before .before .before .before .before .before .before .before .if1 .left)) (c .before .before .before .before .before .before .before .before .before .before .before .if2 .left) (rw (c .before .before .before .before .before .before .before .before .before .before .group-words .ensures .0) at (c .before .before .before .before .before .before .before .before .before .if3 .left))) (c .before .before .before .before .read-large .ensures)
 
 pub read-either-spec : {M : Type 1} → statement M
 read-either-spec =
@@ -104,7 +121,11 @@ read-either-spec =
     same-length
     same-length-2
     returns-4
-    read-large-requires
+    read-small-requires-2
     same-length-3
     same-length-4
-    returns-5)
+    returns-5
+    read-large-requires
+    same-length-5
+    same-length-6
+    returns-6)
