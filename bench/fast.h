@@ -1,0 +1,17 @@
+/* The same three functions written for speed: what the library is timed against. */
+#ifndef FAST_H
+#define FAST_H
+
+#include "../include/vinculampe.h"
+
+vin_answer fast_compose(uint32_t words, uint32_t tracks, uint32_t frame_time, uint32_t crc, uint32_t parity,
+                        const uint8_t *kinds, size_t kinds_len, const uint8_t *log, size_t log_len,
+                        const uint8_t *times, size_t times_len, uint8_t *out, size_t out_len);
+vin_answer fast_read(uint32_t words, uint32_t tracks, uint32_t frame_time, uint32_t crc, uint32_t parity,
+                     const uint8_t *kinds, size_t kinds_len, const uint8_t *capture, size_t capture_len,
+                     uint8_t *log, size_t log_len, uint8_t *times, size_t times_len);
+vin_answer fast_read_closed(uint32_t words, uint32_t tracks, uint32_t frame_time, uint32_t crc, uint32_t parity,
+                            const uint8_t *kinds, size_t kinds_len, const uint8_t *capture, size_t capture_len,
+                            uint8_t *log, size_t log_len, uint8_t *times, size_t times_len);
+
+#endif

@@ -1,0 +1,180 @@
+/* What is wrong, and where: walked word by word, once the quick way has found that something is. */
+#include <stdlib.h>
+
+#include "fast_inside.h"
+
+/* ==== A log ==== */
+
+static uint64_t bits_at(const uint8_t *log, size_t bit, uint32_t width)
+{
+    uint64_t value = 0;
+    for (; width > 0; width--, bit++)
+        value = value << 1 | (log[bit >> 3] >> (7 - (bit & 7)) & 1u);
+    return value;
+}
+
+vin_answer refuse_log(const fast_plan *p, const uint8_t *log, size_t log_len)
+{
+    static const uint8_t shortest[16] = {4, 26, 26, 25, 25, 43, 18, 25, 24, 0};
+    size_t bit = 0, end = 8 * log_len;
+    for (;;) {
+        uint32_t kind, bus, flag, allowed;
+        size_t whole;
+        if (end - bit < 4)
+            return refused(2, bit);
+        kind = (uint32_t)bits_at(log, bit, 4);
+        if (kind == 0 || kind > 8 || end - bit < shortest[kind])
+            return refused(2, bit);
+        bus = (uint32_t)bits_at(log, bit + 4, 4);
+        flag = kind <= 2 ? (uint32_t)bits_at(log, bit + 9, 1) : kind == 5 ? (uint32_t)bits_at(log, bit + 10, 1) : 0;
+        whole = shortest[kind] + (!flag ? 0u : kind == 2 ? 14u : 46u);
+        if (end - bit < whole)
+            return refused(2, bit);
+        allowed = kind <= 4 ? p->used_1553 : kind <= 6 ? p->used_arinc : p->used_1553 | p->used_arinc;
+        if (!(allowed >> bus & 1))
+            return refused(3, bit);
+        if (flag && bits_at(log, bit + whole - 14, 14) >= 10000)
+            return refused(4, bit);
+        bit += whole;
+    }
+}
+
+/* ==== A capture ==== */
+
+static size_t place_of(const fast_plan *p, size_t group, size_t dealt)
+{
+    return group * p->tracks * p->length + dealt % p->tracks * p->length + 1 + dealt / p->tracks;
+}
+
+/* 9, 10 and 11 */
+static vin_answer stored_fault(const fast_plan *p, const uint8_t *capture, size_t group)
+{
+    for (uint32_t track = 0; track < p->tracks; track++) {
+        size_t first = (group * p->tracks + track) * p->length;
+        uint32_t r = SYNC_REMAINDER;
+        if (load24(capture + 3 * first) != SYNC)
+            return refused(9, first);
+        for (size_t n = first + 1; n < first + p->length; n++) {
+            uint32_t w = load24(capture + 3 * n);
+            if (p->parity && !__builtin_parity(w))
+                return refused(10, n);
+            if (p->crc && n == first + p->length - 1 && w != (p->parity ? with_parity(3 << 16 | r) : (3 << 16 | r)))
+                return refused(11, n);
+            r = crc_one(r, w);
+        }
+    }
+    return refused(0, 0);
+}
+
+/* What the next word may be: `next` is bus and label it must have under `mask`, if any; `tag` the high time word it may be. */
+typedef struct {
+    uint32_t next, mask, tag;
+    size_t first;
+    uint64_t bits; /* of log */
+} walker;
+
+#define FREE 0xFFFFFFFFu
+
+static int walk(walker *k, const fast_plan *p, uint32_t w, size_t place)
+{
+    uint32_t hi = w >> 16, bus = hi >> 4, label = hi & 15, information = w & 0xFFFF, kind = p->kinds[bus], tag = k->tag;
+    k->tag = FREE;
+    if (k->next != FREE) {
+        if ((hi ^ k->next) & k->mask)
+            return 0;
+        k->next = FREE;
+        if (label == 6)
+            k->next = hi - 1, k->bits += 16;
+        else if (label == 5)
+            return k->bits += 14, information < 10000;
+        else if (kind == 1)
+            k->bits += 40;
+        else
+            k->tag = bus << 4 | 7, k->bits += 43;
+        return 1;
+    }
+    if (hi == tag) {
+        k->next = hi - 1, k->mask = 255, k->bits += 16;
+        return 1;
+    }
+    k->first = place;
+    if (kind == 0 || label == 1 || (label >= 5 && label <= 7))
+        return 0;
+    if (label == 0)
+        return k->bits += 24, 1;
+    if (label == 2 || label == 3)
+        return k->bits += 25, 1;
+    if (label == 4 && kind == 1) {
+        k->next = bus << 4 | 14, k->mask = 255 - 4;
+        return information < 10000;
+    }
+    if (label == 4)
+        return k->bits += 18, information >> 12 == (information >> 8 & 15) + 1 && information >> 12 >= 9 && (information >> 12 & 1);
+    if (kind == 2) {
+        k->next = hi - 1, k->mask = 255;
+        return label & 1;
+    }
+    if ((label & 3) == 3)
+        k->tag = bus << 4 | 7;
+    k->bits += (label & 3) >= 2 ? 26 : 25;
+    return 1;
+}
+
+/* 12 and 13 */
+static vin_answer dealt_fault(const fast_plan *p, const uint8_t *capture, size_t group, walker *k)
+{
+    for (size_t dealt = 0; dealt < p->furniture + p->slots; dealt++) {
+        size_t place = place_of(p, group, dealt);
+        uint32_t w = load24(capture + 3 * place) & (p->parity ? 0x7FFFFF : 0xFFFFFF);
+        if (dealt < p->furniture) {
+            if (w >> 16 != 7 - dealt || (dealt == 2 && (w & 0xFFFF) >= 10000))
+                return refused(12, place);
+        } else if ((w & 0xFFFFF) != FILL && !walk(k, p, w, place)) {
+            return refused(13, place);
+        }
+    }
+    return refused(0, 0);
+}
+
+static vin_answer misplaced_fill(const fast_plan *p, const uint8_t *capture, size_t groups)
+{
+    size_t end = 0, group_end;
+    for (size_t n = 0; n < groups * p->slots; n++) {
+        size_t place = place_of(p, n / p->slots, p->furniture + n % p->slots);
+        if ((load24(capture + 3 * place) & 0xFFFFF) != FILL)
+            end = n + 1;
+    }
+    group_end = (end + p->slots - 1) / p->slots * p->slots;
+    for (size_t n = 0; n < groups * p->slots; n++) {
+        size_t place = place_of(p, n / p->slots, p->furniture + n % p->slots);
+        uint32_t w = load24(capture + 3 * place);
+        if ((w & 0xFFFFF) == FILL && (n < end || n >= group_end || (w & (p->parity ? 0x7FFFFF : 0xFFFFFF)) != FILL))
+            return refused(14, place);
+    }
+    return refused(0, 0);
+}
+
+vin_answer refuse_capture(const fast_plan *p, const uint8_t *capture, size_t capture_len, int closed)
+{
+    walker k = {FREE, 0, FREE, 0, 0};
+    size_t groups = capture_len / p->group_bytes;
+    vin_answer a;
+    for (size_t group = 0; group < groups; group++) {
+        a = stored_fault(p, capture, group);
+        if (a.number == 0)
+            a = dealt_fault(p, capture, group, &k);
+        if (a.number != 0)
+            return a;
+    }
+    if (k.next != FREE)
+        return refused(13, k.first);
+    if (closed) {
+        a = misplaced_fill(p, capture, groups);
+        if (a.number != 0)
+            return a;
+    }
+    k.bits += 4;
+    if ((k.bits + 7) / 8 <= VIN_LOG_MAX)
+        abort(); /* the quick way refused what has no fault */
+    return refused(6, (k.bits + 7) / 8);
+}

@@ -1,0 +1,206 @@
+#include "traffic.h"
+
+#include <stdio.h>
+#include <string.h>
+
+/* ==== Drawing ==== */
+
+static uint64_t state;
+
+static uint32_t draw(uint32_t below)
+{
+    state ^= state << 13;
+    state ^= state >> 7;
+    state ^= state << 17;
+    return (uint32_t)((state >> 32) * below >> 32);
+}
+
+/* ==== The log ==== */
+
+static size_t bit, words;
+
+static void put(traffic *t, uint32_t width, uint64_t value)
+{
+    for (; width > 0; width--, bit++)
+        if (value >> (width - 1) & 1)
+            t->log[bit / 8] |= (uint8_t)(0x80 >> bit % 8);
+}
+
+static void put_tag(traffic *t)
+{
+    put(t, 16, draw(65536));
+    put(t, 16, draw(65536));
+    put(t, 14, draw(10000));
+    words += 3;
+}
+
+static void command(traffic *t, uint32_t bus, uint32_t b, uint32_t tagged)
+{
+    put(t, 8, 1 << 4 | bus);
+    put(t, 2, 2 * b + tagged);
+    put(t, 16, draw(65536));
+    words += 1;
+    if (tagged)
+        put_tag(t);
+}
+
+static void status(traffic *t, uint32_t bus, uint32_t b, uint32_t timed)
+{
+    put(t, 8, 2 << 4 | bus);
+    put(t, 2, 2 * b + timed);
+    put(t, 16, draw(65536));
+    if (timed)
+        put(t, 14, draw(10000));
+    words += 1 + timed;
+}
+
+static void data(traffic *t, uint32_t kind, uint32_t bus, uint32_t b)
+{
+    put(t, 8, kind << 4 | bus);
+    put(t, 1, b);
+    put(t, 16, draw(65536));
+    words += 1;
+}
+
+static void arinc(traffic *t, uint32_t bus, uint32_t tagged)
+{
+    put(t, 8, 5 << 4 | bus);
+    put(t, 3, 2 * draw(4) + tagged);
+    put(t, 32, (uint64_t)draw(65536) * 65521);
+    words += 2;
+    if (tagged)
+        put_tag(t);
+}
+
+static void notice(traffic *t, uint32_t bus)
+{
+    put(t, 8, 6 << 4 | bus);
+    put(t, 10, draw(1024));
+    words += 1;
+}
+
+static void overflow(traffic *t, uint32_t bus)
+{
+    put(t, 8, 8 << 4 | bus);
+    put(t, 16, draw(65536));
+    words += 1;
+}
+
+/* ==== Kinds of traffic: each puts one item, or one message of a few ==== */
+
+/* A message: a command with its time, up to 32 data words, a status with its response time, all on channel A or all on B. */
+static void traffic_1553(traffic *t)
+{
+    uint32_t bus = t->tracks == 1 ? draw(4) : 2, b = draw(2), n = 1 + draw(32);
+    command(t, bus, b, 1);
+    while (n-- > 0)
+        data(t, 3, bus, b);
+    status(t, bus, b, 1);
+}
+
+/* ARINC words of four channels, half of them with their time. */
+static void traffic_arinc(traffic *t)
+{
+    arinc(t, t->tracks == 1 ? 4 + draw(4) : 2, draw(2));
+}
+
+/* Data words, one item each, of channels A and B in no order. */
+static void traffic_single(traffic *t)
+{
+    data(t, 3, 2, draw(2));
+}
+
+/* Every kind of item, drawn. */
+static void traffic_mixed(traffic *t)
+{
+    uint32_t bus = draw(4), b = draw(2), flag = draw(2);
+    switch (draw(9)) {
+    case 0: command(t, bus, b, flag); break;
+    case 1: status(t, bus, b, flag); break;
+    case 2: data(t, 3, bus, b); break;
+    case 3: data(t, 4, bus, b); break;
+    case 4: case 5: arinc(t, 4 + bus, flag); break;
+    case 6: notice(t, 4 + bus); break;
+    case 7: data(t, 7, bus, b); break;
+    default: overflow(t, 4 + bus); break;
+    }
+}
+
+/* ==== Rows ==== */
+
+static const struct {
+    const char *name;
+    void (*put)(traffic *);
+    int many_buses;
+} traffics[] = {{"1553", traffic_1553, 0}, {"ARINC", traffic_arinc, 0}, {"single words", traffic_single, 0}, {"mixed", traffic_mixed, 1}};
+
+static const struct {
+    uint32_t words, tracks, frame_time, crc, parity;
+} plans[] = {{129, 1, 0, 0, 0}, {129, 1, 1, 1, 1}, {511, 1, 0, 0, 0}, {511, 1, 0, 1, 0}, {511, 1, 0, 0, 1}, {511, 1, 1, 1, 1},
+             {129, 4, 0, 0, 0}, {129, 4, 1, 1, 1}, {511, 4, 0, 0, 0}, {511, 4, 1, 1, 1}};
+
+/* Items are put until a log has so many bytes. */
+static const struct {
+    const char *name;
+    size_t bytes;
+} sizes[] = {{"one item", 0}, {"2,000 bytes", 2000}, {"full log", 32768 - 120}};
+
+#define COUNT(a) (int)(sizeof(a) / sizeof *(a))
+
+static void make_log(traffic *t, int kind, size_t bytes)
+{
+    size_t slots = (size_t)t->tracks * (t->words - 1 - t->crc) - 3 * t->frame_time;
+    bit = words = 0;
+    memset(t->log, 0, sizeof t->log);
+    if (bytes == 0) { /* one item, on a bus that every plan of this traffic uses */
+        if (kind == 1)
+            arinc(t, t->tracks == 1 ? 4 : 2, 1);
+        else
+            data(t, 3, 2, 0);
+    }
+    while (bit + 33 * 40 < 8 * bytes)
+        traffics[kind].put(t);
+    put(t, 4, 0);
+    t->log_len = (bit + 7) / 8;
+    t->times_len = t->frame_time ? 8 * ((words + slots - 1) / slots) : 0;
+    for (size_t n = 0; n < t->times_len; n++)
+        t->times[n] = n % 8 < 3 ? 0 : (uint8_t)draw(256);
+}
+
+static void make_kinds(traffic *t, int kind)
+{
+    memset(t->kinds, 0, sizeof t->kinds);
+    if (t->tracks > 1) {
+        t->kinds[2] = kind == 1 ? 2 : 1;
+        return;
+    }
+    for (int bus = 0; bus < 8; bus++)
+        t->kinds[bus] = bus < 4 ? 1 : 2;
+}
+
+int traffic_row(traffic *t, int n)
+{
+    int seen = 0;
+    for (int kind = 0; kind < COUNT(traffics); kind++)
+        for (int plan = 0; plan < COUNT(plans); plan++) {
+            if (traffics[kind].many_buses && plans[plan].tracks > 1)
+                continue;
+            for (int size = 0; size < COUNT(sizes); size++, seen++) {
+                if (seen != n)
+                    continue;
+                state = 88172645463325252u + (uint64_t)n;
+                t->words = plans[plan].words;
+                t->tracks = plans[plan].tracks;
+                t->frame_time = plans[plan].frame_time;
+                t->crc = plans[plan].crc;
+                t->parity = plans[plan].parity;
+                snprintf(t->name, sizeof t->name, "%s, %u x %u%s%s%s, %s", traffics[kind].name, t->words, t->tracks,
+                         t->frame_time ? " time" : "", t->crc ? " crc" : "", t->parity ? " parity" : "", sizes[size].name);
+                make_kinds(t, kind);
+                make_log(t, kind, sizes[size].bytes);
+                t->then_largest = size == COUNT(sizes) - 1 && !t->frame_time && !t->crc;
+                return 1;
+            }
+        }
+    return 0;
+}

@@ -1,0 +1,22 @@
+/* The benchmark's rows: logs of several kinds of traffic, by several plans, of several sizes. */
+#ifndef TRAFFIC_H
+#define TRAFFIC_H
+
+#include <stddef.h>
+#include <stdint.h>
+
+typedef struct {
+    char name[64];
+    uint32_t words, tracks, frame_time, crc, parity;
+    uint8_t kinds[16];
+    uint8_t log[32768];
+    size_t log_len;
+    uint8_t times[8 * 128];
+    size_t times_len;
+    int then_largest; /* the capture is also read with fill up to the limit behind it */
+} traffic;
+
+/* Makes row n; 0 if there is none. */
+int traffic_row(traffic *t, int n);
+
+#endif

@@ -1,0 +1,77 @@
+-- A row of more than 126 times is refused by 5 at the number needed, whatever the log.
+use Prim.Native.Nat.{ℕ, zero, suc, _+_, _*_, _-_, _/_, _%_, _<_, _≤_}
+use native.Mathlib.Nat.{mul-le-mul-right, div-mul-le-self}
+use native.Mathlib.Decide.{decLt}
+use native.Mathlib.Omega.{arith}
+use mathlib.Core.Bool.{Bool, true, false, cond}
+use mathlib.Core.Path.{_≡_, refl, sym, ap, _∙_}
+use mathlib.Core.List.{List, [], _∷_, flatMap}
+use lib.ListN.{length}
+use borrow.Author.Tests.{eq-eqb, ne-eqb}
+use Rattle.format.specs.Compose.{Composed, refused, composeParsed, composed, groupsFor}
+use Rattle.format.specs.Item.{itemWords}
+use Rattle.format.specs.Lists.{Bytes}
+use Rattle.format.specs.Log.{Parsed, items, fault, logOf, onPlan, parsed}
+use Rattle.format.specs.Plan.{lead, legal, rows, slots}
+use Rattle.format.specs.declared.Item.{Item}
+use Rattle.format.specs.declared.Kind.{Kind}
+use Rattle.format.specs.declared.Plan.{Plan}
+use Rattle.vinculampe.specs.Numbers.{timesFrom}
+use Rattle.vinculampe.specs.Interface.{composedBytes, ragged, raggedParsed}
+use Rattle.vinculampe.proofs.Laws.{Legal, legal-is, log-forth, many, times-wrong, words-few}
+use Rattle.vinculampe.proofs.Times.{times-number}
+
+slots-many : (p : Plan) (ks : List Kind) → Legal p ks → 123 ≤ slots p
+unfolding slots lead
+slots-many p ks l = go (p .«frame_time»)
+  where
+    go : (b : Bool) → 123 ≤ p .tracks * rows p - cond b 3 0
+    go true = omega (arith, many p ks l)
+    go false = omega (arith, many p ks l)
+
+groups-few : (p : Plan) (ks : List Kind) → Legal p ks → (n : ℕ) → n ≤ 15420 → groupsFor p n ≤ 126
+unfolding groupsFor
+groups-few p ks l n h = go (decLt ((n + slots p - 1) / slots p) 127)
+  where
+    go : Dec ((n + slots p - 1) / slots p < 127) → (n + slots p - 1) / slots p ≤ 126
+    go (yes k) = omega arith
+    go (no k) =
+        let m : 127 ≤ (n + slots p - 1) / slots p = omega arith in
+        absurd (omega (arith, slots-many p ks l, div-mul-le-self (n + slots p - 1) (slots p), mul-le-mul-right (slots p) m))
+
+needed-few : (b : Bool) (n : ℕ) → n ≤ 126 → cond b n 0 ≤ 126
+needed-few true n h = h
+needed-few false n h = omega arith
+
+module _ (p : Plan) (ks : List Kind) (log : List ℕ) (w : Bytes log) where
+  pub row-full : (times : List ℕ) (room : ℕ) → 126 < length times → composed p ks log times room ≡ ragged p ks log
+  unfolding composed ragged
+  row-full times room h = go (legal p ks) refl
+    where
+      of : legal p ks ≡ true → (r : Parsed) → parsed (onPlan ks) log ≡ r → composeParsed p times room r ≡ raggedParsed p r
+      of e (fault n q) g = refl
+      of e (items is) g =
+          let f = log-forth (onPlan ks) log is w g in
+          let n = groups-few p ks (legal-is p ks e) (length (flatMap itemWords is)) (words-few is (rw (f .0) (f .2))) in
+          let k = needed-few (p .«frame_time») (groupsFor p (length (flatMap itemWords is))) n in
+          times-wrong p times room (flatMap itemWords is) (λ z. absurd (omega (arith, k, z)))
+
+      go : (b : Bool) → legal p ks ≡ b
+          → cond b (composeParsed p times room (parsed (onPlan ks) log)) (refused 1 0) ≡ cond b (raggedParsed p (parsed (onPlan ks) log)) (refused 1 0)
+      go true e = of e (parsed (onPlan ks) log) refl
+      go false e = refl
+
+  -- a run that is not whole eights, and one of more than 126
+  pub not-eights : (row times : List ℕ) (room : ℕ) → 126 < length row → (length times % 8 ≡ 0 → ⊥) → composedBytes p ks log times room ≡ composed p ks log row room
+  unfolding composedBytes
+  not-eights row times room h z = rw (ne-eqb (length times % 8) 0 z) (sym (row-full row room h))
+
+  pub too-many : (row times : List ℕ) (room : ℕ) → 126 < length row → length times % 8 ≡ 0 → 1008 < length times → composedBytes p ks log times room ≡ composed p ks log row room
+  unfolding composedBytes
+  too-many row times room h z k =
+      let n : 126 < length (timesFrom times) = rw (times-number times) (omega arith) in
+      rw (eq-eqb (length times % 8) 0 z) (row-full (timesFrom times) room n ∙ sym (row-full row room h))
+
+pub eights : (p : Plan) (ks : List Kind) (log times : List ℕ) (room : ℕ) → length times % 8 ≡ 0 → composedBytes p ks log times room ≡ composed p ks log (timesFrom times) room
+unfolding composedBytes
+eights p ks log times room z = rw (eq-eqb (length times % 8) 0 z)

@@ -1,0 +1,3 @@
+-- What the C interface answers, from numbers and byte runs.
+pub mod Numbers
+pub mod Interface

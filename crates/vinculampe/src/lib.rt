@@ -1,0 +1,218 @@
+// Vinculampe's entry points: composing and both readings, from Rattle and from C (document 01, "Programs").
+
+ghost use mathlib.Core.Path.{_≡_};
+ghost use mathlib.Core.Bool.{cond, false, true};
+ghost use Prim.Native.Nat.{_/_, _<_, _≤_};
+ghost use lib.Dec.{leb};
+ghost use lib.ListN.{length};
+ghost use Rattle.format.specs.Answer.{composeAnswer, outAfter, refusal};
+ghost use Rattle.format.specs.Read.{reading};
+ghost use Rattle.readings.specs.ReadGiven.{Given};
+ghost use Rattle.vinculampe.specs.Interface.{composedBytes, composedFrom, GivenBytes, readingFrom};
+use crate::numbers::kinds_from;
+use crate::numbers::named;
+use crate::numbers::plan_from;
+use crate::numbers::put_times;
+use crate::numbers::times_from;
+use format::Answer;
+use format::Kind;
+use format::Plan;
+
+mod numbers;
+
+pub use composing::compose;
+pub use readings::read;
+pub use readings::read_closed;
+
+// "A plan number that names no choice or kind is 1."
+fn unnamed() -> Answer
+    ensures { λ r. ⌜ r ≡ refusal 1 0 ⌝ }
+{
+    Answer {
+        number: 1,
+        place: 0,
+        second: 0,
+        bytes: 0,
+        times: 0,
+    }
+}
+
+// No log needs more than 126 times, so a full row is a wrong number of them whatever the log.
+fn compose_bytes(plan: Plan, kinds: [Kind; 16], log: &[u8], times: &[u8], out: &mut [u8]) -> Answer
+    ensures { λ r. ⌜ (r ≡ composeAnswer (composedBytes plan kinds (now (log .entry)) (now (times .entry)) (length (now (out .entry)))))
+        × (now (out .exit) ≡ outAfter (composedBytes plan kinds (now (log .entry)) (now (times .entry)) (length (now (out .entry)))) (now (out .entry))) ⌝ }
+{
+    let mut row = [0u64; 127];
+    if times.len() % 8 != 0 {
+        return compose(plan, kinds, log, &row, out);
+    }
+    if 1008 < times.len() {
+        return compose(plan, kinds, log, &row, out);
+    }
+    let number = times.len() / 8;
+    times_from(times, &mut row);
+    compose(plan, kinds, log, &row[..number], out)
+}
+
+#[no_mangle]
+pub extern "C" fn vin_compose(
+    words: u32,
+    tracks: u32,
+    frame_time: u32,
+    crc: u32,
+    parity: u32,
+    kinds: &[u8],
+    log: &[u8],
+    times: &[u8],
+    out: &mut [u8],
+) -> Answer
+    ensures { λ r. ⌜ (r ≡ composeAnswer (composedFrom words tracks «frame_time» crc parity (now (kinds .entry)) (now (log .entry)) (now (times .entry)) (length (now (out .entry)))))
+        × (now (out .exit) ≡ outAfter (composedFrom words tracks «frame_time» crc parity (now (kinds .entry)) (now (log .entry)) (now (times .entry)) (length (now (out .entry)))) (now (out .entry))) ⌝ }
+{
+    if named(frame_time, crc, parity, kinds) {
+        let plan = plan_from(words, tracks, frame_time, crc, parity);
+        return compose_bytes(plan, kinds_from(kinds), log, times, out);
+    }
+    unnamed()
+}
+
+fn read_either(
+    closed: bool,
+    plan: Plan,
+    kinds: [Kind; 16],
+    capture: &[u8],
+    log: &mut [u8],
+    times: &mut [u64],
+) -> Answer
+    ensures { λ r. ⌜ Given (reading closed plan kinds (now (capture .entry)) (length (now (log .entry))) (length (now (times .entry)))) r (now (log .entry)) (now (log .exit)) (now (times .entry)) (now (times .exit)) ⌝ }
+{
+    if closed {
+        return read_closed(plan, kinds, capture, log, times);
+    }
+    read(plan, kinds, capture, log, times)
+}
+
+fn least(a: usize, b: usize) -> usize
+    ensures { λ r. ⌜ r ≡ cond (leb a b) a b ⌝ }
+{
+    if a <= b {
+        return a;
+    }
+    b
+}
+
+// By way of a row that has an entry for every time that there is room for, or that a capture can have.
+fn read_by(
+    closed: bool,
+    plan: Plan,
+    kinds: [Kind; 16],
+    capture: &[u8],
+    log: &mut [u8],
+    times: &mut [u8],
+    row: &mut [u64],
+) -> Answer
+    requires { ⌜ (length (now row) < length (now times) / 8 → 2709 ≤ length (now row)) ⌝ }
+    ensures { λ r. ⌜ GivenBytes (reading closed plan kinds (now (capture .entry)) (length (now (log .entry))) (length (now (times .entry)) / 8)) r (now (log .entry)) (now (log .exit)) (now (times .entry)) (now (times .exit)) ⌝ }
+{
+    let entries = least(times.len() / 8, row.len());
+    let answer = read_either(closed, plan, kinds, capture, log, &mut row[..entries]);
+    put_times(row, answer.times as usize, times);
+    answer
+}
+
+// No large row is cleared for a small room; a capture has at most 2,709 groups.
+fn read_bytes(
+    closed: bool,
+    plan: Plan,
+    kinds: [Kind; 16],
+    capture: &[u8],
+    log: &mut [u8],
+    times: &mut [u8],
+) -> Answer
+    ensures { λ r. ⌜ GivenBytes (reading closed plan kinds (now (capture .entry)) (length (now (log .entry))) (length (now (times .entry)) / 8)) r (now (log .entry)) (now (log .exit)) (now (times .entry)) (now (times .exit)) ⌝ }
+{
+    if times.len() < 520 {
+        let mut row = [0u64; 64];
+        return read_by(closed, plan, kinds, capture, log, times, &mut row);
+    }
+    let mut row = [0u64; 2709];
+    read_by(closed, plan, kinds, capture, log, times, &mut row)
+}
+
+// One body for both readings.
+fn read_numbers(
+    closed: bool,
+    words: u32,
+    tracks: u32,
+    frame_time: u32,
+    crc: u32,
+    parity: u32,
+    kinds: &[u8],
+    capture: &[u8],
+    log: &mut [u8],
+    times: &mut [u8],
+) -> Answer
+    ensures { λ r. ⌜ GivenBytes (readingFrom closed words tracks «frame_time» crc parity (now (kinds .entry)) (now (capture .entry)) (length (now (log .entry))) (length (now (times .entry)))) r (now (log .entry)) (now (log .exit)) (now (times .entry)) (now (times .exit)) ⌝ }
+{
+    if named(frame_time, crc, parity, kinds) {
+        let plan = plan_from(words, tracks, frame_time, crc, parity);
+        return read_bytes(closed, plan, kinds_from(kinds), capture, log, times);
+    }
+    unnamed()
+}
+
+#[no_mangle]
+pub extern "C" fn vin_read(
+    words: u32,
+    tracks: u32,
+    frame_time: u32,
+    crc: u32,
+    parity: u32,
+    kinds: &[u8],
+    capture: &[u8],
+    log: &mut [u8],
+    times: &mut [u8],
+) -> Answer
+    ensures { λ r. ⌜ GivenBytes (readingFrom false words tracks «frame_time» crc parity (now (kinds .entry)) (now (capture .entry)) (length (now (log .entry))) (length (now (times .entry)))) r (now (log .entry)) (now (log .exit)) (now (times .entry)) (now (times .exit)) ⌝ }
+{
+    read_numbers(
+        false,
+        words,
+        tracks,
+        frame_time,
+        crc,
+        parity,
+        kinds,
+        capture,
+        log,
+        times,
+    )
+}
+
+#[no_mangle]
+pub extern "C" fn vin_read_closed(
+    words: u32,
+    tracks: u32,
+    frame_time: u32,
+    crc: u32,
+    parity: u32,
+    kinds: &[u8],
+    capture: &[u8],
+    log: &mut [u8],
+    times: &mut [u8],
+) -> Answer
+    ensures { λ r. ⌜ GivenBytes (readingFrom true words tracks «frame_time» crc parity (now (kinds .entry)) (now (capture .entry)) (length (now (log .entry))) (length (now (times .entry)))) r (now (log .entry)) (now (log .exit)) (now (times .entry)) (now (times .exit)) ⌝ }
+{
+    read_numbers(
+        true,
+        words,
+        tracks,
+        frame_time,
+        crc,
+        parity,
+        kinds,
+        capture,
+        log,
+        times,
+    )
+}

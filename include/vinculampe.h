@@ -1,0 +1,362 @@
+/* vinculampe.h: MIL-STD-1553 and ARINC 429 traffic in 24-bit PCM words of IRIG 106 Chapter 8, and
+ * back.
+ *
+ * Composing makes a capture (PCM frames) of a house log and frame times. Reading gives log and
+ * times back. There are three functions, below: vin_compose, vin_read and vin_read_closed; and over
+ * them vin_plan_compose, vin_plan_read and vin_plan_read_closed, which take the plan as a struct
+ * and null pointers for runs of length 0. C99 or later, or C++. Link with libvinculampe.a (x86-64,
+ * System V calling convention).
+ *
+ * What every function promises
+ *   - Every input is taken. Either the work is done and the answer's number is 0, or the call is
+ *     refused by a number from 1 to 14 with a place, both fixed for each input (enum vin_number).
+ *     The earliest fault in the stated order is the one returned.
+ *   - A refused call has changed no lent byte. A successful call has changed only the lengths it
+ *     answers; beyond them the lent buffers keep their old content.
+ *   - What was composed reads back to the same log and times. The closed reading accepts a capture
+ *     exactly when some log and times compose to those very bytes; there is only one such log, and
+ *     that is what it returns.
+ *
+ * What the caller promises
+ *   - A pointer is valid for its length. vin_compose, vin_read and vin_read_closed take no null
+ *     pointer, not even with length 0; the vin_plan_ functions do.
+ *   - The runs of one call that are written (out; log and times of a reading) overlap no other run
+ *     of that call. Runs that are only read may overlap each other.
+ *
+ * Threads: the functions keep nothing between calls and use no heap, no global and no file. They
+ * may be called from any number of threads at once, as long as no run that one call writes is used
+ * elsewhere meanwhile.
+ *
+ * An example: a log of one data word, composed and read back.
+ *
+ *     // kind 3, bus 2, A, BEEF, the end mark
+ *     static const uint8_t log[] = {0x32, 0x5F, 0x77, 0x80};
+ *     static uint8_t capture[VIN_COMPOSED_MAX], back[VIN_LOG_MAX];
+ *     vin_plan plan = {129, 1, 0, 0, 1, {0}}; // 129 words, 1 track, parity
+ *     plan.kinds[2] = VIN_KIND_1553;
+ *     vin_answer a = vin_plan_compose(&plan, log, sizeof log, NULL, 0, capture, sizeof capture);
+ *     if (a.number != VIN_DONE)
+ *         fprintf(stderr, "%s at %llu\n", vin_text(a.number), (unsigned long long)a.place);
+ *     a = vin_plan_read_closed(&plan, capture, a.bytes, back, sizeof back, NULL, 0);
+ *     // a.number is VIN_DONE, a.bytes is 4, and back begins with the bytes of log
+ */
+#ifndef VINCULAMPE_H
+#define VINCULAMPE_H
+
+#include <stddef.h>
+#include <stdint.h>
+
+#ifdef __cplusplus
+extern "C" {
+#endif
+
+/* ==== The plan ===================================================================================
+ *
+ *   words       L, the words of a frame, the sync word counted: 129 to 511
+ *   tracks      T, the frames of a group: 1 to 4
+ *   frame_time  1: three frame time words open every group; 0: none
+ *   crc         1: the last word of every frame is the CRC word; 0: it is a data slot
+ *   parity      1: bit 1 of a word makes its number of ones odd, and bits 2-4 hold the bus;
+ *               0: bits 1-4 hold the bus
+ *   kinds       sixteen bytes, one for each bus code 0 to 15: enum vin_kind
+ *
+ * Illegal, and refused by VIN_PLAN: words or tracks outside; tracks above 1 with other than exactly
+ * one used bus; parity with a used bus above 7; a yes/no choice that is not 0 or 1; a kind above 2;
+ * kinds_len other than 16. One track with no used bus is legal. */
+
+enum vin_kind {
+    VIN_KIND_UNUSED = 0,
+    VIN_KIND_1553 = 1, /* MIL-STD-1553 */
+    VIN_KIND_ARINC = 2 /* ARINC 429 */
+};
+
+/* ==== The house log ==============================================================================
+ *
+ * Bit-packed, most significant bit first. Each item is a kind of 4 bits, a bus of 4 bits, and its
+ * fields:
+ *
+ *   1 command        B 1, tagged 1, word 16, and if tagged: high 16, low 16, micro 14     1553 bus
+ *   2 status         B 1, timed 1, word 16, and if timed: response 14                     1553 bus
+ *   3 data           B 1, word 16                                                         1553 bus
+ *   4 bus error      B 1, word 16                                                         1553 bus
+ *   5 ARINC word     channel 2, tagged 1, word 32, and if tagged the same                 ARINC bus
+ *   6 ARINC notice   channel 2, diagnostics 8                                             ARINC bus
+ *   7 user           label 3 rather than 2: 1, word 16                                    either
+ *   8 overflow       word 16                                                              either
+ *
+ * B is 0 for channel A. ARINC channel c is channel c + 1 of Chapter 8's Table 8-3, with the labels
+ * 9 + 2c and 8 + 2c. Micro and response are below 10000. Kind 0 alone, without a bus, ends the log;
+ * zero bits fill its last byte and nothing follows, so the empty log is the byte 00. A log has at
+ * most VIN_LOG_MAX bytes.
+ *
+ * ==== Times ======================================================================================
+ *
+ * A time is 10000 x (65536 x high + low) + micro microseconds and below VIN_TIME_LIMIT. A frame
+ * time crosses as eight bytes, most significant first, one for each group; none at all if frame
+ * time is off.
+ *
+ * ==== The capture ================================================================================
+ *
+ * Whole groups. A group is T frames, track 1 first; a frame is L words; a word is three bytes, bit
+ * 1 first: bus (4 bits), label (4), information (16). Word 1 of each frame is the sync word FAF320.
+ * The other words are dealt row by row: word 2 of track 1, of track 2 and so on, then word 3; first
+ * the three frame time words, then the data slots. Behind the last item's words the slots hold
+ * fill, 01AAAA. The CRC word has bus 0, label 3 and the remainder by X^16 + X^15 + X^2 + 1 over all
+ * earlier words of its frame and 16 zero bits. */
+
+/* ==== Answers ================================================================================= */
+
+typedef struct {
+    uint32_t number; /* VIN_DONE, or the refusal's number: enum vin_number */
+    uint64_t place;  /* the refusal's place; 0 if done */
+    uint64_t second; /* always 0; kept for a second place, so that no caller need be compiled again */
+    uint64_t bytes;  /* composing: bytes of capture written; reading: bytes of log; 0 if refused */
+    uint64_t times;  /* reading: frame times written, of eight bytes each; 0 if refused */
+} vin_answer;
+
+/* C marks a number that composing can answer, R one that the readings can; the order of the checks
+ * stands with each function below. A bit's place counts the log's bits from 0; a word's place counts
+ * the capture's stored words from 0, so that its bytes begin at 3 x place. */
+enum vin_number {
+    VIN_DONE = 0, /* C R  done */
+
+    /* C R  The plan is illegal, or a number names no choice or kind. Place 0. */
+    VIN_PLAN = 1,
+
+    /* C    The log is too long, cut, has an unknown kind or a bad ending. Place: the first bit of
+     *      that item or end mark; where the log runs out, the bit where the next kind would stand;
+     *      0 if the log is too long. A log of no bytes is cut at 0. */
+    VIN_LOG = 2,
+
+    /* C    An item's bus is unused or of the wrong kind. Place: the item's first bit. */
+    VIN_BUS = 3,
+
+    /* C    A micro or response of 10000 or more. Place: the item's first bit. */
+    VIN_LIMIT = 4,
+
+    /* C    The number of frame times is wrong, or the run is not whole eights: place is the number
+     *      needed (0 if frame time is off). Or a frame time is VIN_TIME_LIMIT or more: place is its
+     *      index. Number before size. */
+    VIN_TIMES = 5,
+
+    /* C R  The room for the output is too short; or, in reading, the log would be above
+     *      VIN_LOG_MAX, whatever the room. Place: the bytes needed. */
+    VIN_ROOM = 6,
+
+    /* R    The room for frame times is too short. Place: the frame times needed, of eight bytes
+     *      each. */
+    VIN_TIME_ROOM = 7,
+
+    /* R    The capture is above VIN_CAPTURE_MAX bytes or not whole groups. Place: its length in
+     *      bytes. */
+    VIN_CAPTURE = 8,
+
+    /* R    A frame's first word is not FAF320. Place: that word. */
+    VIN_SYNC = 9,
+
+    /* R    With parity, a word other than a frame's first has an even number of ones. Place: that
+     *      word. */
+    VIN_PARITY = 10,
+
+    /* R    A CRC word is wrong in any of its 24 bits. Place: that word. */
+    VIN_CRC = 11,
+
+    /* R    A frame time word has a bus other than 0, another label than its own, or a micro of
+     *      10000 or more. Place: that word. */
+    VIN_FRAME_TIME = 12,
+
+    /* R    A data word starts or continues no item (also fill without AAAA): place is that word. Or
+     *      the capture ends inside an item: place is that item's first word. */
+    VIN_DATA_WORD = 13,
+
+    /* R    Closed reading only: misplaced fill. A data word follows it, or neither its group nor a
+     *      later one has a data word, or its bus is not 0. Place: the earliest such word in dealt
+     *      order. */
+    VIN_FILL = 14
+};
+
+/* A few English words for an answer's number; never null. */
+static inline const char *vin_text(uint32_t number)
+{
+    switch (number) {
+    case VIN_DONE: return "done";
+    case VIN_PLAN: return "the plan is illegal";
+    case VIN_LOG: return "the log is too long, cut, or has an unknown kind or a bad ending";
+    case VIN_BUS: return "an item's bus is unused or of the wrong kind";
+    case VIN_LIMIT: return "a micro or response is 10000 or more";
+    case VIN_TIMES: return "the number of frame times is wrong, or one is too large";
+    case VIN_ROOM: return "the output is too short, or the log would be above 32768 bytes";
+    case VIN_TIME_ROOM: return "the room for frame times is too short";
+    case VIN_CAPTURE: return "the capture is too long or not whole groups";
+    case VIN_SYNC: return "a sync word is wrong";
+    case VIN_PARITY: return "a word's parity is even";
+    case VIN_CRC: return "a CRC word is wrong";
+    case VIN_FRAME_TIME: return "a frame time word is wrong";
+    case VIN_DATA_WORD: return "a data word starts or continues no item, or an item is cut";
+    case VIN_FILL: return "misplaced fill";
+    default: return "no such number";
+    }
+}
+
+/* ==== Limits and sizes ===========================================================================
+ *
+ * The largest capture composed. An item makes at most 5 words of 89 bits (the tagged ARINC word);
+ * every other item needs more bits for a word: a notice 18, a tagged command 72 for 4. A log of n
+ * bytes has 8 n - 4 bits before its end mark, so it makes at most (8 n - 4) x 5 / 89 words, for
+ * 32,768 bytes 14,726. That many it does hold: 2,945 tagged ARINC words and one notice, 262,123 of
+ * 262,140 bits. Groups are whole, so the capture is largest where the last group is nearly all
+ * fill: of all legal plans with L 462, T 4 and CRC. There a group has 4 x 461 - 4 = 1,840 slots
+ * (1,837 with frame time), 8 groups hold 14,720 (14,696) words, and a 9th is needed: 9 x 4 x 462 x
+ * 3 = 49,896 bytes. The most groups are 119: L 129, T 1, CRC and frame time, 124 slots. */
+
+#define VIN_LOG_MAX 32768            /* bytes of a log */
+#define VIN_CAPTURE_MAX 1048576      /* bytes of a capture that is read */
+#define VIN_COMPOSED_MAX 49896       /* bytes of a capture that is composed, by any plan */
+#define VIN_COMPOSED_GROUPS_MAX 119  /* its groups, by any plan */
+#define VIN_READ_GROUPS_MAX 2709     /* groups of a capture that is read: 1,048,576 / (3 x 129) */
+#define VIN_TIME_BYTES 8             /* bytes of a frame time */
+
+/* Times are below this: 10000 x 65536 x 65536 microseconds, 497 days. */
+#define VIN_TIME_LIMIT UINT64_C(42949672960000)
+
+/* For a legal plan: bytes of a group, and its data slots. The arguments of these macros are
+ * evaluated once or more. */
+#define VIN_GROUP_BYTES(words, tracks) ((size_t)3 * (words) * (tracks))
+#define VIN_GROUP_SLOTS(words, tracks, frame_time, crc) \
+    ((size_t)(tracks) * ((words) - 1) - ((crc) ? (size_t)(tracks) : 0) - ((frame_time) ? 3 : 0))
+
+/* Composing a log of log_len bytes, 1 to VIN_LOG_MAX: never more words, groups, bytes of capture
+ * than these. The exact numbers: without frame time, call with out_len 0: refused by VIN_ROOM at
+ * the bytes needed (or done, if the log is empty). With frame time, call with times_len 0: refused
+ * by VIN_TIMES at the number of groups. */
+#define VIN_COMPOSED_WORDS(log_len) ((8 * (size_t)(log_len) - 4) * 5 / 89)
+#define VIN_COMPOSED_GROUPS(log_len, words, tracks, frame_time, crc) \
+    ((VIN_COMPOSED_WORDS(log_len) + VIN_GROUP_SLOTS(words, tracks, frame_time, crc) - 1) / \
+     VIN_GROUP_SLOTS(words, tracks, frame_time, crc))
+#define VIN_COMPOSED_BYTES(log_len, words, tracks, frame_time, crc) \
+    (VIN_COMPOSED_GROUPS(log_len, words, tracks, frame_time, crc) * VIN_GROUP_BYTES(words, tracks))
+
+/* Reading a capture of capture_len bytes: bytes of room for the log and for the frame times that
+ * always suffice. A data word gives at most 26 bits of log (a command or a status of one word), the
+ * end mark 4. For the exact number of the log call with log_len 0: a capture without other faults
+ * is refused by VIN_ROOM at the bytes needed. */
+#define VIN_READ_LOG_BYTES(capture_len) \
+    (VIN_LOG_OF_WORDS_((size_t)(capture_len) / 3) < VIN_LOG_MAX \
+         ? VIN_LOG_OF_WORDS_((size_t)(capture_len) / 3) : VIN_LOG_MAX)
+#define VIN_LOG_OF_WORDS_(words) ((26 * (words) + 4 + 7) / 8)
+#define VIN_READ_GROUPS(capture_len, words, tracks) \
+    ((size_t)(capture_len) / VIN_GROUP_BYTES(words, tracks))
+#define VIN_READ_TIMES_BYTES(capture_len, words, tracks, frame_time) \
+    ((frame_time) ? VIN_TIME_BYTES * VIN_READ_GROUPS(capture_len, words, tracks) : 0)
+
+/* ==== The functions =========================================================================== */
+
+/* Composes a log and frame times into a capture: the fewest groups that hold the items' words, fill
+ * after the last. The empty log gives no bytes.
+ *
+ *   log, log_len       the house log
+ *   times, times_len   one frame time a group, eight bytes each; times_len 0 if frame time is off
+ *   out, out_len       room for the capture; answer.bytes are written
+ *
+ * Checks, in this order: VIN_PLAN; VIN_LOG for the length; the items in order, each for VIN_LOG,
+ * VIN_BUS, VIN_LIMIT; VIN_TIMES; VIN_ROOM. */
+vin_answer vin_compose(uint32_t words, uint32_t tracks,
+                       uint32_t frame_time, uint32_t crc, uint32_t parity,
+                       const uint8_t *kinds, size_t kinds_len,
+                       const uint8_t *log, size_t log_len,
+                       const uint8_t *times, size_t times_len,
+                       uint8_t *out, size_t out_len);
+
+/* Reads a capture. Fill is dropped on any bus in any slot. A capture of no bytes gives the empty log
+ * and no times.
+ *
+ *   capture, capture_len   the capture
+ *   log, log_len           room for the log; answer.bytes are written
+ *   times, times_len       room for the frame times; answer.times of eight bytes each are written.
+ *                          Bytes beyond whole eights count for nothing and stay. If frame time is
+ *                          off nothing is written, and times_len may be 0
+ *
+ * Checks, in this order: VIN_PLAN, VIN_CAPTURE; then group by group: each word as stored (VIN_SYNC
+ * for a frame's first word, VIN_PARITY for any other, VIN_CRC after that for a CRC word), then
+ * VIN_FRAME_TIME, then VIN_DATA_WORD, both in dealt order; after the last group VIN_DATA_WORD for a
+ * cut item, VIN_ROOM, VIN_TIME_ROOM. */
+vin_answer vin_read(uint32_t words, uint32_t tracks,
+                    uint32_t frame_time, uint32_t crc, uint32_t parity,
+                    const uint8_t *kinds, size_t kinds_len,
+                    const uint8_t *capture, size_t capture_len,
+                    uint8_t *log, size_t log_len,
+                    uint8_t *times, size_t times_len);
+
+/* Reads a capture and refuses misplaced fill: accepts exactly what vin_compose makes. As vin_read,
+ * with VIN_FILL checked after the cut item and before VIN_ROOM. */
+vin_answer vin_read_closed(uint32_t words, uint32_t tracks,
+                           uint32_t frame_time, uint32_t crc, uint32_t parity,
+                           const uint8_t *kinds, size_t kinds_len,
+                           const uint8_t *capture, size_t capture_len,
+                           uint8_t *log, size_t log_len,
+                           uint8_t *times, size_t times_len);
+
+/* ==== The same with the plan in a struct, and null pointers of length 0 ==========================
+ *
+ * A null pointer with length 0 becomes a pointer to a byte that is never read nor written. A null
+ * pointer with another length is the caller's fault, as for memcpy. */
+
+typedef struct {
+    uint32_t words, tracks;
+    uint32_t frame_time, crc, parity; /* 0 or 1 */
+    uint8_t kinds[16];                /* enum vin_kind */
+} vin_plan;
+
+static inline const uint8_t *vin_run_(const uint8_t *run)
+{
+    static const uint8_t nothing[1] = {0};
+    return run ? run : nothing;
+}
+
+static inline uint8_t *vin_room_(uint8_t *room)
+{
+    static uint8_t nothing[1];
+    return room ? room : nothing;
+}
+
+static inline vin_answer vin_plan_compose(const vin_plan *plan,
+                                          const uint8_t *log, size_t log_len,
+                                          const uint8_t *times, size_t times_len,
+                                          uint8_t *out, size_t out_len)
+{
+    return vin_compose(plan->words, plan->tracks, plan->frame_time, plan->crc, plan->parity,
+                       plan->kinds, sizeof plan->kinds,
+                       vin_run_(log), log_len,
+                       vin_run_(times), times_len,
+                       vin_room_(out), out_len);
+}
+
+static inline vin_answer vin_plan_read(const vin_plan *plan,
+                                       const uint8_t *capture, size_t capture_len,
+                                       uint8_t *log, size_t log_len,
+                                       uint8_t *times, size_t times_len)
+{
+    return vin_read(plan->words, plan->tracks, plan->frame_time, plan->crc, plan->parity,
+                    plan->kinds, sizeof plan->kinds,
+                    vin_run_(capture), capture_len,
+                    vin_room_(log), log_len,
+                    vin_room_(times), times_len);
+}
+
+static inline vin_answer vin_plan_read_closed(const vin_plan *plan,
+                                              const uint8_t *capture, size_t capture_len,
+                                              uint8_t *log, size_t log_len,
+                                              uint8_t *times, size_t times_len)
+{
+    return vin_read_closed(plan->words, plan->tracks, plan->frame_time, plan->crc, plan->parity,
+                           plan->kinds, sizeof plan->kinds,
+                           vin_run_(capture), capture_len,
+                           vin_room_(log), log_len,
+                           vin_room_(times), times_len);
+}
+
+#ifdef __cplusplus
+}
+#endif
+
+#endif

@@ -1,0 +1,84 @@
+/* include/vinculampe.h as C99 and as C++: its example, and its sizes computed again from the items' bits. */
+#include <stdio.h>
+#include <stdlib.h>
+#include <string.h>
+
+#include "../../include/vinculampe.h"
+
+#define CHECK(claim) \
+    do { \
+        if (!(claim)) { \
+            printf("header: %s\n", #claim); \
+            exit(1); \
+        } \
+    } while (0)
+
+/* Bits and words of the items, tagged ones apart. */
+static const size_t items[10][2] = {{26, 1}, {72, 4}, {26, 1}, {40, 2}, {25, 1}, {43, 2}, {89, 5}, {18, 1}, {25, 1}, {24, 1}};
+
+static size_t most[8 * VIN_LOG_MAX - 3]; /* words that so many bits can hold */
+
+static void fill_most(void)
+{
+    for (size_t bits = 1; bits <= 8 * VIN_LOG_MAX - 4; bits++) {
+        most[bits] = most[bits - 1];
+        for (int n = 0; n < 10; n++)
+            if (items[n][0] <= bits && most[bits - items[n][0]] + items[n][1] > most[bits])
+                most[bits] = most[bits - items[n][0]] + items[n][1];
+    }
+}
+
+/* The largest capture and the most groups, over every legal plan. */
+static void sizes(void)
+{
+    size_t largest = 0, groups_most = 0, all = most[8 * VIN_LOG_MAX - 4];
+    for (size_t words = 129; words < 512; words++)
+        for (size_t tracks = 1; tracks <= 4; tracks++)
+            for (int choices = 0; choices < 4; choices++) {
+                int frame_time = choices & 1, crc = choices >> 1;
+                size_t slots = VIN_GROUP_SLOTS(words, tracks, frame_time, crc), groups = (all + slots - 1) / slots;
+                if (groups * VIN_GROUP_BYTES(words, tracks) > largest)
+                    largest = groups * VIN_GROUP_BYTES(words, tracks);
+                if (groups > groups_most)
+                    groups_most = groups;
+                CHECK(VIN_COMPOSED_GROUPS(VIN_LOG_MAX, words, tracks, frame_time, crc) == groups);
+            }
+    CHECK(all == 14726 && VIN_COMPOSED_WORDS(VIN_LOG_MAX) == all);
+    CHECK(largest == VIN_COMPOSED_MAX && VIN_COMPOSED_BYTES(VIN_LOG_MAX, 462, 4, 0, 1) == largest);
+    CHECK(groups_most == VIN_COMPOSED_GROUPS_MAX);
+    for (size_t bytes = 1; bytes <= VIN_LOG_MAX; bytes++)
+        CHECK(most[8 * bytes - 4] <= VIN_COMPOSED_WORDS(bytes));
+    CHECK(VIN_READ_GROUPS(VIN_CAPTURE_MAX, 129, 1) == VIN_READ_GROUPS_MAX);
+    CHECK(VIN_READ_LOG_BYTES(0) == 1 && VIN_READ_LOG_BYTES(387) == 420 && VIN_READ_LOG_BYTES(VIN_CAPTURE_MAX) == VIN_LOG_MAX);
+    CHECK(VIN_READ_TIMES_BYTES(774, 129, 1, 1) == 16 && VIN_READ_TIMES_BYTES(774, 129, 1, 0) == 0);
+}
+
+static void example(void)
+{
+    static const uint8_t log[] = {0x32, 0x5F, 0x77, 0x80};
+    static uint8_t capture[VIN_COMPOSED_MAX], back[VIN_LOG_MAX];
+    vin_plan plan = {129, 1, 0, 0, 1, {0}};
+    vin_answer a;
+    plan.kinds[2] = VIN_KIND_1553;
+    a = vin_plan_compose(&plan, log, sizeof log, NULL, 0, capture, sizeof capture);
+    CHECK(a.number == VIN_DONE && a.bytes == 387);
+    a = vin_plan_read_closed(&plan, capture, (size_t)a.bytes, back, sizeof back, NULL, 0);
+    CHECK(a.number == VIN_DONE && a.bytes == sizeof log && memcmp(back, log, sizeof log) == 0);
+    a = vin_plan_read(&plan, NULL, 0, back, sizeof back, NULL, 0);
+    CHECK(a.number == VIN_DONE && a.bytes == 1 && back[0] == 0);
+    a = vin_plan_compose(&plan, NULL, 0, NULL, 0, NULL, 0);
+    CHECK(a.number == VIN_LOG && a.place == 0);
+    a = vin_plan_compose(&plan, log, sizeof log, NULL, 0, NULL, 0);
+    CHECK(a.number == VIN_ROOM && a.place == 387);
+    for (uint32_t number = 0; number < 20; number++)
+        CHECK(strlen(vin_text(number)) > 0);
+}
+
+int main(void)
+{
+    fill_most();
+    sizes();
+    example();
+    puts("header: its sizes and its example hold");
+    return 0;
+}

@@ -1,0 +1,141 @@
+/* A libFuzzer target: the library (include/vinculampe.h) against the independent implementation, on whatever bytes the fuzzer makes.
+ *
+ * The input: 10 bytes that make a plan and say what is done with the rest, then the rest.
+ *   byte 0       0 composes the rest as a log; 1 reads the rest as a capture; 2 reads the rest as data words, dealt into groups with
+ *                sync, frame time, parity and CRC made right; 3 as 2, then the last byte of the rest changed something
+ *   bytes 1, 2   the words of a frame; byte 3 tracks, frame time, CRC, parity; bytes 4 to 7 the kinds, two bits a bus
+ *   byte 8       how much more or less room than needed; 192 and more: a group of fill behind
+ *   byte 9       how many more bytes of times than needed, or the change of 3 */
+#include <stdlib.h>
+#include <string.h>
+
+#include "../../include/vinculampe.h"
+#include "../../independent/rules.h"
+
+#define CAPTURE_ROOM 400000
+
+static uint8_t run_a[CAPTURE_ROOM], made[CAPTURE_ROOM], made_too[CAPTURE_ROOM], times[CAPTURE_ROOM], times_made[CAPTURE_ROOM],
+    times_made_too[CAPTURE_ROOM];
+
+typedef struct {
+    uint32_t words, tracks, frame_time, crc, parity;
+    uint8_t kinds[16];
+} numbers;
+
+#define PLAN n->words, n->tracks, n->frame_time, n->crc, n->parity, n->kinds, 16
+
+static void must_be_same(vin_answer a, ind_answer b)
+{
+    if (a.number != b.number || a.place != b.place || a.second != b.second || a.bytes != b.bytes || a.times != b.times)
+        abort();
+    if (memcmp(made, made_too, sizeof made) != 0 || memcmp(times_made, times_made_too, sizeof times_made) != 0)
+        abort();
+}
+
+static vin_answer compose(const numbers *n, const uint8_t *log, size_t log_len, size_t times_len, size_t room)
+{
+    vin_answer a = vin_compose(PLAN, log, log_len, times, times_len, made, room);
+    must_be_same(a, ind_compose(PLAN, log, log_len, times, times_len, made_too, room));
+    return a;
+}
+
+static vin_answer read_both(const numbers *n, const uint8_t *capture, size_t length, size_t log_room, size_t times_room)
+{
+    vin_answer a = vin_read(PLAN, capture, length, made, log_room, times_made, times_room), c;
+    must_be_same(a, ind_read(PLAN, capture, length, made_too, log_room, times_made_too, times_room));
+    c = vin_read_closed(PLAN, capture, length, made, log_room, times_made, times_room);
+    must_be_same(c, ind_read_closed(PLAN, capture, length, made_too, log_room, times_made_too, times_room));
+    if (c.number == 0 && (a.number != 0 || a.bytes != c.bytes || a.times != c.times)) /* where closed accepts, plain does */
+        abort();
+    return c;
+}
+
+/* What the closed reading accepts composes to those very bytes. */
+static void closed_means_composed(const numbers *n, const uint8_t *capture, size_t length, vin_answer c)
+{
+    static uint8_t log[VIN_LOG_MAX];
+    memcpy(log, made, c.bytes);
+    memcpy(times, times_made, 8 * c.times);
+    c = compose(n, log, c.bytes, 8 * c.times, sizeof made);
+    if (c.number != 0 || c.bytes != length || memcmp(made, capture, length) != 0)
+        abort();
+}
+
+/* Data words dealt into groups, and so many groups of fill behind; all else is right. */
+static size_t deal(const plan *p, const uint8_t *rest, size_t size, uint64_t more)
+{
+    uint64_t slots = group_slots(p), groups = (size / 3 + slots - 1) / slots + more;
+    if (3 * groups * group_words(p) > CAPTURE_ROOM)
+        groups = CAPTURE_ROOM / (3 * group_words(p));
+    for (uint64_t k = 0; k < groups * group_words(p); k++)
+        store(run_a, k, k % p->length == 0 ? SYNC : sent(p, fill()));
+    for (uint64_t g = 0; g < groups; g++) {
+        for (uint64_t k = 0; k < furniture(p); k++)
+            store(run_a, dealt_place(p, g, k), sent(p, (word){0, LABEL_HIGH - (uint32_t)k, (uint32_t)(g * 777 % 10000)}));
+        for (uint64_t k = 0; k < slots && 3 * (g * slots + k) + 2 < size; k++)
+            store(run_a, dealt_place(p, g, furniture(p) + k), sent(p, received(p, stored(rest, g * slots + k))));
+        for (uint32_t t = 0; t < p->tracks && p->crc; t++) {
+            uint8_t *frame = run_a + 3 * (g * group_words(p) + (uint64_t)t * p->length);
+            store(frame, p->length - 1, crc_word(p, frame));
+        }
+    }
+    return 3 * groups * group_words(p);
+}
+
+static void composing(const numbers *n, const uint8_t *rest, size_t size, int8_t less, int8_t odd_times)
+{
+    size_t times_len;
+    vin_answer a = compose(n, rest, size, 0, 0);
+    if (a.number == VIN_TIMES || a.number == VIN_ROOM) {
+        times_len = a.number == VIN_TIMES ? 8 * a.place : 0;
+        for (size_t k = 0; k < times_len + 128; k++)
+            times[k] = k % 8 < 3 ? 0 : (uint8_t)(k * 37);
+        a = compose(n, rest, size, times_len, 0);
+        compose(n, rest, size, times_len + (size_t)(odd_times > 0 ? odd_times : 0), a.place + (size_t)(less > 0 ? less : 0));
+        if (a.place > 0)
+            compose(n, rest, size, times_len, a.place - 1);
+        a = compose(n, rest, size, times_len, a.place);
+        memcpy(run_a, made, a.bytes);
+        a = read_both(n, run_a, a.bytes, VIN_LOG_MAX, times_len);
+        if (a.number != 0 || a.bytes != size || memcmp(made, rest, size) != 0) /* what was composed reads back */
+            abort();
+    }
+}
+
+int LLVMFuzzerTestOneInput(const uint8_t *data, size_t size)
+{
+    numbers numbers_of_plan = {0, 0, 0, 0, 0, {0}}, *n = &numbers_of_plan;
+    const uint8_t *rest = data + 10;
+    size_t length;
+    plan p;
+    vin_answer c;
+    if (size < 10)
+        return 0;
+    size -= 10;
+    n->words = ((uint32_t)data[1] << 8 | data[2]) % 640;
+    n->tracks = 1 + (data[3] >> 6);
+    n->frame_time = data[3] >> 1 & 1;
+    n->crc = data[3] >> 2 & 1;
+    n->parity = data[3] >> 3 & 1;
+    for (int bus = 0; bus < 16; bus++)
+        n->kinds[bus] = data[4 + bus / 4] >> (6 - 2 * (bus % 4)) & 3;
+    if (data[0] % 4 == 0) {
+        composing(n, rest, size, (int8_t)data[8], (int8_t)data[9]);
+        return 0;
+    }
+    if (size > CAPTURE_ROOM)
+        return 0;
+    memcpy(run_a, rest, size);
+    length = size;
+    if (data[0] % 4 > 1 && plan_of(&p, n->words, n->tracks, n->frame_time, n->crc, n->parity, n->kinds, 16)) {
+        length = deal(&p, rest, size, data[8] >= 192);
+        if (data[0] % 4 == 3 && length > 0 && size > 0)
+            run_a[rest[size - 1] * (length - 1) / 255] ^= data[9] | 1;
+    }
+    c = read_both(n, run_a, length, VIN_LOG_MAX, 8 * VIN_READ_GROUPS_MAX);
+    if (c.number == 0) {
+        closed_means_composed(n, run_a, length, c);
+        read_both(n, run_a, length, c.bytes - 1 + data[8] % 3, c.times * 8 + data[9] % 17 - (c.times > 0 ? 8 : 0));
+    }
+    return 0;
+}
