@@ -11,76 +11,57 @@ use Rattle.vinculampe.proofs.Laws.{bytes-of}
 use borrow.Author.Needs.{needs}
 use Rattle.vinculampe.proofs.compose_bytes.Statement.{statement}
 use Rattle.vinculampe.proofs.compose_bytes.Tie as tie
-use Rattle.vinculampe.proofs.compose_bytes.Reads as reads
-use Rattle.vinculampe.proofs.compose_bytes.Lts as lts
-use Rattle.composing.proofs.compose.Reads as compose-reads
-use Rattle.vinculampe.proofs.numbers.times_from.Reads as times-from-reads
 
--- src/lib.rt:47:42
 slice-aggregate-compose : tie.Need-slice-aggregate-compose
 slice-aggregate-compose c = search needs
 
--- src/lib.rt:47:9
 compose-requires : tie.Need-compose-requires
 compose-requires c κs = search needs
 
--- src/lib.rt:47:9
 same-length : tie.Need-same-length
 same-length c = search needs
 
--- src/lib.rt:47:9
 returns : tie.Need-returns
 returns c =
     let a = c .before .before .before .before .before .before .before .before .before .args in
     rw (not-eights (a .plan) (a .kinds) (a .log .now) (bytes-of (a .log .now) (λ i. omega (arith, c .before .before .before .before .before .before .before .before .shared-slice-known .given i))) (replicate 127 0) (a .times .now) (length (a .out .now)) (omega arith) (c .before .before .before .before .before .if1 .taken))
     (c .before .before .compose .ensures)
 
--- src/lib.rt:50:42
 slice-aggregate-compose-2 : tie.Need-slice-aggregate-compose-2
 slice-aggregate-compose-2 c = search needs
 
--- src/lib.rt:50:9
 compose-requires-2 : tie.Need-compose-requires-2
 compose-requires-2 c κs = search needs
 
--- src/lib.rt:50:9
 same-length-2 : tie.Need-same-length-2
 same-length-2 c = search needs
 
--- src/lib.rt:50:9
 returns-2 : tie.Need-returns-2
 returns-2 c =
     let a = c .before .before .before .before .before .before .before .before .before .before .args in
     rw (too-many (a .plan) (a .kinds) (a .log .now) (bytes-of (a .log .now) (λ i. omega (arith, c .before .before .before .before .before .before .before .before .before .shared-slice-known .given i))) (replicate 127 0) (a .times .now) (length (a .out .now)) (omega arith) (c .before .before .before .before .before .before .if1 .left) (c .before .before .before .before .before .if2 .taken))
     (c .before .before .compose2 .ensures)
 
--- src/lib.rt:53:23
 slice-aggregate-times-from : tie.Need-slice-aggregate-times-from
 slice-aggregate-times-from c = search needs
 
--- src/lib.rt:53:5
 times-from-requires : tie.Need-times-from-requires
 times-from-requires c κs = search needs
 
--- src/lib.rt:54:31
 array-share-prefix-row : tie.Need-array-share-prefix-row
 array-share-prefix-row c = search needs
 
--- src/lib.rt:54:31
 slice-aggregate-compose-3 : tie.Need-slice-aggregate-compose-3
 slice-aggregate-compose-3 c =
     let s = c .before .before .before .before .before .before .before .before .before .args .times .now in
     sym (ap (λ (l : List ℕ). length (take (length s / 8) l)) (c .before .before .times-from .ensures) ∙ ap length (row-taken s (replicate 127 0)) ∙ times-number s)
 
--- src/lib.rt:54:5
 compose-requires-3 : tie.Need-compose-requires-3
 compose-requires-3 c κs = search needs
 
--- src/lib.rt:41:1
 same-length-3 : tie.Need-same-length-3
 same-length-3 c = search needs
 
--- src/lib.rt:41:1
 returns-3 : tie.Need-returns-3
 returns-3 c =
     let a = c .before .before .before .before .before .before .before .before .before .before .before .before .before .args in

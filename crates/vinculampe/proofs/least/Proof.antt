@@ -1,15 +1,10 @@
 use borrow.Author.Tests.{le-leb, lt-leb}
-use borrow.Author.Needs.{needs}
 use Rattle.vinculampe.proofs.least.Statement.{statement}
 use Rattle.vinculampe.proofs.least.Tie as tie
-use Rattle.vinculampe.proofs.least.Reads as reads
-use Rattle.vinculampe.proofs.least.Lts as lts
 
--- src/lib.rt:99:9
 returns : tie.Need-returns
 returns c = rw (le-leb _ _ (c .if1 .taken))
 
--- src/lib.rt:95:1
 returns-2 : tie.Need-returns-2
 returns-2 c = rw (lt-leb _ _ (c .if1 .left))
 

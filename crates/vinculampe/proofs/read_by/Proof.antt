@@ -9,29 +9,19 @@ use Rattle.vinculampe.proofs.Rooms.{few-times, given-bytes, given-few, 
 use borrow.Author.Needs.{needs}
 use Rattle.vinculampe.proofs.read_by.Statement.{statement}
 use Rattle.vinculampe.proofs.read_by.Tie as tie
-use Rattle.vinculampe.proofs.read_by.Reads as reads
-use Rattle.vinculampe.proofs.read_by.Lts as lts
-use Rattle.vinculampe.proofs.least.Reads as least-reads
-use Rattle.vinculampe.proofs.numbers.put_times.Reads as put-times-reads
-use Rattle.vinculampe.proofs.read_either.Reads as read-either-reads
 
--- src/lib.rt:117:9
 least-requires : tie.Need-least-requires
 least-requires c κs = search needs
 
--- src/lib.rt:118:65
 slice-relend-prefix-read-either : tie.Need-slice-relend-prefix-read-either
 slice-relend-prefix-read-either c = let a = c .before .before .before .before .before .before .args in least-both (length (a .times .now) / 8) (length (a .row .now)) (c .before .least .result) (c .before .least .ensures) .1
 
--- src/lib.rt:118:65
 slice-aggregate-read-either : tie.Need-slice-aggregate-read-either
 slice-aggregate-read-either c = let a = c .before .before .before .before .before .before .before .args in sym (length-take-le (c .before .before .least .result) (a .row .now) (least-both (length (a .times .now) / 8) (length (a .row .now)) (c .before .before .least .result) (c .before .before .least .ensures) .1))
 
--- src/lib.rt:118:9
 read-either-requires : tie.Need-read-either-requires
 read-either-requires c κs = search needs
 
--- src/lib.rt:119:5
 put-times-requires : tie.Need-put-times-requires
 put-times-requires c κs =
     let a = c .before .before .before .before .before .before .before .before .before .before .before .before .before .before .args in
@@ -47,19 +37,15 @@ put-times-requires c κs =
     let there : r .times ≤ length (part′ ++ drop k (a .row .now)) = rw (length-append part′ (drop k (a .row .now))) (omega (arith, given-there r (a .log .now) log′ part part′ g (c .before .before .before .before .before .before .read-either .ensures))) in
     (there, omega (arith, few, long, least .0))
 
--- src/lib.rt:105:1
 same-length : tie.Need-same-length
 same-length c = search needs
 
--- src/lib.rt:105:1
 same-length-2 : tie.Need-same-length-2
 same-length-2 c = search needs
 
--- src/lib.rt:105:1
 same-length-3 : tie.Need-same-length-3
 same-length-3 c = search needs
 
--- src/lib.rt:105:1
 returns : tie.Need-returns
 returns c =
     let a = c .before .before .before .before .before .before .before .before .before .before .before .before .before .before .before .before .before .args in

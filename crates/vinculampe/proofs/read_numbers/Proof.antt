@@ -4,39 +4,25 @@ use Rattle.vinculampe.proofs.NamedKinds.{read-named, read-unnamed, sixt
 use borrow.Author.Needs.{needs}
 use Rattle.vinculampe.proofs.read_numbers.Statement.{statement}
 use Rattle.vinculampe.proofs.read_numbers.Tie as tie
-use Rattle.vinculampe.proofs.read_numbers.Reads as reads
-use Rattle.vinculampe.proofs.read_numbers.Lts as lts
-use Rattle.vinculampe.proofs.numbers.kinds_from.Reads as kinds-from-reads
-use Rattle.vinculampe.proofs.numbers.named.Reads as named-reads
-use Rattle.vinculampe.proofs.numbers.plan_from.Reads as plan-from-reads
-use Rattle.vinculampe.proofs.read_bytes.Reads as read-bytes-reads
-use Rattle.vinculampe.proofs.unnamed.Reads as unnamed-reads
 
--- src/lib.rt:157:8
 named-requires : tie.Need-named-requires
 named-requires c κs = search needs
 
--- src/lib.rt:158:13
 plan-from-requires : tie.Need-plan-from-requires
 plan-from-requires c κs = search needs
 
--- src/lib.rt:159:41
 kinds-from-requires : tie.Need-kinds-from-requires
 kinds-from-requires c κs = let a = c .before .before .before .before .before .before .before .args in sixteen (a .frame-time) (a .crc) (a .parity) (a .kinds .now) (sym (c .before .before .named .ensures) ∙ c .before .if1 .taken)
 
--- src/lib.rt:159:9
 read-bytes-requires : tie.Need-read-bytes-requires
 read-bytes-requires c κs = search needs
 
--- src/lib.rt:159:9
 same-length : tie.Need-same-length
 same-length c = search needs
 
--- src/lib.rt:159:9
 same-length-2 : tie.Need-same-length-2
 same-length-2 c = search needs
 
--- src/lib.rt:159:9
 returns : tie.Need-returns
 returns c =
     let a = c .before .before .before .before .before .before .before .before .before .before .before .before .before .before .before .args in
@@ -44,11 +30,9 @@ returns c =
     rw (read-named (a .words) (a .tracks) (a .frame-time) (a .crc) (a .parity) (a .kinds .now) (c .before .before .before .before .before .before .before .before .plan-from .result) (c .before .before .before .before .before .before .before .kinds-from .result) e (c .before .before .before .before .before .before .before .before .plan-from .ensures) (c .before .before .before .before .before .before .before .kinds-from .ensures) (a .closed) (a .capture .now) (length (a .log .now)) (length (a .times .now)))
     (c .before .before .before .before .read-bytes .ensures)
 
--- src/lib.rt:161:5
 unnamed-requires : tie.Need-unnamed-requires
 unnamed-requires c κs = search needs
 
--- src/lib.rt:143:1
 returns-2 : tie.Need-returns-2
 returns-2 c =
     let a = c .before .before .before .before .before .before .before .args in

@@ -4,35 +4,22 @@ use Rattle.vinculampe.proofs.NamedKinds.{composed-named, composed-unnam
 use borrow.Author.Needs.{needs}
 use Rattle.vinculampe.proofs.vin_compose.Statement.{statement}
 use Rattle.vinculampe.proofs.vin_compose.Tie as tie
-use Rattle.vinculampe.proofs.vin_compose.Reads as reads
-use Rattle.vinculampe.proofs.vin_compose.Lts as lts
-use Rattle.vinculampe.proofs.compose_bytes.Reads as compose-bytes-reads
-use Rattle.vinculampe.proofs.numbers.kinds_from.Reads as kinds-from-reads
-use Rattle.vinculampe.proofs.numbers.named.Reads as named-reads
-use Rattle.vinculampe.proofs.numbers.plan_from.Reads as plan-from-reads
-use Rattle.vinculampe.proofs.unnamed.Reads as unnamed-reads
 
--- src/lib.rt:72:8
 named-requires : tie.Need-named-requires
 named-requires c κs = search needs
 
--- src/lib.rt:73:13
 plan-from-requires : tie.Need-plan-from-requires
 plan-from-requires c κs = search needs
 
--- src/lib.rt:74:36
 kinds-from-requires : tie.Need-kinds-from-requires
 kinds-from-requires c κs = let a = c .before .before .before .before .before .before .before .args in sixteen (a .frame-time) (a .crc) (a .parity) (a .kinds .now) (sym (c .before .before .named .ensures) ∙ c .before .if1 .taken)
 
--- src/lib.rt:74:9
 compose-bytes-requires : tie.Need-compose-bytes-requires
 compose-bytes-requires c κs = search needs
 
--- src/lib.rt:74:9
 same-length : tie.Need-same-length
 same-length c = search needs
 
--- src/lib.rt:74:9
 returns : tie.Need-returns
 returns c =
     let a = c .before .before .before .before .before .before .before .before .before .before .before .before .args in
@@ -40,11 +27,9 @@ returns c =
     rw (composed-named (a .words) (a .tracks) (a .frame-time) (a .crc) (a .parity) (a .kinds .now) (c .before .before .before .before .before .plan-from .result) (c .before .before .before .before .kinds-from .result) e (c .before .before .before .before .before .plan-from .ensures) (c .before .before .before .before .kinds-from .ensures) (a .log .now) (a .times .now) (length (a .out .now)))
     (c .before .before .compose-bytes .ensures)
 
--- src/lib.rt:76:5
 unnamed-requires : tie.Need-unnamed-requires
 unnamed-requires c κs = search needs
 
--- src/lib.rt:57:1
 returns-2 : tie.Need-returns-2
 returns-2 c =
     let a = c .before .before .before .before .before .before .before .args in

@@ -1,14 +1,12 @@
 use Prim.Native.Nat.{_-_, _≤_}
 use mathlib.Core.Path.{_≡_, refl, sym, _∙_}
 use native.Mathlib.Omega.{arith}
-use lib.ListN.{length, drop, getD}
+use lib.ListN.{length, drop}
 use Rattle.vinculampe.specs.Numbers.{areKinds}
 use Rattle.vinculampe.proofs.NamedKinds.{kind-bad, kind-good, kinds-end}
 use borrow.Author.Needs.{needs}
 use Rattle.vinculampe.proofs.numbers.are_kinds.Statement.{statement}
 use Rattle.vinculampe.proofs.numbers.are_kinds.Tie as tie
-use Rattle.vinculampe.proofs.numbers.are_kinds.Reads as reads
-use Rattle.vinculampe.proofs.numbers.are_kinds.Lts as lts
 
 abbrev Inv-loop : tie.InvT-loop
 Inv-loop kinds bus₀ bus = (bus ≤ length kinds) × (areKinds kinds ≡ areKinds (drop bus kinds))
@@ -16,31 +14,24 @@ Inv-loop kinds bus₀ bus = (bus ≤ length kinds) × (areKinds kinds ≡ areKin
 abbrev μ-loop : tie.MeasureT-loop
 μ-loop kinds bus₀ bus = length kinds - bus
 
--- src/numbers.rt:16:5
 loop-holds : tie.Need-loop-holds Inv-loop μ-loop
 loop-holds c = (omega arith, refl)
 
--- src/numbers.rt:17:16
 shared-slice-read-if1 : tie.Need-shared-slice-read-if1 Inv-loop μ-loop
 shared-slice-read-if1 c = search needs
 
--- src/numbers.rt:18:13
 returns : tie.Need-returns Inv-loop μ-loop
 returns c = let s = c .before .before .before .before .args .kinds .now in let o = c .before .before .before .loop in sym (o .inv .1 ∙ kind-bad s (o .bus) (c .before .before .loop-test .taken) (c .if1 .taken))
 
--- src/numbers.rt:20:9
 add-bus : tie.Need-add-bus Inv-loop μ-loop
 add-bus c = search needs
 
--- src/numbers.rt:16:5
 loop-less : tie.Need-loop-less Inv-loop μ-loop
 loop-less c = search needs
 
--- src/numbers.rt:16:5
 loop-again : tie.Need-loop-again Inv-loop μ-loop
 loop-again c = let s = c .before .before .before .before .args .kinds .now in let o = c .before .before .before .loop in (search needs, o .inv .1 ∙ kind-good s (o .bus) (c .before .before .loop-test .taken) (c .if1 .left))
 
--- src/numbers.rt:12:1
 returns-2 : tie.Need-returns-2 Inv-loop μ-loop
 returns-2 c = let o = c .before .loop in sym (o .inv .1 ∙ kinds-end (c .before .before .args .kinds .now) (o .bus) (omega arith))
 

@@ -2,79 +2,58 @@ use Rattle.vinculampe.specs.Numbers.{halfAt}
 use borrow.Author.Needs.{needs}
 use Rattle.vinculampe.proofs.numbers.half_at.Statement.{statement}
 use Rattle.vinculampe.proofs.numbers.half_at.Tie as tie
-use Rattle.vinculampe.proofs.numbers.half_at.Reads as reads
-use Rattle.vinculampe.proofs.numbers.half_at.Lts as lts
-use Rattle.vinculampe.proofs.numbers.wide.Reads as wide-reads
 
--- src/numbers.rt:90:22
 shared-slice-read-wide : tie.Need-shared-slice-read-wide
 shared-slice-read-wide c = search needs
 
--- src/numbers.rt:90:9
 wide-requires : tie.Need-wide-requires
 wide-requires c κs = search needs
 
--- src/numbers.rt:91:29
 add-wide : tie.Need-add-wide
 add-wide c = search needs
 
--- src/numbers.rt:91:23
 shared-slice-read-wide-2 : tie.Need-shared-slice-read-wide-2
 shared-slice-read-wide-2 c = search needs
 
--- src/numbers.rt:91:9
 wide-requires-2 : tie.Need-wide-requires-2
 wide-requires-2 c κs = search needs
 
--- src/numbers.rt:92:28
 add-wide-2 : tie.Need-add-wide-2
 add-wide-2 c = search needs
 
--- src/numbers.rt:92:22
 shared-slice-read-wide-3 : tie.Need-shared-slice-read-wide-3
 shared-slice-read-wide-3 c = search needs
 
--- src/numbers.rt:92:9
 wide-requires-3 : tie.Need-wide-requires-3
 wide-requires-3 c κs = search needs
 
--- src/numbers.rt:93:29
 add-wide-3 : tie.Need-add-wide-3
 add-wide-3 c = search needs
 
--- src/numbers.rt:93:23
 shared-slice-read-wide-4 : tie.Need-shared-slice-read-wide-4
 shared-slice-read-wide-4 c = search needs
 
--- src/numbers.rt:93:9
 wide-requires-4 : tie.Need-wide-requires-4
 wide-requires-4 c κs = search needs
 
--- src/numbers.rt:94:5
 mul-result : tie.Need-mul-result
 mul-result c = search needs
 
--- src/numbers.rt:94:25
 mul-result-2 : tie.Need-mul-result-2
 mul-result-2 c = search needs
 
--- src/numbers.rt:94:5
 add-result : tie.Need-add-result
 add-result c = search needs
 
--- src/numbers.rt:94:44
 mul-result-3 : tie.Need-mul-result-3
 mul-result-3 c = search needs
 
--- src/numbers.rt:94:5
 add-result-2 : tie.Need-add-result-2
 add-result-2 c = search needs
 
--- src/numbers.rt:94:5
 add-result-3 : tie.Need-add-result-3
 add-result-3 c = search needs
 
--- src/numbers.rt:86:1
 returns : tie.Need-returns
 unfolding halfAt
 returns c = search needs

@@ -1,19 +1,13 @@
 use borrow.Author.Tests.{ne-eqb}
-use borrow.Author.Needs.{needs}
 use Rattle.vinculampe.proofs.numbers.kind_of.Statement.{statement}
 use Rattle.vinculampe.proofs.numbers.kind_of.Tie as tie
-use Rattle.vinculampe.proofs.numbers.kind_of.Reads as reads
-use Rattle.vinculampe.proofs.numbers.kind_of.Lts as lts
 
--- src/numbers.rt:44:1
 returns : tie.Need-returns
 returns c = rw (c .match .keys1)
 
--- src/numbers.rt:44:1
 returns-2 : tie.Need-returns-2
 returns-2 c = rw (c .match .keys2)
 
--- src/numbers.rt:44:1
 returns-3 : tie.Need-returns-3
 returns-3 c = simp (ne-eqb _ _ (c .match .rest .1), ne-eqb _ _ (c .match .rest .0 .1))
 

@@ -9,9 +9,6 @@ use Rattle.vinculampe.specs.Numbers.{kindOf}
 use borrow.Author.Needs.{needs}
 use Rattle.vinculampe.proofs.numbers.kinds_from.Statement.{statement}
 use Rattle.vinculampe.proofs.numbers.kinds_from.Tie as tie
-use Rattle.vinculampe.proofs.numbers.kinds_from.Reads as reads
-use Rattle.vinculampe.proofs.numbers.kinds_from.Lts as lts
-use Rattle.vinculampe.proofs.numbers.kind_of.Reads as kind-of-reads
 
 abbrev Inv-loop : tie.InvT-loop
 Inv-loop numbers kinds₀ bus₀ kinds bus = (bus ≤ 16) × (length kinds ≡ 16) × (take bus kinds ≡ map kindOf (take bus numbers))
@@ -19,31 +16,24 @@ Inv-loop numbers kinds₀ bus₀ kinds bus = (bus ≤ 16) × (length kinds ≡ 1
 abbrev μ-loop : tie.MeasureT-loop
 μ-loop numbers kinds₀ bus₀ kinds bus = 16 - bus
 
--- src/numbers.rt:60:5
 loop-holds : tie.Need-loop-holds Inv-loop μ-loop
 loop-holds c = (search needs, refl, refl)
 
--- src/numbers.rt:61:30
 shared-slice-read-kind-of : tie.Need-shared-slice-read-kind-of Inv-loop μ-loop
 shared-slice-read-kind-of c = search needs
 
--- src/numbers.rt:61:22
 kind-of-requires : tie.Need-kind-of-requires Inv-loop μ-loop
 kind-of-requires c κs = search needs
 
--- src/numbers.rt:61:9
 array-set-from-kinds : tie.Need-array-set-from-kinds Inv-loop μ-loop
 array-set-from-kinds c = search needs
 
--- src/numbers.rt:62:9
 add-bus : tie.Need-add-bus Inv-loop μ-loop
 add-bus c = search needs
 
--- src/numbers.rt:60:5
 loop-less : tie.Need-loop-less Inv-loop μ-loop
 loop-less c = search needs
 
--- src/numbers.rt:60:5
 loop-again : tie.Need-loop-again Inv-loop μ-loop
 loop-again c =
     let o = c .before .before .before .loop in
@@ -53,7 +43,6 @@ loop-again c =
       rw (add-one (o .bus), take-suc s (o .bus) 0 (omega arith), take-suc-set (o .kinds) (o .bus) (c .kind-of .result) (omega arith), map-append kindOf (take (o .bus) s), ← (o .inv .2), ← (c .kind-of .ensures)),
     )
 
--- src/numbers.rt:54:1
 returns : tie.Need-returns Inv-loop μ-loop
 returns c =
     let o = c .before .loop in

@@ -2,31 +2,22 @@ use borrow.Author.Tests.{le-leb, lt-leb, eq-eqb, ne-eqb}
 use borrow.Author.Needs.{needs}
 use Rattle.vinculampe.proofs.numbers.named.Statement.{statement}
 use Rattle.vinculampe.proofs.numbers.named.Tie as tie
-use Rattle.vinculampe.proofs.numbers.named.Reads as reads
-use Rattle.vinculampe.proofs.numbers.named.Lts as lts
-use Rattle.vinculampe.proofs.numbers.are_kinds.Reads as are-kinds-reads
 
--- src/numbers.rt:30:9
 returns : tie.Need-returns
 returns c = simp (lt-leb _ _ (c .if1 .taken))
 
--- src/numbers.rt:33:9
 returns-2 : tie.Need-returns-2
 returns-2 c = simp (le-leb _ _ (c .before .if1 .left), lt-leb _ _ (c .if2 .taken))
 
--- src/numbers.rt:36:9
 returns-3 : tie.Need-returns-3
 returns-3 c = simp (le-leb _ _ (c .before .before .if1 .left), le-leb _ _ (c .before .if2 .left), lt-leb _ _ (c .if3 .taken))
 
--- src/numbers.rt:39:9
 returns-4 : tie.Need-returns-4
 returns-4 c = simp (le-leb _ _ (c .before .before .before .if1 .left), le-leb _ _ (c .before .before .if2 .left), le-leb _ _ (c .before .if3 .left), ne-eqb _ _ (c .if4 .taken))
 
--- src/numbers.rt:41:5
 are-kinds-requires : tie.Need-are-kinds-requires
 are-kinds-requires c κs = search needs
 
--- src/numbers.rt:26:1
 returns-5 : tie.Need-returns-5
 returns-5 c = rw (le-leb _ _ (c .before .before .before .before .if1 .left), le-leb _ _ (c .before .before .before .if2 .left), le-leb _ _ (c .before .before .if3 .left), eq-eqb _ _ (c .before .if4 .left)) (c .are-kinds .ensures)
 

@@ -5,78 +5,58 @@ use Rattle.vinculampe.proofs.Times.{eight-set}
 use borrow.Author.Needs.{needs}
 use Rattle.vinculampe.proofs.numbers.put_time.Statement.{statement}
 use Rattle.vinculampe.proofs.numbers.put_time.Tie as tie
-use Rattle.vinculampe.proofs.numbers.put_time.Reads as reads
-use Rattle.vinculampe.proofs.numbers.put_time.Lts as lts
 
--- src/numbers.rt:121:16
 cast-bytes : tie.Need-cast-bytes
 cast-bytes c = search needs
 
--- src/numbers.rt:121:5
 slice-write-bytes : tie.Need-slice-write-bytes
 slice-write-bytes c = search needs
 
--- src/numbers.rt:122:16
 cast-bytes-2 : tie.Need-cast-bytes-2
 cast-bytes-2 c = search needs
 
--- src/numbers.rt:122:5
 slice-write-bytes-2 : tie.Need-slice-write-bytes-2
 slice-write-bytes-2 c = simp length-set (omega arith)
 
--- src/numbers.rt:123:16
 cast-bytes-3 : tie.Need-cast-bytes-3
 cast-bytes-3 c = search needs
 
--- src/numbers.rt:123:5
 slice-write-bytes-3 : tie.Need-slice-write-bytes-3
 slice-write-bytes-3 c = simp length-set (omega arith)
 
--- src/numbers.rt:124:16
 cast-bytes-4 : tie.Need-cast-bytes-4
 cast-bytes-4 c = search needs
 
--- src/numbers.rt:124:5
 slice-write-bytes-4 : tie.Need-slice-write-bytes-4
 slice-write-bytes-4 c = simp length-set (omega arith)
 
--- src/numbers.rt:125:16
 cast-bytes-5 : tie.Need-cast-bytes-5
 cast-bytes-5 c = search needs
 
--- src/numbers.rt:125:5
 slice-write-bytes-5 : tie.Need-slice-write-bytes-5
 slice-write-bytes-5 c = simp length-set (omega arith)
 
--- src/numbers.rt:126:16
 cast-bytes-6 : tie.Need-cast-bytes-6
 cast-bytes-6 c = search needs
 
--- src/numbers.rt:126:5
 slice-write-bytes-6 : tie.Need-slice-write-bytes-6
 slice-write-bytes-6 c = simp length-set (omega arith)
 
--- src/numbers.rt:127:16
 cast-bytes-7 : tie.Need-cast-bytes-7
 cast-bytes-7 c = search needs
 
--- src/numbers.rt:127:5
 slice-write-bytes-7 : tie.Need-slice-write-bytes-7
 slice-write-bytes-7 c = simp length-set (omega arith)
 
--- src/numbers.rt:128:16
 cast-bytes-8 : tie.Need-cast-bytes-8
 cast-bytes-8 c = search needs
 
--- src/numbers.rt:128:5
 slice-write-bytes-8 : tie.Need-slice-write-bytes-8
 slice-write-bytes-8 c = simp length-set (omega arith)
 
--- src/numbers.rt:117:1
 same-length : tie.Need-same-length
 same-length c = search needs
 
--- src/numbers.rt:117:1
 returns : tie.Need-returns
 unfolding timeBytes
 returns c = eight-set _ _ _ _ _ _ _ _ (c .args .bytes .now) (c .pre)

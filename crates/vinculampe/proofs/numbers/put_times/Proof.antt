@@ -1,6 +1,6 @@
 use Prim.Native.Nat.{ℕ, _+_, _*_, _-_, _≤_}
-use mathlib.Core.Path.{_≡_, refl, sym, ap, _∙_}
-use mathlib.Core.List.{List, flatMap}
+use mathlib.Core.Path.{_≡_, ap, _∙_}
+use mathlib.Core.List.{flatMap}
 use native.Mathlib.Omega.{arith}
 use lib.ListN.{length, length-drop, take, drop}
 use lib.Seq.{length-take-le}
@@ -11,9 +11,6 @@ use Rattle.vinculampe.proofs.Laws.{Front, front-none, front-long}
 use borrow.Author.Needs.{needs}
 use Rattle.vinculampe.proofs.numbers.put_times.Statement.{statement}
 use Rattle.vinculampe.proofs.numbers.put_times.Tie as tie
-use Rattle.vinculampe.proofs.numbers.put_times.Reads as reads
-use Rattle.vinculampe.proofs.numbers.put_times.Lts as lts
-use Rattle.vinculampe.proofs.numbers.put_time.Reads as put-time-reads
 
 abbrev Inv-loop : tie.InvT-loop
 Inv-loop row number bytes₀ index₀ bytes index = (index ≤ number) × (number ≤ length row) × (8 * number ≤ length bytes₀) × Front (flatMap timeBytes (take index row)) bytes₀ bytes (8 * index)
@@ -21,66 +18,52 @@ Inv-loop row number bytes₀ index₀ bytes index = (index ≤ number) × (numbe
 abbrev μ-loop : tie.MeasureT-loop
 μ-loop row number bytes₀ index₀ bytes index = number - index
 
--- src/numbers.rt:137:5
 loop-holds : tie.Need-loop-holds Inv-loop μ-loop
 unfolding flatMap
 loop-holds c = (omega arith, c .before .before .pre .0, c .before .before .pre .1, front-none _)
 
--- src/numbers.rt:138:21
 mul-start : tie.Need-mul-start Inv-loop μ-loop
 mul-start c = search needs
 
--- src/numbers.rt:139:19
 add-end : tie.Need-add-end Inv-loop μ-loop
 add-end c = search needs
 
--- src/numbers.rt:140:18
 mul-put-time : tie.Need-mul-put-time Inv-loop μ-loop
 mul-put-time c = search needs
 
--- src/numbers.rt:140:18
 shared-slice-read-put-time : tie.Need-shared-slice-read-put-time Inv-loop μ-loop
 shared-slice-read-put-time c = search needs
 
--- src/numbers.rt:140:30
 sub-put-time : tie.Need-sub-put-time Inv-loop μ-loop
 sub-put-time c = search needs
 
--- src/numbers.rt:140:30
 part-put-time-start : tie.Need-part-put-time-start Inv-loop μ-loop
 part-put-time-start c = search needs
 
--- src/numbers.rt:140:30
 part-put-time-end : tie.Need-part-put-time-end Inv-loop μ-loop
 part-put-time-end c = omega (arith, front-long (c .before .before .loop .inv .3))
 
--- src/numbers.rt:140:9
 put-time-requires : tie.Need-put-time-requires Inv-loop μ-loop
 put-time-requires c κs =
     let o = c .before .before .before .loop in
     let e : 8 * o .index + 8 - 8 * o .index ≡ 8 = omega arith in
     rw e (length-take-le 8 (drop (8 * o .index) (o .bytes)) (simp length-drop (omega (arith, front-long (o .inv .3)))))
 
--- src/numbers.rt:141:9
 add-index : tie.Need-add-index Inv-loop μ-loop
 add-index c = search needs
 
--- src/numbers.rt:137:5
 loop-less : tie.Need-loop-less Inv-loop μ-loop
 loop-less c = search needs
 
--- src/numbers.rt:137:5
 loop-again : tie.Need-loop-again Inv-loop μ-loop
 loop-again c =
     let o = c .before .before .before .before .before .before .loop in
     let a = c .before .before .before .before .before .before .before .before .before .args in
     (search needs, o .inv .1, o .inv .2, times-more (a .row .now) (o .index) (8 * o .index + 8 - 8 * o .index) (o .inv .3) (omega arith) (omega arith) (omega arith) (c .before .before .put-time .ensures))
 
--- src/numbers.rt:132:1
 same-length : tie.Need-same-length Inv-loop μ-loop
 same-length c = front-long (c .before .loop .inv .3)
 
--- src/numbers.rt:132:1
 returns : tie.Need-returns Inv-loop μ-loop
 returns c =
     let o = c .before .loop in

@@ -2,39 +2,28 @@ use Rattle.vinculampe.specs.Numbers.{timeAt}
 use borrow.Author.Needs.{needs}
 use Rattle.vinculampe.proofs.numbers.time_at.Statement.{statement}
 use Rattle.vinculampe.proofs.numbers.time_at.Tie as tie
-use Rattle.vinculampe.proofs.numbers.time_at.Reads as reads
-use Rattle.vinculampe.proofs.numbers.time_at.Lts as lts
-use Rattle.vinculampe.proofs.numbers.half_at.Reads as half-at-reads
 
--- src/numbers.rt:101:5
 half-at-requires : tie.Need-half-at-requires
 half-at-requires c κs = search needs
 
--- src/numbers.rt:101:5
 cast-result : tie.Need-cast-result
 cast-result c = search needs
 
--- src/numbers.rt:101:5
 mul-result : tie.Need-mul-result
 mul-result c = search needs
 
--- src/numbers.rt:101:62
 add-half-at : tie.Need-add-half-at
 add-half-at c = search needs
 
--- src/numbers.rt:101:47
 half-at-requires-2 : tie.Need-half-at-requires-2
 half-at-requires-2 c κs = search needs
 
--- src/numbers.rt:101:47
 cast-result-2 : tie.Need-cast-result-2
 cast-result-2 c = search needs
 
--- src/numbers.rt:101:5
 add-result : tie.Need-add-result
 add-result c = search needs
 
--- src/numbers.rt:97:1
 returns : tie.Need-returns
 unfolding timeAt
 returns c = rw (c .before .half-at .ensures, c .half-at2 .ensures)

@@ -1,19 +1,15 @@
 use Prim.Native.Nat.{ℕ, _*_, _/_, _-_, _≤_}
-use mathlib.Core.Path.{_≡_, refl, sym, ap, _∙_}
-use mathlib.Core.List.{List}
+use mathlib.Core.Path.{_≡_, refl, ap, _∙_}
 use native.Mathlib.Omega.{arith}
 use lib.ListN.{length}
 use Rattle.format.specs.Answer.{over}
 use Rattle.format.specs.Lists.{list}
-use Rattle.vinculampe.specs.Numbers.{timeAt, timesFrom}
+use Rattle.vinculampe.specs.Numbers.{timeAt}
 use Rattle.vinculampe.proofs.Times.{front-over}
 use Rattle.vinculampe.proofs.Laws.{Front, front-none, front-long, front-more, list-more}
 use borrow.Author.Needs.{needs}
 use Rattle.vinculampe.proofs.numbers.times_from.Statement.{statement}
 use Rattle.vinculampe.proofs.numbers.times_from.Tie as tie
-use Rattle.vinculampe.proofs.numbers.times_from.Reads as reads
-use Rattle.vinculampe.proofs.numbers.times_from.Lts as lts
-use Rattle.vinculampe.proofs.numbers.time_at.Reads as time-at-reads
 
 abbrev Inv-loop : tie.InvT-loop
 Inv-loop bytes row₀ number index₀ row index = (index ≤ number) × (number ≡ length bytes / 8) × (length bytes ≤ 8 * length row₀) × Front (list (λ k. timeAt bytes (8 * k)) 0 index) row₀ row index
@@ -21,44 +17,34 @@ Inv-loop bytes row₀ number index₀ row index = (index ≤ number) × (number 
 abbrev μ-loop : tie.MeasureT-loop
 μ-loop bytes row₀ number index₀ row index = number - index
 
--- src/numbers.rt:111:5
 loop-holds : tie.Need-loop-holds Inv-loop μ-loop
 unfolding list
 loop-holds c = (omega arith, refl, c .before .before .pre, front-none _)
 
--- src/numbers.rt:112:37
 mul-time-at : tie.Need-mul-time-at Inv-loop μ-loop
 mul-time-at c = search needs
 
--- src/numbers.rt:112:22
 time-at-requires : tie.Need-time-at-requires Inv-loop μ-loop
 time-at-requires c κs = search needs
 
--- src/numbers.rt:112:9
 mul-row : tie.Need-mul-row Inv-loop μ-loop
 mul-row c = search needs
 
--- src/numbers.rt:112:9
 slice-write-row : tie.Need-slice-write-row Inv-loop μ-loop
 slice-write-row c = omega (arith, front-long (c .before .before .loop .inv .3))
 
--- src/numbers.rt:113:9
 add-index : tie.Need-add-index Inv-loop μ-loop
 add-index c = search needs
 
--- src/numbers.rt:111:5
 loop-less : tie.Need-loop-less Inv-loop μ-loop
 loop-less c = search needs
 
--- src/numbers.rt:111:5
 loop-again : tie.Need-loop-again Inv-loop μ-loop
 loop-again c = let o = c .before .before .loop in (omega arith, o .inv .1, o .inv .2, rw (list-more (λ k. timeAt (c .before .before .before .before .before .args .bytes .now) (8 * k)) (o .index), c .time-at .ensures) (front-more _ (o .inv .3) (omega arith)))
 
--- src/numbers.rt:105:1
 same-length : tie.Need-same-length Inv-loop μ-loop
 same-length c = front-long (c .before .loop .inv .3)
 
--- src/numbers.rt:105:1
 returns : tie.Need-returns Inv-loop μ-loop
 returns c =
     let o = c .before .loop in
