@@ -1,6 +1,6 @@
 /* Times the library against bench/fast_*.c: compose, read and read_closed, over kinds of traffic, plans and sizes.
  *
- *     bench [SAMPLES]     the best of so many samples is taken, 9 if none are named
+ *     bench [SAMPLES [ROWS]]     the best of so many samples is taken, 9 if none are named; only rows whose name has ROWS in it
  *
  * A word is a stored word of the capture: sync, frame time, data, fill and CRC words alike. Before a row is timed, both must give what
  * the independent implementation gives. */
@@ -144,6 +144,7 @@ static void largest(void)
 
 int main(int argc, char **argv)
 {
+    const char *rows = argc > 2 ? argv[2] : "";
     if (argc > 1)
         samples = atoi(argv[1]);
     printf("%-52s %7s", "nanoseconds a word, and the ratio", "words");
@@ -154,6 +155,8 @@ int main(int argc, char **argv)
         printf(" | %7s %7s %6s", "library", "fast C", "ratio");
     printf("\n");
     for (int n = 0; traffic_row(&t, n); n++) {
+        if (strstr(t.name, rows) == NULL)
+            continue;
         agree();
         printf("%-52s %7zu", t.name, capture_len / 3);
         for (enum function f = COMPOSE; f <= READ_CLOSED; f++)
