@@ -1,0 +1,20 @@
+/* Refusals for a person: where the place is, and what stands there. */
+#ifndef REFUSAL_H
+#define REFUSAL_H
+
+#include "files.h"
+#include "plan.h"
+
+/* What a call was given. A name is a file's; times of no file have the name NULL. */
+typedef struct {
+    const char *plan_name, *log_name, *times_name, *capture_name;
+    vin_plan plan;
+    run log, times, capture;
+} call;
+
+/* Each says on standard error by which number the call was refused, and where. */
+void say_composing_refused(const call *c, vin_answer a);
+void say_reading_refused(const call *c, vin_answer a);
+void say_listing_refused(const char *log_name, const run *log, unsigned number, uint64_t place);
+
+#endif
