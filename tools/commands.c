@@ -38,7 +38,8 @@ static int compose_call(call *c, const char *to)
     uint8_t *room = malloc(VIN_COMPOSED_MAX);
     if (out_of_memory(room))
         return MISUSE;
-    vin_answer a = vin_plan_compose(&c->plan, c->log.bytes, c->log.length, c->times.bytes, c->times.length, room, VIN_COMPOSED_MAX);
+    vin_answer a = vin_plan_compose(&c->plan, c->log.bytes, c->log.length, c->times.bytes, c->times.length,
+                                    room, VIN_COMPOSED_MAX);
     int status = REFUSED;
     if (a.number != VIN_DONE)
         say_composing_refused(c, a);
@@ -78,8 +79,10 @@ static int read_capture(const arguments *given, reading *read, use *then)
     c.capture_name = given->files[1];
     reading_room *room = malloc(sizeof *room);
     int status = MISUSE;
-    if (!out_of_memory(room) && read_plan(c.plan_name, &c.plan) && read_file(c.capture_name, VIN_CAPTURE_MAX, &c.capture)) {
-        vin_answer a = read(&c.plan, c.capture.bytes, c.capture.length, room->log, sizeof room->log, room->times, sizeof room->times);
+    if (!out_of_memory(room) && read_plan(c.plan_name, &c.plan)
+        && read_file(c.capture_name, VIN_CAPTURE_MAX, &c.capture)) {
+        vin_answer a = read(&c.plan, c.capture.bytes, c.capture.length, room->log, sizeof room->log,
+                            room->times, sizeof room->times);
         if (a.number == VIN_DONE)
             status = then(given, room, a);
         else {
@@ -114,7 +117,8 @@ static int say_yes(const arguments *given, const reading_room *room, vin_answer 
 {
     (void)given;
     (void)room;
-    printf("yes: a log of %llu bytes, frame times: %llu\n", (unsigned long long)a.bytes, (unsigned long long)a.times);
+    printf("yes: a log of %llu bytes, frame times: %llu\n", (unsigned long long)a.bytes,
+           (unsigned long long)a.times);
     return DONE;
 }
 
@@ -182,7 +186,8 @@ static int run_explain(const arguments *given)
 
 const command commands[COMMANDS] = {
     {"compose", "compose PLAN LOG [TIMES] -o CAPTURE", "pack a log into frames", 2, 3, "o", run_compose},
-    {"read", "read PLAN CAPTURE -o LOG [--times FILE]", "read frames back into a log and times", 2, 2, "ot", run_read},
+    {"read", "read PLAN CAPTURE -o LOG [--times FILE]", "read frames back into a log and times", 2, 2, "ot",
+     run_read},
     {"check", "check PLAN CAPTURE", "say whether composing made exactly this capture", 2, 2, "", run_check},
     {"list", "list [LOG]", "print a log, a line an item", 0, 1, "", run_list},
     {"plan", "plan PLAN", "say whether a plan is legal, and draw its group", 1, 1, "", run_plan},

@@ -15,8 +15,8 @@ typedef struct {
 
 typedef struct {
     const char *name, *usage, *about;
-    size_t least, most;  /* files */
-    const char *options; /* "o" for -o, which is then needed; "t" for --times */
+    size_t least, most;            /* files */
+    const char *options;           /* "o" for -o, which is then needed; "t" for --times */
     int (*run)(const arguments *); /* answers the exit status: enum status */
 } command;
 

@@ -91,7 +91,8 @@ static bool begins(const char *name, const char *with)
 static bool is_direct(const char *name)
 {
     struct stat there;
-    return is_standard(name) || begins(name, "/dev/std") || begins(name, "/dev/fd/") || (stat(name, &there) == 0 && !S_ISREG(there.st_mode));
+    return is_standard(name) || begins(name, "/dev/std") || begins(name, "/dev/fd/")
+           || (stat(name, &there) == 0 && !S_ISREG(there.st_mode));
 }
 
 static bool write_direct(const output *o)
@@ -127,7 +128,8 @@ static bool fill_temporary(const char *temporary, const output *o, const struct 
     int file = open(temporary, O_WRONLY | O_CREAT | O_EXCL | O_CLOEXEC, 0666);
     if (file < 0)
         return false;
-    bool whole = (!old || fchmod(file, old->st_mode & 0777) == 0) && write_open(file, o->bytes, o->length) && fsync(file) == 0;
+    bool whole = (!old || fchmod(file, old->st_mode & 0777) == 0) && write_open(file, o->bytes, o->length)
+                 && fsync(file) == 0;
     int reason = errno;
     if (close(file) != 0 && whole) {
         whole = false;
@@ -152,7 +154,8 @@ static bool stage(const output *o, size_t index, staged *s)
     bool exists = stat(o->name, &there) == 0;
     s->name = exists ? realpath(o->name, NULL) : strdup(o->name);
     s->temporary = s->name ? beside(s->name, index) : NULL;
-    bool whole = s->temporary && (!exists || access(s->name, W_OK) == 0) && fill_temporary(s->temporary, o, exists ? &there : NULL);
+    bool whole = s->temporary && (!exists || access(s->name, W_OK) == 0)
+                 && fill_temporary(s->temporary, o, exists ? &there : NULL);
     if (!whole) {
         complain_errno("%s", o->name);
         forget(s);
@@ -209,5 +212,6 @@ bool write_files(const output *outputs, size_t count)
 bool same_file(const char *one, const char *other)
 {
     struct stat a, b;
-    return stat(one, &a) == 0 && stat(other, &b) == 0 && S_ISREG(a.st_mode) && a.st_dev == b.st_dev && a.st_ino == b.st_ino;
+    return stat(one, &a) == 0 && stat(other, &b) == 0 && S_ISREG(a.st_mode) && a.st_dev == b.st_dev
+           && a.st_ino == b.st_ino;
 }

@@ -15,8 +15,8 @@ typedef struct {
 /* The name as messages have it. */
 const char *input_name(const char *name);
 
-/* Reads at most `most` bytes and one more, so that a file that is too long is seen by its length. What is wrong is said; then
- * nothing is to be freed. */
+/* Reads at most `most` bytes and one more, so that a file that is too long is seen by its length. What is
+ * wrong is said; then nothing is to be freed. */
 bool read_file(const char *name, size_t most, run *to);
 
 /* The same from an open file, whose name is only for messages. */
@@ -30,8 +30,9 @@ typedef struct {
     size_t length;
 } output;
 
-/* Writes every output or says what is wrong. A regular file gets its name only when all outputs are written in full, so that none
- * is ever half-written; signals wait meanwhile. Standard output, devices and pipes come first, since they cannot be taken back. */
+/* Writes every output or says what is wrong. A regular file gets its name only when all outputs are written
+ * in full, so that none is ever half-written; signals wait meanwhile. Standard output, devices and pipes come
+ * first, since they cannot be taken back. */
 bool write_files(const output *outputs, size_t count);
 
 /* Do both names mean one existing file? */

@@ -1,13 +1,14 @@
 #include "items.h"
 
-/* The bits of an item; where its flag stands, and the bits that come with the flag, whose last 14 are a micro or a response. */
+/* The bits of an item; where its flag stands, and the bits that come with the flag, whose last 14 are a micro
+ * or a response. */
 static const struct {
     const char *name;
     unsigned bits, flag, more;
 } kinds[KINDS] = {
-    {"the end mark", 4, 0, 0},   {"a command", 26, 9, 46},         {"a status", 26, 9, 14},
-    {"a data word", 25, 0, 0},   {"a bus error", 25, 0, 0},        {"an ARINC word", 43, 10, 46},
-    {"an ARINC notice", 18, 0, 0}, {"a user word", 25, 0, 0},      {"an overflow mark", 24, 0, 0},
+    {"the end mark", 4, 0, 0},     {"a command", 26, 9, 46},  {"a status", 26, 9, 14},
+    {"a data word", 25, 0, 0},     {"a bus error", 25, 0, 0}, {"an ARINC word", 43, 10, 46},
+    {"an ARINC notice", 18, 0, 0}, {"a user word", 25, 0, 0}, {"an overflow mark", 24, 0, 0},
 };
 enum { FINE = 14 };
 

@@ -44,8 +44,8 @@ static void become_lister(char *path, int input, int output)
     _exit(127);
 }
 
-/* The lister reads all its input before it writes, so that all is given before anything is taken. A lister that is gone is told
- * by its end, so a broken pipe is no matter here. */
+/* The lister reads all its input before it writes, so that all is given before anything is taken. A lister
+ * that is gone is told by its end, so a broken pipe is no matter here. */
 static bool talk(int to, int from, const run *log, run *text)
 {
     struct sigaction ignore, before;

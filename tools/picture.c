@@ -64,7 +64,10 @@ void draw_plan(FILE *to, const vin_plan *plan)
         if (plan->kinds[bus] != VIN_KIND_UNUSED)
             fprintf(to, "  bus %-7u %s\n", bus, kind_name(plan->kinds[bus]));
     fprintf(to, "\n%zu slots for data in a group, %zu bytes a group\n",
-            VIN_GROUP_SLOTS(plan->words, plan->tracks, plan->frame_time, plan->crc), VIN_GROUP_BYTES(plan->words, plan->tracks));
-    fputs("\nA group as it is stored, track by track; d1, d2, .. are its data slots in the order they are filled:\n\n", to);
+            VIN_GROUP_SLOTS(plan->words, plan->tracks, plan->frame_time, plan->crc),
+            VIN_GROUP_BYTES(plan->words, plan->tracks));
+    fputs("\nA group as it is stored, track by track; d1, d2, .. are its data slots in the order they are "
+          "filled:\n\n",
+          to);
     draw_group(to, plan);
 }

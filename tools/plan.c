@@ -30,7 +30,8 @@ static bool take_number(const line *at, const char *value, uint32_t *to)
 {
     size_t digits = strspn(value, "0123456789");
     if (digits == 0 || digits > 9 || value[digits]) {
-        complain("%s:%zu: \"%s\" is not a number of at most nine digits", at->file, at->number, show(value).text);
+        complain("%s:%zu: \"%s\" is not a number of at most nine digits", at->file, at->number,
+                 show(value).text);
         return false;
     }
     *to = (uint32_t)strtoul(value, NULL, 10);
@@ -90,7 +91,8 @@ static bool take_bus(const line *at, const char *code, const char *kind, draft *
     while (k < sizeof kinds / sizeof *kinds && strcmp(kind, kinds[k]) != 0)
         k++;
     if (k == sizeof kinds / sizeof *kinds) {
-        complain("%s:%zu: \"%s\" is no kind of bus: 1553, arinc or unused", at->file, at->number, show(kind).text);
+        complain("%s:%zu: \"%s\" is no kind of bus: 1553, arinc or unused", at->file, at->number,
+                 show(kind).text);
         return false;
     }
     d->plan.kinds[bus] = (uint8_t)k;
@@ -103,8 +105,8 @@ static bool take_key(const line *at, const char *key, const char *value, draft *
         if (strcmp(key, keys[k].name) == 0)
             return keys[k].value(at, value, (uint32_t *)(void *)((char *)&d->plan + keys[k].offset))
                    && is_new(at, key, &d->key_lines[k]);
-    complain("%s:%zu: unknown key \"%s\"; the keys are words, tracks, frame-time, crc, parity and bus", at->file, at->number,
-           show(key).text);
+    complain("%s:%zu: unknown key \"%s\"; the keys are words, tracks, frame-time, crc, parity and bus",
+             at->file, at->number, show(key).text);
     return false;
 }
 
@@ -112,13 +114,15 @@ static bool take_key(const line *at, const char *key, const char *value, draft *
 
 enum { LINE_WORDS = 3 };
 
-/* Cuts the line's words apart; a comment begins with '#'. One more than LINE_WORDS stands for any higher number. */
+/* Cuts the line's words apart; a comment begins with '#'. One more than LINE_WORDS stands for any higher
+ * number. */
 static size_t cut(char *text, char *words[LINE_WORDS])
 {
     size_t count = 0;
     char *rest = NULL;
     text[strcspn(text, "#")] = 0;
-    for (char *word = strtok_r(text, " \t\r", &rest); word && count <= LINE_WORDS; word = strtok_r(NULL, " \t\r", &rest)) {
+    for (char *word = strtok_r(text, " \t\r", &rest); word && count <= LINE_WORDS;
+         word = strtok_r(NULL, " \t\r", &rest)) {
         if (count < LINE_WORDS)
             words[count] = word;
         count++;
@@ -197,7 +201,8 @@ static bool wrong_words(const char *file, const vin_plan *plan)
 {
     if (plan->words >= WORDS_LEAST && plan->words <= WORDS_MOST)
         return false;
-    complain("%s: refused by 1: words is %u: a frame has %d to %d words", file, plan->words, WORDS_LEAST, WORDS_MOST);
+    complain("%s: refused by 1: words is %u: a frame has %d to %d words", file, plan->words, WORDS_LEAST,
+             WORDS_MOST);
     return true;
 }
 
@@ -225,7 +230,8 @@ static bool wrong_parity(const char *file, const vin_plan *plan)
     bool wrong = false;
     for (unsigned bus = BUSES_WITH_PARITY; plan->parity && bus < BUSES; bus++)
         if (plan->kinds[bus] != VIN_KIND_UNUSED) {
-            complain("%s: refused by 1: bus %u is used: with parity the buses are 0 to %d", file, bus, BUSES_WITH_PARITY - 1);
+            complain("%s: refused by 1: bus %u is used: with parity the buses are 0 to %d", file, bus,
+                     BUSES_WITH_PARITY - 1);
             wrong = true;
         }
     return wrong;
@@ -233,7 +239,8 @@ static bool wrong_parity(const char *file, const vin_plan *plan)
 
 void say_illegal(const char *name, const vin_plan *plan)
 {
-    static bool (*const rules[])(const char *, const vin_plan *) = {wrong_words, wrong_tracks, wrong_buses, wrong_parity};
+    static bool (*const rules[])(const char *, const vin_plan *) = {wrong_words, wrong_tracks, wrong_buses,
+                                                                    wrong_parity};
     bool said = false;
     for (size_t n = 0; n < sizeof rules / sizeof *rules; n++)
         said = rules[n](input_name(name), plan) || said;

@@ -19,9 +19,11 @@ static void bad_log(const run *log, item i, char *text)
     else if (i.left < 4)
         snprintf(text, TEXT, "the log ends here, without its end mark");
     else if (i.kind == 0)
-        snprintf(text, TEXT, "the end mark stands here, and more follows it than the zero bits that fill its byte");
+        snprintf(text, TEXT,
+                 "the end mark stands here, and more follows it than the zero bits that fill its byte");
     else if (i.kind >= KINDS)
-        snprintf(text, TEXT, "kind %u is unknown: the kinds are 1 to %d, and 0 ends the log", i.kind, KINDS - 1);
+        snprintf(text, TEXT, "kind %u is unknown: the kinds are 1 to %d, and 0 ends the log", i.kind,
+                 KINDS - 1);
     else
         snprintf(text, TEXT, "%s begins here, and the log ends inside it", item_name(i.kind));
 }
@@ -32,7 +34,8 @@ static void bad_bus(const vin_plan *plan, item i, char *text)
     if (kind == VIN_KIND_UNUSED)
         snprintf(text, TEXT, "%s on bus %u, which the plan does not use", item_name(i.kind), i.bus);
     else
-        snprintf(text, TEXT, "%s on bus %u, which is %s in the plan", item_name(i.kind), i.bus, kind_name(kind));
+        snprintf(text, TEXT, "%s on bus %u, which is %s in the plan", item_name(i.kind), i.bus,
+                 kind_name(kind));
 }
 
 static void bad_limit(item i, char *text)
@@ -42,7 +45,8 @@ static void bad_limit(item i, char *text)
              status ? "response" : "micro", i.fine);
 }
 
-static void say_log_refused(const char *name, const run *log, const vin_plan *plan, unsigned number, uint64_t bit)
+static void say_log_refused(const char *name, const run *log, const vin_plan *plan, unsigned number,
+                            uint64_t bit)
 {
     char text[TEXT];
     item i = item_at(log->bytes, log->length, bit);
@@ -52,8 +56,8 @@ static void say_log_refused(const char *name, const run *log, const vin_plan *pl
         bad_bus(plan, i, text);
     else
         bad_limit(i, text);
-    complain("%s: refused by %u at bit %" PRIu64 " (byte %" PRIu64 ", bit %u, item %zu): %s", input_name(name), number, bit, bit / 8,
-             (unsigned)(bit % 8), i.number, text);
+    complain("%s: refused by %u at bit %" PRIu64 " (byte %" PRIu64 ", bit %u, item %zu): %s",
+             input_name(name), number, bit, bit / 8, (unsigned)(bit % 8), i.number, text);
 }
 
 void say_listing_refused(const char *log_name, const run *log, unsigned number, uint64_t place)
@@ -75,16 +79,22 @@ static void say_times_refused(const call *c, uint64_t place)
     uint64_t given = c->times.length / VIN_TIME_BYTES, needed = times_needed(c);
     const char *name = c->times_name ? input_name(c->times_name) : input_name(c->log_name);
     if (given == needed)
-        complain("%s: refused by 5 at time %" PRIu64 " (counted from 0): %" PRIu64 " microseconds, and times are below %" PRIu64, name,
-                 place, time_at(c->times.bytes, place), VIN_TIME_LIMIT);
+        complain("%s: refused by 5 at time %" PRIu64 " (counted from 0): %" PRIu64
+                 " microseconds, and times are below %" PRIu64,
+                 name, place, time_at(c->times.bytes, place), VIN_TIME_LIMIT);
     else if (!c->plan.frame_time)
-        complain("%s: refused by 5 at 0: the plan has no frame time, so no times are needed, and %" PRIu64 " are given", name, given);
+        complain("%s: refused by 5 at 0: the plan has no frame time, so no times are needed, and %" PRIu64
+                 " are given",
+                 name, given);
     else if (!c->times_name)
-        complain("%s: refused by 5 at %" PRIu64 ": the plan has frame time, and no file of times is named; it needs %" PRIu64
-                 ", one a group", name, place, needed);
+        complain("%s: refused by 5 at %" PRIu64
+                 ": the plan has frame time, and no file of times is named; it needs %" PRIu64
+                 ", one a group",
+                 name, place, needed);
     else
-        complain("%s: refused by 5 at %" PRIu64 ": %" PRIu64 " frame times are needed, one a group, and %" PRIu64 " are given", name,
-                 place, needed, given);
+        complain("%s: refused by 5 at %" PRIu64 ": %" PRIu64
+                 " frame times are needed, one a group, and %" PRIu64 " are given",
+                 name, place, needed, given);
 }
 
 void say_composing_refused(const call *c, vin_answer a)
@@ -96,13 +106,15 @@ void say_composing_refused(const call *c, vin_answer a)
     case VIN_LIMIT: say_log_refused(c->log_name, &c->log, &c->plan, a.number, a.place); break;
     case VIN_TIMES: say_times_refused(c, a.place); break;
     default:
-        complain("%s: refused by %" PRIu32 " at %" PRIu64 ": %s", input_name(c->log_name), a.number, a.place, vin_text(a.number));
+        complain("%s: refused by %" PRIu32 " at %" PRIu64 ": %s", input_name(c->log_name), a.number, a.place,
+                 vin_text(a.number));
     }
 }
 
 /* ==== In a capture: 6 to 14 ==== */
 
-/* A stored word, and where it stands: the group counted from 0, as frame times are; track and word from 1, as Chapter 8 has them. */
+/* A stored word, and where it stands: the group counted from 0, as frame times are; track and word from 1, as
+ * Chapter 8 has them. */
 typedef struct {
     uint32_t word, bus, label, info;
     uint64_t group;
@@ -122,7 +134,8 @@ static stored stored_at(const vin_plan *plan, const run *capture, uint64_t place
     s.group = place / (plan->words * plan->tracks);
     s.track = in_group / plan->words + 1;
     s.position = in_group % plan->words + 1;
-    s.dealt = (size_t)(s.position - 2) * plan->tracks + s.track - 1; /* of no meaning for a frame's first word */
+    s.dealt =
+        (size_t)(s.position - 2) * plan->tracks + s.track - 1; /* of no meaning for a frame's first word */
     return s;
 }
 
@@ -130,7 +143,8 @@ static const char *label_name(unsigned kind, unsigned label)
 {
     static const char *const common[] = {"overflow", "fill",       "user",     "user",
                                          "",         "time micro", "time low", "time high"};
-    static const char *const mil1553[] = {"error B", "data B", "status B", "command B", "error A", "data A", "status A", "command A"};
+    static const char *const mil1553[] = {"error B", "data B", "status B", "command B",
+                                          "error A", "data A", "status A", "command A"};
     if (label == 4)
         return kind == VIN_KIND_1553 ? "response time" : "error notice";
     if (label < 8)
@@ -155,10 +169,13 @@ static void bad_frame_time(const vin_plan *plan, stored s, char *text)
     if (which >= FRAME_TIME_WORDS)
         snprintf(text, TEXT, "%s", vin_text(VIN_FRAME_TIME));
     else if (s.bus != 0 || s.label != 7 - which)
-        snprintf(text, TEXT, "%06" PRIX32 " has bus %" PRIu32 " and label %" PRIu32 "; the frame time's %s word has bus 0 and label %u",
+        snprintf(text, TEXT,
+                 "%06" PRIX32 " has bus %" PRIu32 " and label %" PRIu32
+                 "; the frame time's %s word has bus 0 and label %u",
                  s.word, s.bus, s.label, names[which], 7 - which);
     else
-        snprintf(text, TEXT, "%06" PRIX32 ": the frame time's micro is %" PRIu32 "; it must be below 10000", s.word, s.info);
+        snprintf(text, TEXT, "%06" PRIX32 ": the frame time's micro is %" PRIu32 "; it must be below 10000",
+                 s.word, s.info);
 }
 
 static void bad_data_word(const vin_plan *plan, stored s, char *text)
@@ -167,28 +184,39 @@ static void bad_data_word(const vin_plan *plan, stored s, char *text)
     if (s.label == 1)
         snprintf(text, TEXT, "%06" PRIX32 " has label 1, fill, and fill is AAAA", s.word);
     else if (kind == VIN_KIND_UNUSED)
-        snprintf(text, TEXT, "%06" PRIX32 " is on bus %" PRIu32 ", which the plan does not use", s.word, s.bus);
+        snprintf(text, TEXT, "%06" PRIX32 " is on bus %" PRIu32 ", which the plan does not use", s.word,
+                 s.bus);
     else
-        snprintf(text, TEXT, "%06" PRIX32 " (%s on bus %" PRIu32 ") starts or continues no item, or starts one that the capture's end cuts",
+        snprintf(text, TEXT,
+                 "%06" PRIX32 " (%s on bus %" PRIu32
+                 ") starts or continues no item, or starts one that the capture's end cuts",
                  s.word, label_name(kind, s.label), s.bus);
 }
 
 static void bad_fill(stored s, char *text)
 {
     if (s.bus != 0)
-        snprintf(text, TEXT, "%06" PRIX32 ": misplaced fill: its bus is %" PRIu32 " and not 0", s.word, s.bus);
+        snprintf(text, TEXT, "%06" PRIX32 ": misplaced fill: its bus is %" PRIu32 " and not 0", s.word,
+                 s.bus);
     else
-        snprintf(text, TEXT, "%06" PRIX32 ": misplaced fill: data follows it, or its group is after the last data", s.word);
+        snprintf(text, TEXT,
+                 "%06" PRIX32 ": misplaced fill: data follows it, or its group is after the last data",
+                 s.word);
 }
 
 static void bad_word(const vin_plan *plan, stored s, unsigned number, char *text)
 {
     switch (number) {
-    case VIN_SYNC: snprintf(text, TEXT, "%06" PRIX32 " stands where the sync word FAF320 belongs", s.word); break;
-    case VIN_PARITY:
-        snprintf(text, TEXT, "%06" PRIX32 " has %u ones, an even number, and the plan has parity", s.word, count_ones(s.word));
+    case VIN_SYNC:
+        snprintf(text, TEXT, "%06" PRIX32 " stands where the sync word FAF320 belongs", s.word);
         break;
-    case VIN_CRC: snprintf(text, TEXT, "%06" PRIX32 " is not the CRC word of the words before it in its frame", s.word); break;
+    case VIN_PARITY:
+        snprintf(text, TEXT, "%06" PRIX32 " has %u ones, an even number, and the plan has parity", s.word,
+                 count_ones(s.word));
+        break;
+    case VIN_CRC:
+        snprintf(text, TEXT, "%06" PRIX32 " is not the CRC word of the words before it in its frame", s.word);
+        break;
     case VIN_FRAME_TIME: bad_frame_time(plan, s, text); break;
     case VIN_DATA_WORD: bad_data_word(plan, s, text); break;
     case VIN_FILL: bad_fill(s, text); break;
@@ -200,12 +228,14 @@ static void say_word_refused(const call *c, vin_answer a)
 {
     char text[TEXT];
     if (a.place >= c->capture.length / 3) {
-        complain("%s: refused by %" PRIu32 " at %" PRIu64 ": %s", input_name(c->capture_name), a.number, a.place, vin_text(a.number));
+        complain("%s: refused by %" PRIu32 " at %" PRIu64 ": %s", input_name(c->capture_name), a.number,
+                 a.place, vin_text(a.number));
         return;
     }
     stored s = stored_at(&c->plan, &c->capture, a.place);
     bad_word(&c->plan, s, a.number, text);
-    complain("%s: refused by %" PRIu32 " at word %" PRIu64 " (group %" PRIu64 ", track %" PRIu32 ", word %" PRIu32 "): %s",
+    complain("%s: refused by %" PRIu32 " at word %" PRIu64 " (group %" PRIu64 ", track %" PRIu32
+             ", word %" PRIu32 "): %s",
              input_name(c->capture_name), a.number, a.place, s.group, s.track, s.position, text);
 }
 
@@ -216,8 +246,8 @@ static void say_length_refused(const call *c)
     if (length > VIN_CAPTURE_MAX)
         complain("%s: refused by 8: the capture has more than %d bytes", name, VIN_CAPTURE_MAX);
     else
-        complain("%s: refused by 8 at %zu: %zu bytes are %zu groups of %zu bytes and %zu bytes more", name, length, length,
-                 length / group, group, length % group);
+        complain("%s: refused by 8 at %zu: %zu bytes are %zu groups of %zu bytes and %zu bytes more", name,
+                 length, length, length / group, group, length % group);
 }
 
 void say_reading_refused(const call *c, vin_answer a)
@@ -226,7 +256,8 @@ void say_reading_refused(const call *c, vin_answer a)
     case VIN_PLAN: say_illegal(c->plan_name, &c->plan); break;
     case VIN_CAPTURE: say_length_refused(c); break;
     case VIN_ROOM:
-        complain("%s: refused by 6 at %" PRIu64 ": the log would have %" PRIu64 " bytes, and a log has at most %d",
+        complain("%s: refused by 6 at %" PRIu64 ": the log would have %" PRIu64
+                 " bytes, and a log has at most %d",
                  input_name(c->capture_name), a.place, a.place, VIN_LOG_MAX);
         break;
     default: say_word_refused(c, a);

@@ -14,7 +14,8 @@ void complain(const char *format, ...) __attribute__((format(printf, 1, 2)));
 /* The same with what errno says behind the message. */
 void complain_errno(const char *format, ...) __attribute__((format(printf, 1, 2)));
 
-/* A word of the user's as it can be shown: what cannot be printed becomes '?', and a long one ends in "..". */
+/* A word of the user's as it can be shown: what cannot be printed becomes '?', and a long one ends in "..".
+ */
 typedef struct {
     char text[41];
 } shown;

@@ -43,7 +43,7 @@ static bool take_lines(const char *file, char *text, run *times)
 {
     const char *blanks = " \t\r";
     size_t line = 0;
-    for (char *rest = text; rest; ) {
+    for (char *rest = text; rest;) {
         char *here = rest, *end = strchr(rest, '\n');
         rest = end ? end + 1 : NULL;
         if (end)
@@ -75,8 +75,9 @@ bool read_times(const char *name, run *times)
     if (!good)
         complain("%s: these are no times: one decimal number of microseconds a line", input_name(name));
     else {
-        text.bytes[text.length] = 0;                                         /* read_file has room for one byte more */
-        times->bytes = malloc((text.length / 2 + 1) * VIN_TIME_BYTES); /* a line has two bytes or more, but for the last */
+        text.bytes[text.length] = 0; /* read_file has room for one byte more */
+        times->bytes = malloc((text.length / 2 + 1)
+                              * VIN_TIME_BYTES); /* a line has two bytes or more, but for the last */
         good = times->bytes && take_lines(input_name(name), (char *)text.bytes, times);
         if (!times->bytes)
             complain("out of memory");
@@ -96,6 +97,7 @@ bool times_text(const uint8_t *times, size_t count, run *text)
         return false;
     }
     for (size_t n = 0; n < count; n++)
-        text->length += (size_t)sprintf((char *)text->bytes + text->length, "%llu\n", (unsigned long long)time_at(times, n));
+        text->length += (size_t)sprintf((char *)text->bytes + text->length, "%llu\n",
+                                        (unsigned long long)time_at(times, n));
     return true;
 }

@@ -17,7 +17,8 @@
 
 static void help(FILE *to)
 {
-    fputs("vin: MIL-STD-1553 and ARINC 429 logs packed into IRIG 106 Chapter 8 frames, and read back\n\n", to);
+    fputs("vin: MIL-STD-1553 and ARINC 429 logs packed into IRIG 106 Chapter 8 frames, and read back\n\n",
+          to);
     for (size_t n = 0; n < COMMANDS; n++)
         fprintf(to, "  vin %-42s%s\n", commands[n].usage, commands[n].about);
     fputs("\nA file named - is standard input or standard output. A plan is text, a line each:\n\n"
@@ -99,7 +100,8 @@ static bool are_apart(const command *c, const arguments *a)
     return true;
 }
 
-/* Takes what follows the command's name. Answers DONE, or MISUSE once it is said; help is set if it is asked for. */
+/* Takes what follows the command's name. Answers DONE, or MISUSE once it is said; help is set if it is asked
+ * for. */
 static int take_arguments(const command *c, int count, char **words, arguments *a, bool *help_asked)
 {
     int option;
@@ -115,7 +117,8 @@ static int take_arguments(const command *c, int count, char **words, arguments *
         else if (option == 't')
             good = take_option(c, &a->times, 't', optarg);
         else {
-            complain(option == ':' ? "%s: %s needs a file" : "%s: unknown option %s", c->name, show(words[optind - 1]).text);
+            complain(option == ':' ? "%s: %s needs a file" : "%s: unknown option %s", c->name,
+                     show(words[optind - 1]).text);
             good = false;
         }
         if (!good)
