@@ -47,6 +47,7 @@ bool read_open(int file, const char *name, size_t most, run *to)
         else if (errno != EINTR) {
             complain_errno("%s", name);
             free(to->bytes);
+            *to = (run){NULL, 0};
             return false;
         }
     }
@@ -55,6 +56,7 @@ bool read_open(int file, const char *name, size_t most, run *to)
 
 bool read_file(const char *name, size_t most, run *to)
 {
+    *to = (run){NULL, 0};
     if (is_standard(name))
         return read_open(STDIN_FILENO, input_name(name), most, to);
     int file = open(name, O_RDONLY | O_CLOEXEC);

@@ -16,7 +16,7 @@ typedef struct {
 const char *input_name(const char *name);
 
 /* Reads at most `most` bytes and one more, so that a file that is too long is seen by its length. What is
- * wrong is said; then nothing is to be freed. */
+ * wrong is said, and the run is then empty. */
 bool read_file(const char *name, size_t most, run *to);
 
 /* The same from an open file, whose name is only for messages. */

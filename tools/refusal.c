@@ -12,11 +12,9 @@
 
 enum { TEXT = 200 };
 
-static void bad_log(const run *log, item i, char *text)
+static void bad_log(item i, char *text)
 {
-    if (log->length > VIN_LOG_MAX)
-        snprintf(text, TEXT, "the log has more than %d bytes", VIN_LOG_MAX);
-    else if (i.left < 4)
+    if (i.left < 4)
         snprintf(text, TEXT, "the log ends here, without its end mark");
     else if (i.kind == 0)
         snprintf(text, TEXT,
@@ -49,13 +47,19 @@ static void say_log_refused(const char *name, const run *log, const vin_plan *pl
                             uint64_t bit)
 {
     char text[TEXT];
+    if (log->length > VIN_LOG_MAX) {
+        complain("%s: refused by %u at 0: the log has more than %d bytes", input_name(name), number, VIN_LOG_MAX);
+        return;
+    }
     item i = item_at(log->bytes, log->length, bit);
     if (number == VIN_LOG)
-        bad_log(log, i, text);
-    else if (number == VIN_BUS)
+        bad_log(i, text);
+    else if (number == VIN_BUS && plan)
         bad_bus(plan, i, text);
-    else
+    else if (number == VIN_LIMIT)
         bad_limit(i, text);
+    else
+        snprintf(text, TEXT, "%s", vin_text(number));
     complain("%s: refused by %u at bit %" PRIu64 " (byte %" PRIu64 ", bit %u, item %zu): %s",
              input_name(name), number, bit, bit / 8, (unsigned)(bit % 8), i.number, text);
 }

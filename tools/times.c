@@ -67,23 +67,20 @@ static bool take_lines(const char *file, char *text, run *times)
 bool read_times(const char *name, run *times)
 {
     run text;
+    *times = (run){NULL, 0};
     if (!read_file(name, TEXT_MOST, &text))
         return false;
     bool good = text.length <= TEXT_MOST && !memchr(text.bytes, 0, text.length);
-    times->length = 0;
-    times->bytes = NULL;
     if (!good)
         complain("%s: these are no times: one decimal number of microseconds a line", input_name(name));
     else {
         text.bytes[text.length] = 0; /* read_file has room for one byte more */
-        times->bytes = malloc((text.length / 2 + 1)
-                              * VIN_TIME_BYTES); /* a line has two bytes or more, but for the last */
+        /* a time takes two bytes of text or more, but for the last */
+        times->bytes = malloc((text.length / 2 + 1) * VIN_TIME_BYTES);
         good = times->bytes && take_lines(input_name(name), (char *)text.bytes, times);
         if (!times->bytes)
             complain("out of memory");
     }
-    if (!good)
-        free(times->bytes);
     free(text.bytes);
     return good;
 }

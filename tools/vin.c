@@ -1,5 +1,7 @@
 /* vin: house logs to captures and back, at the command line. tools/vin.1 is the manual. */
+#define _XOPEN_SOURCE 700
 #include <getopt.h>
+#include <signal.h>
 #include <stdbool.h>
 #include <stdio.h>
 #include <string.h>
@@ -180,6 +182,7 @@ static int run_words(int count, char **words)
 
 int main(int count, char **words)
 {
+    signal(SIGXFSZ, SIG_IGN); /* a limit on files is then told as a full disk is */
     int status = run_words(count, words);
     if (fflush(stdout) != 0 || ferror(stdout)) {
         complain_errno("standard output");

@@ -1,0 +1,143 @@
+# Every refusal that the tool can meet, by its number, with its place and what stands there.
+one="words 129" two="tracks 1"
+
+# 1
+plan "words 128" "$two"
+for command in "plan p" "compose p four-track.log -o new" "read p four-track.capture -o new" "check p four-track.capture"; do
+    refused "vin: p: refused by 1: words is 128: a frame has 129 to 511 words" $command
+done
+plan "words 512" "$two"
+refused "vin: p: refused by 1: words is 512: a frame has 129 to 511 words" plan p
+plan "$one" "tracks 0"
+refused "vin: p: refused by 1: tracks is 0: a group has 1 to 4 tracks" plan p
+plan "$one" "tracks 2"
+refused "vin: p: refused by 1: more than one track needs exactly one used bus, and 0 are used" plan p
+plan "words 999999999" "tracks 5" "parity yes" "bus 1 1553" "bus 9 arinc"
+refused "vin: p: refused by 1: words is 999999999: a frame has 129 to 511 words
+vin: p: refused by 1: tracks is 5: a group has 1 to 4 tracks
+vin: p: refused by 1: more than one track needs exactly one used bus, and 2 are used
+vin: p: refused by 1: bus 9 is used: with parity the buses are 0 to 7" plan p
+for words in 129 511; do
+    plan "words $words" "$two"
+    "${vin[@]}" plan p >out.txt
+    result "words $words" $?
+done
+
+# 2: too long, cut, without an end mark, of an unknown kind, with a bad ending
+head -c 32769 /dev/zero >l
+refused "vin: l: refused by 2 at 0: the log has more than 32768 bytes" list l
+refused "vin: l: refused by 2 at 0: the log has more than 32768 bytes" compose four-track.plan l -o new
+: >l
+refused "vin: l: refused by 2 at bit 0 (byte 0, bit 0, item 1): the log ends here, without its end mark" list l
+head -c 100 four-track.log >l
+refused "vin: l: refused by 2 at bit 784 (byte 98, bit 0, item 28): a status begins here, and the log ends inside it" list l
+refused "vin: l: refused by 2 at bit 784 (byte 98, bit 0, item 28): a status begins here, and the log ends inside it" \
+    compose four-track.plan l four-track.times -o new
+bytes 32 5F 77 F0 >l
+refused "vin: l: refused by 2 at bit 25 (byte 3, bit 1, item 2): kind 14 is unknown: the kinds are 1 to 8, and 0 ends the log" list l
+bytes 00 00 >l
+refused "vin: l: refused by 2 at bit 0 (byte 0, bit 0, item 1): the end mark stands here, and more follows it than the zero bits that fill its byte" list l
+"${vin[@]}" list <l >out.txt 2>err.txt
+[ $? -eq 1 ] && grep -q '^vin: standard input: refused by 2 at bit 0 ' err.txt && [ ! -s out.txt ]
+result "a refusal of standard input" $?
+
+# 3
+refused "vin: composite.log: refused by 3 at bit 0 (byte 0, bit 0, item 1): a command on bus 0, which the plan does not use" \
+    compose four-track.plan composite.log composite.times -o new
+plan "$one" "$two" "bus 0 1553" "bus 1 1553" "bus 5 1553"
+refused "vin: composite.log: refused by 3 at bit 374 (byte 46, bit 6, item 11): an ARINC word on bus 5, which is MIL-STD-1553 in the plan" \
+    compose p composite.log -o new
+
+# 4: P9's micro, and a response
+bytes 12 42 10 FF FF FF FF E7 10 00 >l
+refused "vin: l: refused by 4 at bit 0 (byte 0, bit 0, item 1): a command on bus 2 whose micro is 10000: it must be below 10000" list l
+bytes 32 5F 77 91 20 00 1F FF 80 >l
+refused "vin: l: refused by 4 at bit 25 (byte 3, bit 1, item 2): a status on bus 2 whose response is 16383: it must be below 10000" \
+    compose four-track.plan l four-track.times -o new
+
+# 5
+refused "vin: four-track.log: refused by 5 at 2: the plan has frame time, and no file of times is named; it needs 2, one a group" \
+    compose four-track.plan four-track.log -o new
+refused "vin: composite.times: refused by 5 at 2: 2 frame times are needed, one a group, and 3 are given" \
+    compose four-track.plan four-track.log composite.times -o new
+printf '%s\n' 0 42949672959999 >t
+done_by compose four-track.plan four-track.log t -o new
+printf '%s\n' 0 42949672960000 >t
+refused "vin: t: refused by 5 at time 1 (counted from 0): 42949672960000 microseconds, and times are below 42949672960000" \
+    compose four-track.plan four-track.log t -o new
+printf '%s\n' 99999999999999999999999 0 >t
+refused "vin: t: refused by 5 at time 0 (counted from 0): 18446744073709551615 microseconds, and times are below 42949672960000" \
+    compose four-track.plan four-track.log t -o new
+printf '%s\n' 42949672960000 >t
+refused "vin: t: refused by 5 at 2: 2 frame times are needed, one a group, and 1 are given" \
+    compose four-track.plan four-track.log t -o new
+plan "$one" "$two" "bus 2 1553"
+refused "vin: four-track.times: refused by 5 at 0: the plan has no frame time, so no times are needed, and 2 are given" \
+    compose p four-track.log four-track.times -o new
+: >t
+done_by compose p four-track.log t -o new
+
+# 6: forty captures in a row hold more than a log
+for n in {1..40}; do cat composite.capture; done >long
+refused "vin: long: refused by 6 at 36441: the log would have 36441 bytes, and a log has at most 32768" \
+    read composite.plan long -o new
+
+# 8
+head -c 1600 four-track.capture >bad
+refused "vin: bad: refused by 8 at 1600: 1600 bytes are 1 groups of 1548 bytes and 52 bytes more" read four-track.plan bad -o new
+head -c 1048577 /dev/zero >long
+refused "vin: long: refused by 8: the capture has more than 1048576 bytes" check four-track.plan long
+
+# 9, 11: on tracks; 10, 12: with parity
+patched four-track.capture 129 "FAF321"
+refused "vin: bad: refused by 9 at word 129 (group 0, track 2, word 1): FAF321 stands where the sync word FAF320 belongs" \
+    read four-track.plan bad -o new
+patched four-track.capture 1000 "2D0000"
+refused "vin: bad: refused by 11 at word 1031 (group 1, track 4, word 129): $(od -An -tx1 -j3093 -N3 bad | tr -d ' ' | tr a-f A-F) is not the CRC word of the words before it in its frame" \
+    check four-track.plan bad
+patched composite.capture 200 "000003"
+refused "vin: bad: refused by 10 at word 200 (group 1, track 1, word 72): 000003 has 2 ones, an even number, and the plan has parity" \
+    read composite.plan bad -o new
+patched composite.capture 1 "860000"
+refused "vin: bad: refused by 12 at word 1 (group 0, track 1, word 2): 860000 has bus 0 and label 6; the frame time's high word has bus 0 and label 7" \
+    read composite.plan bad -o new
+patched composite.capture 132 "052710"
+refused "vin: bad: refused by 12 at word 132 (group 1, track 1, word 4): 052710: the frame time's micro is 10000; it must be below 10000" \
+    read composite.plan bad -o new
+
+# 13: a low syllable alone, an unused bus, fill other than AAAA, and a high syllable at the end
+patched composite.capture 4 "580000"
+refused "vin: bad: refused by 13 at word 4 (group 0, track 1, word 5): 580000 (low syllable on bus 5) starts or continues no item, or starts one that the capture's end cuts" \
+    read composite.plan bad -o new
+patched composite.capture 4 "7D0001"
+refused "vin: bad: refused by 13 at word 4 (group 0, track 1, word 5): 7D0001 is on bus 7, which the plan does not use" \
+    check composite.plan bad
+patched composite.capture 9 "010000"
+refused "vin: bad: refused by 13 at word 9 (group 0, track 1, word 10): 010000 has label 1, fill, and fill is AAAA" \
+    check composite.plan bad
+last=$(($(od -An -v -tx1 -w3 composite.capture | grep -n '^ 90 00 04$' | tail -n 1 | cut -d: -f1) - 1))
+patched composite.capture "$last" "590001"
+refused "vin: bad: refused by 13 at word $last (group 2, track 1, word $((last - 257))): 590001 (high syllable on bus 5) starts or continues no item, or starts one that the capture's end cuts" \
+    check composite.plan bad
+
+# 14: the plain reading takes it, the closed one does not
+patched composite.capture 10 "01AAAA"
+refused "vin: bad: refused by 14 at word 10 (group 0, track 1, word 11): 01AAAA: misplaced fill: data follows it, or its group is after the last data" \
+    check composite.plan bad
+done_by read composite.plan bad -o new
+patched composite.capture 386 "31AAAA"
+refused "vin: bad: refused by 14 at word 386 (group 2, track 1, word 129): 31AAAA: misplaced fill: its bus is 3 and not 0" \
+    check composite.plan bad
+
+# What a number means: each has its page, and no other number has.
+for n in {0..14}; do
+    "${vin[@]}" explain $n >out.txt
+    result "explain $n" $?
+    head -n 1 out.txt >have
+    "${vin[@]}" explain | sed -n "s/^ *$n  /$n: /p" >want
+    same "explain $n" want have
+done
+for n in 15 -- x 99999999999999999999 1x; do
+    [ "$n" = -- ] || misuse "vin: no refusal has the number $n; vin explain lists them" explain "$n"
+done
+rm -f p l t bad long out.txt err.txt have want new
