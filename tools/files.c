@@ -150,14 +150,33 @@ static void forget(staged *s)
     s->name = s->temporary = NULL;
 }
 
-static bool stage(const output *o, size_t index, staged *s)
+enum { TEMPORARIES = 100 };
+
+/* The first such name that is free: another process may have left one. */
+static bool make_temporary(const output *o, const struct stat *old, staged *s)
+{
+    for (size_t n = 0; n < TEMPORARIES; n++) {
+        s->temporary = beside(s->name, n);
+        if (!s->temporary)
+            return false;
+        if (fill_temporary(s->temporary, o, old))
+            return true;
+        if (errno != EEXIST)
+            return false;
+        free(s->temporary);
+        s->temporary = NULL;
+    }
+    errno = EEXIST;
+    return false;
+}
+
+static bool stage(const output *o, staged *s)
 {
     struct stat there;
     bool exists = stat(o->name, &there) == 0;
     s->name = exists ? realpath(o->name, NULL) : strdup(o->name);
-    s->temporary = s->name ? beside(s->name, index) : NULL;
-    bool whole = s->temporary && (!exists || access(s->name, W_OK) == 0)
-                 && fill_temporary(s->temporary, o, exists ? &there : NULL);
+    bool whole = s->name && (!exists || access(s->name, W_OK) == 0)
+                 && make_temporary(o, exists ? &there : NULL, s);
     if (!whole) {
         complain_errno("%s", o->name);
         forget(s);
@@ -184,7 +203,7 @@ static bool write_regular(const output *outputs, size_t count)
     bool good = true;
     for (size_t n = 0; n < count && good; n++)
         if (!is_direct(outputs[n].name))
-            good = stage(&outputs[n], n, &ready[n]);
+            good = stage(&outputs[n], &ready[n]);
     for (size_t n = 0; n < count; n++) {
         if (!ready[n].temporary)
             continue;

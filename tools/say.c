@@ -36,7 +36,7 @@ shown show(const char *word)
     shown s = {{0}};
     const size_t most = sizeof s.text - 1;
     size_t n = 0;
-    for (; word[n] && n < most; n++)
+    for (; n < most && word[n]; n++)
         s.text[n] = word[n] >= ' ' && word[n] <= '~' ? word[n] : '?';
     if (word[n])
         memcpy(s.text + most - 2, "..", 2);
