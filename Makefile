@@ -33,6 +33,7 @@ all: $(built) $(if $(RUNNER),$(programs:%=$(OUT)/%))
 need_rt = @command -v rt >/dev/null || { echo "rt is missing: install the Rattle kit; see README.md" >&2; exit 1; }
 $(LISTER): $(proved)
 	$(need_rt)
+	@echo "the proofs take some minutes the first time: the lister's, then the library's"
 	rt check lister
 	@touch $@
 

@@ -13,7 +13,7 @@
 #include "say.h"
 #include "times.h"
 
-/* Done, or a refusal that is said. */
+/* Whether all was written; what was not is said. */
 static int ended(bool good)
 {
     return good ? DONE : MISUSE;

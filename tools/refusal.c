@@ -8,6 +8,13 @@
 #include "say.h"
 #include "times.h"
 
+/* A refusal whose place says no more. */
+static void say_plainly(const char *name, vin_answer a)
+{
+    complain("%s: refused by %" PRIu32 " at %" PRIu64 ": %s", input_name(name), a.number, a.place,
+             vin_text(a.number));
+}
+
 /* ==== In a log: 2 to 4 ==== */
 
 enum { TEXT = 200 };
@@ -109,9 +116,7 @@ void say_composing_refused(const call *c, vin_answer a)
     case VIN_BUS:
     case VIN_LIMIT: say_log_refused(c->log_name, &c->log, &c->plan, a.number, a.place); break;
     case VIN_TIMES: say_times_refused(c, a.place); break;
-    default:
-        complain("%s: refused by %" PRIu32 " at %" PRIu64 ": %s", input_name(c->log_name), a.number, a.place,
-                 vin_text(a.number));
+    default: say_plainly(c->log_name, a);
     }
 }
 
@@ -182,6 +187,14 @@ static void bad_frame_time(const vin_plan *plan, stored s, char *text)
                  s.word, s.info);
 }
 
+/* Can an item of several words begin with this label? */
+static bool begins_more(unsigned kind, unsigned label)
+{
+    if (kind == VIN_KIND_1553)
+        return label == 15 || label == 11 || label == 4;
+    return label >= 8 && label % 2;
+}
+
 static void bad_data_word(const vin_plan *plan, stored s, char *text)
 {
     unsigned kind = plan->kinds[s.bus];
@@ -191,10 +204,9 @@ static void bad_data_word(const vin_plan *plan, stored s, char *text)
         snprintf(text, TEXT, "%06" PRIX32 " is on bus %" PRIu32 ", which the plan does not use", s.word,
                  s.bus);
     else
-        snprintf(text, TEXT,
-                 "%06" PRIX32 " (%s on bus %" PRIu32
-                 ") starts or continues no item, or starts one that the capture's end cuts",
-                 s.word, label_name(kind, s.label), s.bus);
+        snprintf(text, TEXT, "%06" PRIX32 " (%s on bus %" PRIu32 ") starts or continues no item%s", s.word,
+                 label_name(kind, s.label), s.bus,
+                 begins_more(kind, s.label) ? ", or starts one that the capture's end cuts" : "");
 }
 
 static void bad_fill(stored s, char *text)
@@ -232,8 +244,7 @@ static void say_word_refused(const call *c, vin_answer a)
 {
     char text[TEXT];
     if (a.place >= c->capture.length / 3) {
-        complain("%s: refused by %" PRIu32 " at %" PRIu64 ": %s", input_name(c->capture_name), a.number,
-                 a.place, vin_text(a.number));
+        say_plainly(c->capture_name, a);
         return;
     }
     stored s = stored_at(&c->plan, &c->capture, a.place);

@@ -102,6 +102,18 @@ static bool are_apart(const command *c, const arguments *a)
     return true;
 }
 
+/* Says what is wrong; false. An option of one letter may stand among others, so getopt names it. */
+static bool wrong_option(const command *c, int option, const char *word)
+{
+    if (option == ':')
+        complain("%s: %s needs a file", c->name, optopt == 'o' ? "-o" : "--times");
+    else if (optopt > ' ' && optopt <= '~')
+        complain("%s: unknown option -%c", c->name, optopt);
+    else
+        complain("%s: unknown option %s", c->name, show(word).text);
+    return false;
+}
+
 /* Takes what follows the command's name. Answers DONE, or MISUSE once it is said; help is set if it is asked
  * for. */
 static int take_arguments(const command *c, int count, char **words, arguments *a, bool *help_asked)
@@ -118,11 +130,8 @@ static int take_arguments(const command *c, int count, char **words, arguments *
             good = take_option(c, &a->out, 'o', optarg);
         else if (option == 't')
             good = take_option(c, &a->times, 't', optarg);
-        else {
-            complain(option == ':' ? "%s: %s needs a file" : "%s: unknown option %s", c->name,
-                     show(words[optind - 1]).text);
-            good = false;
-        }
+        else
+            good = wrong_option(c, option, words[optind - 1]);
         if (!good)
             return wrong_usage(c);
     }
@@ -154,9 +163,9 @@ static int run_command(const command *c, int count, char **words)
     return are_apart(c, &a) ? c->run(&a) : MISUSE;
 }
 
-static bool is_one_of(const char *word, const char *one, const char *other)
+static bool asks_help(const char *word)
 {
-    return strcmp(word, one) == 0 || strcmp(word, other) == 0;
+    return strcmp(word, "--help") == 0 || strcmp(word, "-h") == 0 || strcmp(word, "help") == 0;
 }
 
 static int run_words(int count, char **words)
@@ -168,7 +177,7 @@ static int run_words(int count, char **words)
     for (size_t n = 0; n < COMMANDS; n++)
         if (strcmp(words[1], commands[n].name) == 0)
             return run_command(&commands[n], count - 1, words + 1);
-    if (is_one_of(words[1], "--help", "help") || strcmp(words[1], "-h") == 0) {
+    if (asks_help(words[1])) {
         help(stdout);
         return DONE;
     }

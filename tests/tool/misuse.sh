@@ -5,6 +5,8 @@ usage compose "an argument is missing" "$compose" -o new
 usage compose "no output is named: -o FILE, or -o - for standard output" "$compose" four-track.plan four-track.log
 usage compose "one argument too many: d" "$compose" a b c d -o new
 usage compose "unknown option -x" "$compose" -x
+usage compose "unknown option -x" "$compose" -xo new
+usage read "--times needs a file" "$read" a b -o c --times
 usage compose "takes no --times" "$compose" a b --times c -o new
 usage compose "-o needs a file" "$compose" a b -o
 usage compose "-o is given twice" "$compose" a b -o c -o d

@@ -107,7 +107,7 @@ refused "vin: bad: refused by 12 at word 132 (group 1, track 1, word 4): 052710:
 
 # 13: a low syllable alone, an unused bus, fill other than AAAA, and a high syllable at the end
 patched composite.capture 4 "580000"
-refused "vin: bad: refused by 13 at word 4 (group 0, track 1, word 5): 580000 (low syllable on bus 5) starts or continues no item, or starts one that the capture's end cuts" \
+refused "vin: bad: refused by 13 at word 4 (group 0, track 1, word 5): 580000 (low syllable on bus 5) starts or continues no item" \
     read composite.plan bad -o new
 patched composite.capture 4 "7D0001"
 refused "vin: bad: refused by 13 at word 4 (group 0, track 1, word 5): 7D0001 is on bus 7, which the plan does not use" \
