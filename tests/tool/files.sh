@@ -75,7 +75,7 @@ result "/dev/null is still a device" $?
 inside "${good[@]}" /dev/stdout >c
 same "/dev/stdout into a file" four-track.capture c
 mkfifo pipe
-cat pipe >c &
+timeout 20 cat pipe >c & # a tool that never opens it must not hold up the test
 inside "${good[@]}" ../pipe
 wait $!
 same "a named pipe" four-track.capture c

@@ -17,11 +17,21 @@ refused "vin: p: refused by 1: words is 999999999: a frame has 129 to 511 words
 vin: p: refused by 1: tracks is 5: a group has 1 to 4 tracks
 vin: p: refused by 1: more than one track needs exactly one used bus, and 2 are used
 vin: p: refused by 1: bus 9 is used: with parity the buses are 0 to 7" plan p
-for words in 129 511; do
-    plan "words $words" "$two"
-    "${vin[@]}" plan p >out.txt
-    result "words $words" $?
-done
+# Every rule with every other: legal just when document 01 says so, and each refusal names a rule.
+for words in 128 129 511 512; do for tracks in 0 1 2 4 5; do for parity in no yes; do for buses in "" 7 8 "2 9"; do
+    plan "words $words" "tracks $tracks" "parity $parity"
+    used=0 high=0
+    for bus in $buses; do
+        echo "bus $bus 1553" >>p
+        used=$((used + 1)) high=$((high + bus / 8))
+    done
+    legal=0
+    [ $words -gt 128 ] && [ $words -lt 512 ] && [ $tracks -ge 1 ] && [ $tracks -le 4 ] \
+        && { [ $tracks -eq 1 ] || [ $used -eq 1 ]; } && { [ $parity = no ] || [ $high -eq 0 ]; } || legal=1
+    "${vin[@]}" plan p >out.txt 2>err.txt
+    [ $? -eq $legal ] && ! grep -q "the plan is illegal" err.txt
+    result "a plan of $words words, $tracks tracks, parity $parity, buses $buses" $?
+done; done; done; done
 
 # 2: too long, cut, without an end mark, of an unknown kind, with a bad ending
 head -c 32769 /dev/zero >l
