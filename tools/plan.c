@@ -105,8 +105,10 @@ static bool take_key(const line *at, const char *key, const char *value, draft *
         if (strcmp(key, keys[k].name) == 0)
             return keys[k].value(at, value, (uint32_t *)(void *)((char *)&d->plan + keys[k].offset))
                    && is_new(at, key, &d->key_lines[k]);
-    complain("%s:%zu: unknown key \"%s\"; the keys are words, tracks, frame-time, crc, parity and bus",
-             at->file, at->number, show(key).text);
+    char names[KEYS * 16] = ""; /* a name and a comma each */
+    for (size_t k = 0; k < KEYS; k++)
+        strcat(strcat(names, keys[k].name), k + 1 < KEYS ? ", " : "");
+    complain("%s:%zu: unknown key \"%s\"; the keys are %s and bus", at->file, at->number, show(key).text, names);
     return false;
 }
 

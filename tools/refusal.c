@@ -2,6 +2,7 @@
 
 #include <inttypes.h>
 #include <stdio.h>
+#include <string.h>
 
 #include "items.h"
 #include "picture.h"
@@ -19,9 +20,18 @@ static void say_plainly(const char *name, vin_answer a)
 
 enum { TEXT = 200 };
 
-static void bad_log(item i, char *text)
+/* Is it a capture by mistake? */
+static bool begins_with_sync(const run *log)
 {
-    if (i.left < 4)
+    static const uint8_t sync[] = {0xFA, 0xF3, 0x20};
+    return log->length >= sizeof sync && memcmp(log->bytes, sync, sizeof sync) == 0;
+}
+
+static void bad_log(const run *log, item i, char *text)
+{
+    if (begins_with_sync(log))
+        snprintf(text, TEXT, "it begins with FAF320, as a capture does, and is no log");
+    else if (i.left < 4)
         snprintf(text, TEXT, "the log ends here, without its end mark");
     else if (i.kind == 0)
         snprintf(text, TEXT,
@@ -60,7 +70,7 @@ static void say_log_refused(const char *name, const run *log, const vin_plan *pl
     }
     item i = item_at(log->bytes, log->length, bit);
     if (number == VIN_LOG)
-        bad_log(i, text);
+        bad_log(log, i, text);
     else if (number == VIN_BUS && plan)
         bad_bus(plan, i, text);
     else if (number == VIN_LIMIT)

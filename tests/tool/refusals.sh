@@ -45,6 +45,8 @@ refused "vin: l: refused by 2 at bit 784 (byte 98, bit 0, item 28): a status beg
     compose four-track.plan l four-track.times -o new
 bytes 32 5F 77 F0 >l
 refused "vin: l: refused by 2 at bit 25 (byte 3, bit 1, item 2): kind 14 is unknown: the kinds are 1 to 8, and 0 ends the log" list l
+refused "vin: four-track.capture: refused by 2 at bit 0 (byte 0, bit 0, item 1): it begins with FAF320, as a capture does, and is no log" \
+    list four-track.capture
 bytes 00 00 >l
 refused "vin: l: refused by 2 at bit 0 (byte 0, bit 0, item 1): the end mark stands here, and more follows it than the zero bits that fill its byte" list l
 "${vin[@]}" list <l >out.txt 2>err.txt
