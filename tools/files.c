@@ -175,8 +175,8 @@ static bool stage(const output *o, staged *s)
     struct stat there;
     bool exists = stat(o->name, &there) == 0;
     s->name = exists ? realpath(o->name, NULL) : strdup(o->name);
-    bool whole = s->name && (!exists || access(s->name, W_OK) == 0)
-                 && make_temporary(o, exists ? &there : NULL, s);
+    bool whole =
+        s->name && (!exists || access(s->name, W_OK) == 0) && make_temporary(o, exists ? &there : NULL, s);
     if (!whole) {
         complain_errno("%s", o->name);
         forget(s);

@@ -108,7 +108,8 @@ static bool take_key(const line *at, const char *key, const char *value, draft *
     char names[KEYS * 16] = ""; /* a name and a comma each */
     for (size_t k = 0; k < KEYS; k++)
         strcat(strcat(names, keys[k].name), k + 1 < KEYS ? ", " : "");
-    complain("%s:%zu: unknown key \"%s\"; the keys are %s and bus", at->file, at->number, show(key).text, names);
+    complain("%s:%zu: unknown key \"%s\"; the keys are %s and bus", at->file, at->number, show(key).text,
+             names);
     return false;
 }
 
@@ -223,7 +224,7 @@ static bool wrong_buses(const char *file, const vin_plan *plan)
         used += plan->kinds[bus] != VIN_KIND_UNUSED;
     if (plan->tracks <= 1 || used == 1)
         return false;
-    complain("%s: refused by 1: more than one track needs exactly one used bus, and %u are used", file, used);
+    complain("%s: refused by 1: more than one track needs exactly one used bus; used: %u", file, used);
     return true;
 }
 

@@ -65,7 +65,8 @@ static void say_log_refused(const char *name, const run *log, const vin_plan *pl
 {
     char text[TEXT];
     if (log->length > VIN_LOG_MAX) {
-        complain("%s: refused by %u at 0: the log has more than %d bytes", input_name(name), number, VIN_LOG_MAX);
+        complain("%s: refused by %u at 0: the log has more than %d bytes", input_name(name), number,
+                 VIN_LOG_MAX);
         return;
     }
     item i = item_at(log->bytes, log->length, bit);
@@ -104,17 +105,15 @@ static void say_times_refused(const call *c, uint64_t place)
                  " microseconds, and times are below %" PRIu64,
                  name, place, time_at(c->times.bytes, place), VIN_TIME_LIMIT);
     else if (!c->plan.frame_time)
-        complain("%s: refused by 5 at 0: the plan has no frame time, so no times are needed, and %" PRIu64
-                 " are given",
+        complain("%s: refused by 5 at 0: the plan has no frame time and takes no times; given: %" PRIu64,
                  name, given);
     else if (!c->times_name)
         complain("%s: refused by 5 at %" PRIu64
-                 ": the plan has frame time, and no file of times is named; it needs %" PRIu64
-                 ", one a group",
+                 ": the plan has frame time, and no file of times is named; needed: %" PRIu64 ", one a group",
                  name, place, needed);
     else
-        complain("%s: refused by 5 at %" PRIu64 ": %" PRIu64
-                 " frame times are needed, one a group, and %" PRIu64 " are given",
+        complain("%s: refused by 5 at %" PRIu64 ": frame times needed: %" PRIu64
+                 ", one a group; given: %" PRIu64,
                  name, place, needed, given);
 }
 
@@ -271,8 +270,8 @@ static void say_length_refused(const call *c)
     if (length > VIN_CAPTURE_MAX)
         complain("%s: refused by 8: the capture has more than %d bytes", name, VIN_CAPTURE_MAX);
     else
-        complain("%s: refused by 8 at %zu: %zu bytes are %zu groups of %zu bytes and %zu bytes more", name,
-                 length, length, length / group, group, length % group);
+        complain("%s: refused by 8 at %zu: %zu bytes are not whole groups of %zu bytes; left over: %zu", name,
+                 length, length, group, length % group);
 }
 
 void say_reading_refused(const call *c, vin_answer a)

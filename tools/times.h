@@ -4,8 +4,8 @@
 
 #include "files.h"
 
-/* Times as the library takes them, on the heap in any case. Blank lines and comments (#) are passed over. What is
- * wrong is said with its line. */
+/* Times as the library takes them, on the heap in any case. Blank lines and comments (#) are passed over.
+ * What is wrong is said with its line. */
 bool read_times(const char *name, run *times);
 
 /* The text of so many times. */

@@ -11,11 +11,11 @@ refused "vin: p: refused by 1: words is 512: a frame has 129 to 511 words" plan 
 plan "$one" "tracks 0"
 refused "vin: p: refused by 1: tracks is 0: a group has 1 to 4 tracks" plan p
 plan "$one" "tracks 2"
-refused "vin: p: refused by 1: more than one track needs exactly one used bus, and 0 are used" plan p
+refused "vin: p: refused by 1: more than one track needs exactly one used bus; used: 0" plan p
 plan "words 999999999" "tracks 5" "parity yes" "bus 1 1553" "bus 9 arinc"
 refused "vin: p: refused by 1: words is 999999999: a frame has 129 to 511 words
 vin: p: refused by 1: tracks is 5: a group has 1 to 4 tracks
-vin: p: refused by 1: more than one track needs exactly one used bus, and 2 are used
+vin: p: refused by 1: more than one track needs exactly one used bus; used: 2
 vin: p: refused by 1: bus 9 is used: with parity the buses are 0 to 7" plan p
 # Every rule with every other: legal just when document 01 says so, and each refusal names a rule.
 for words in 128 129 511 512; do for tracks in 0 1 2 4 5; do for parity in no yes; do for buses in "" 7 8 "2 9"; do
@@ -68,9 +68,9 @@ refused "vin: l: refused by 4 at bit 25 (byte 3, bit 1, item 2): a status on bus
     compose four-track.plan l four-track.times -o new
 
 # 5
-refused "vin: four-track.log: refused by 5 at 2: the plan has frame time, and no file of times is named; it needs 2, one a group" \
+refused "vin: four-track.log: refused by 5 at 2: the plan has frame time, and no file of times is named; needed: 2, one a group" \
     compose four-track.plan four-track.log -o new
-refused "vin: composite.times: refused by 5 at 2: 2 frame times are needed, one a group, and 3 are given" \
+refused "vin: composite.times: refused by 5 at 2: frame times needed: 2, one a group; given: 3" \
     compose four-track.plan four-track.log composite.times -o new
 printf '%s\n' 0 42949672959999 >t
 done_by compose four-track.plan four-track.log t -o new
@@ -81,10 +81,10 @@ printf '%s\n' 99999999999999999999999 0 >t
 refused "vin: t: refused by 5 at time 0 (counted from 0): 18446744073709551615 microseconds, and times are below 42949672960000" \
     compose four-track.plan four-track.log t -o new
 printf '%s\n' 42949672960000 >t
-refused "vin: t: refused by 5 at 2: 2 frame times are needed, one a group, and 1 are given" \
+refused "vin: t: refused by 5 at 2: frame times needed: 2, one a group; given: 1" \
     compose four-track.plan four-track.log t -o new
 plan "$one" "$two" "bus 2 1553"
-refused "vin: four-track.times: refused by 5 at 0: the plan has no frame time, so no times are needed, and 2 are given" \
+refused "vin: four-track.times: refused by 5 at 0: the plan has no frame time and takes no times; given: 2" \
     compose p four-track.log four-track.times -o new
 : >t
 done_by compose p four-track.log t -o new
@@ -96,7 +96,7 @@ refused "vin: long: refused by 6 at 36441: the log would have 36441 bytes, and a
 
 # 8
 head -c 1600 four-track.capture >bad
-refused "vin: bad: refused by 8 at 1600: 1600 bytes are 1 groups of 1548 bytes and 52 bytes more" read four-track.plan bad -o new
+refused "vin: bad: refused by 8 at 1600: 1600 bytes are not whole groups of 1548 bytes; left over: 52" read four-track.plan bad -o new
 head -c 1048577 /dev/zero >long
 refused "vin: long: refused by 8: the capture has more than 1048576 bytes" check four-track.plan long
 
