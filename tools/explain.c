@@ -1,12 +1,9 @@
 #include "explain.h"
 
-#include <string.h>
-
 #include "../include/vinculampe.h"
 
-static const char *const bit_place = "the bit of the log where the item or end mark begins, counted from 0";
-static const char *const word_place =
-    "the word's number in the capture, counted from 0; its bytes begin at three times that";
+#define BIT "the bit of the log where the item or end mark begins, counted from 0"
+#define WORD "the word's number in the capture, counted from 0; its bytes begin at three times that"
 
 /* By number: who gives it, what its place counts, and what it means to a person. The short text is the
  * header's. */
@@ -20,15 +17,15 @@ static const struct {
          "limits, several tracks go with other than exactly one used bus, or parity goes with a used\n"
          "bus above 7."},
     [VIN_LOG] =
-        {"compose, list", NULL,
+        {"compose, list", BIT,
          "The log is longer than 32768 bytes (place 0), ends inside an item or without its end mark,\n"
          "has a kind other than 0 to 8, or something follows its end mark. Most often the file was\n"
          "cut, or is no house log."},
     [VIN_BUS] =
-        {"compose", NULL,
+        {"compose", BIT,
          "An item is on a bus that the plan does not use or has as another kind. Mend the plan's bus\n"
          "lines, or compose with the plan that the log was made for."},
-    [VIN_LIMIT] = {"compose, list", NULL, "The micro of a time tag, or a response time, is 10000 or more."},
+    [VIN_LIMIT] = {"compose, list", BIT, "The micro of a time tag, or a response time, is 10000 or more."},
     [VIN_TIMES] =
         {"compose", "the number of times needed; or the index of the time that is too large, counted from 0",
          "A plan with frame time needs one time for each group, a plan without it none; and a time is\n"
@@ -44,46 +41,39 @@ static const struct {
          "The capture is longer than 1048576 bytes, or is not whole groups: the file was cut, or the\n"
          "plan's words or tracks are not those of the capture."},
     [VIN_SYNC] =
-        {"read, check", NULL,
+        {"read, check", WORD,
          "A frame does not begin with the sync word FAF320. At word 0 the file is no capture; at the\n"
          "second frame the plan's words are probably wrong; later, words were lost."},
-    [VIN_PARITY] = {"read, check", NULL,
+    [VIN_PARITY] = {"read, check", WORD,
                     "The plan has parity and this word has an even number of ones: it was damaged, or the\n"
                     "capture was made without parity."},
-    [VIN_CRC] = {"read, check", NULL,
+    [VIN_CRC] = {"read, check", WORD,
                  "The last word of this frame is not the CRC word of the words before it: the frame was\n"
                  "damaged, or the capture was made without CRC."},
     [VIN_FRAME_TIME] =
-        {"read, check", NULL,
+        {"read, check", WORD,
          "A group begins with three words of frame time on bus 0: label 7 (high), 6 (low) and 5\n"
          "(micro, below 10000). This is not such a word: it was damaged, or the capture was made\n"
          "without frame time."},
     [VIN_DATA_WORD] =
-        {"read, check", NULL,
+        {"read, check", WORD,
          "This word starts or continues no item: its bus is unused, its label does not follow what\n"
          "came before it (a low syllable without its high one, a time word without its command), a\n"
          "micro or response is 10000 or more, or it is fill other than AAAA. Or the capture ends\n"
          "inside an item; then the place is that item's first word."},
     [VIN_FILL] =
-        {"check", NULL,
+        {"check", WORD,
          "Fill stands where composing puts none: before a data word, in a group after the last data\n"
          "word's group, or on another bus than 0. The plain reading, vin read, passes over such fill."},
 };
 enum { NUMBERS = sizeof numbers / sizeof *numbers };
-
-static const char *place_of(unsigned long number)
-{
-    if (numbers[number].place)
-        return numbers[number].place;
-    return number < VIN_TIMES ? bit_place : word_place;
-}
 
 bool explain(FILE *to, unsigned long number)
 {
     if (number >= NUMBERS)
         return false;
     fprintf(to, "%lu: %s\n\n%s\n\nGiven by: %s\nPlace:    %s\n", number, vin_text((uint32_t)number),
-            numbers[number].meaning, numbers[number].given_by, place_of(number));
+            numbers[number].meaning, numbers[number].given_by, numbers[number].place);
     return true;
 }
 
