@@ -5,6 +5,8 @@ mod item;
 mod whole;
 
 use format::Item;
+pub use fields::ending;
+pub use fields::window;
 pub use whole::parse;
 pub use whole::parse_on;
 
