@@ -4,7 +4,7 @@ use native.Mathlib.Omega.{arith}
 use mathlib.Core.Bool.{Bool, true, false, cond}
 use mathlib.Core.Path.{_≡_, refl, ap, sym, _∙_}
 use mathlib.Core.List.{List, [], _∷_, flatMap}
-use lib.ListN.{length, getD}
+use lib.ListN.{length, getD, take, length-take}
 use borrow.Author.Tests.{eq-eqb, ne-eqb, le-leb, lt-leb, lt-ltb}
 use Rattle.format.specs.Compose.{made, refused, captureOf, composeParsed, composeWords, composed, dealtFor, firstLate, groupsFor}
 use Rattle.format.specs.Group.{group}
@@ -113,3 +113,7 @@ log-counted p ks log e w n words t = go (parsed (onPlan ks) log) refl t
           few = rw m (words-few is (rw (f .0) (f .2)));
           is = λ times room. rw v (log-whole p ks log times room e is g);
         }
+
+-- a row that begins with these words has them all
+pub row-holds : (w : ℕ) (row ws : List ℕ) → take w row ≡ ws → w ≡ length ws → w ≤ length row
+row-holds w row ws h e = omega (arith, length-take w row, ap length h, e)

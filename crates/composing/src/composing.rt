@@ -65,13 +65,7 @@ fn write_groups(plan: Plan, words: &[u32], times: &[u64], groups: usize, out: &m
         let from = group * share;
         let to = least(from + share, words.len());
         let time = time_of(times, group);
-        write_group(
-            &mut out[start..end],
-            &tables,
-            plan,
-            time,
-            &words[from..to],
-        );
+        write_group(&mut out[start..end], &tables, plan, time, &words[from..to]);
         group += 1;
     }
 }
@@ -147,13 +141,7 @@ fn compose_in(
 }
 
 // No long row is cleared for a short log.
-fn compose_small(
-    plan: Plan,
-    kinds: [Kind; 16],
-    log: &[u8],
-    times: &[u64],
-    out: &mut [u8],
-) -> Answer
+fn compose_small(plan: Plan, kinds: [Kind; 16], log: &[u8], times: &[u64], out: &mut [u8]) -> Answer
     requires { ⌜ (legal plan kinds ≡ true) × (length (now log) ≤ 512) ⌝ }
     ensures { λ r. ⌜ (r ≡ composeAnswer (composed plan kinds (now (log .entry)) (now (times .entry)) (length (now (out .entry)))))
         × (now (out .exit) ≡ outAfter (composed plan kinds (now (log .entry)) (now (times .entry)) (length (now (out .entry)))) (now (out .entry))) ⌝ }
@@ -177,13 +165,7 @@ fn compose_middle(
     compose_in(plan, kinds, log, times, out, &mut row)
 }
 
-fn compose_large(
-    plan: Plan,
-    kinds: [Kind; 16],
-    log: &[u8],
-    times: &[u64],
-    out: &mut [u8],
-) -> Answer
+fn compose_large(plan: Plan, kinds: [Kind; 16], log: &[u8], times: &[u64], out: &mut [u8]) -> Answer
     requires { ⌜ (legal plan kinds ≡ true) × (length (now log) ≤ 32768) ⌝ }
     ensures { λ r. ⌜ (r ≡ composeAnswer (composed plan kinds (now (log .entry)) (now (times .entry)) (length (now (out .entry)))))
         × (now (out .exit) ≡ outAfter (composed plan kinds (now (log .entry)) (now (times .entry)) (length (now (out .entry)))) (now (out .entry))) ⌝ }

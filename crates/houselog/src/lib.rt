@@ -4,9 +4,9 @@ mod fields;
 mod item;
 mod whole;
 
-use format::Item;
 pub use fields::ending;
 pub use fields::window;
+use format::Item;
 pub use whole::parse;
 pub use whole::parse_on;
 

@@ -96,14 +96,22 @@ fn marked_word(w: u64, label: u32) -> u32
     requires { ⌜ (4 ≤ label) × (label < 16) ⌝ }
     ensures { λ r. ⌜ r ≡ wordOf (w / 2 ^ 56 % 2 ^ 4) (sided label (eqb (w / 2 ^ 55 % 2) 1)) (w / 2 ^ 38 % 2 ^ 16) ⌝ }
 {
-    word::join(bus_in(w), side_in(w, label), (w / 274877906944 % 65536) as u32)
+    word::join(
+        bus_in(w),
+        side_in(w, label),
+        (w / 274877906944 % 65536) as u32,
+    )
 }
 
 fn plain_word(w: u64, label: u32) -> u32
     requires { ⌜ (4 ≤ label) × (label < 16) ⌝ }
     ensures { λ r. ⌜ r ≡ wordOf (w / 2 ^ 56 % 2 ^ 4) (sided label (eqb (w / 2 ^ 55 % 2) 1)) (w / 2 ^ 39 % 2 ^ 16) ⌝ }
 {
-    word::join(bus_in(w), side_in(w, label), (w / 549755813888 % 65536) as u32)
+    word::join(
+        bus_in(w),
+        side_in(w, label),
+        (w / 549755813888 % 65536) as u32,
+    )
 }
 
 // The three words of the tag at a bit.
@@ -324,7 +332,12 @@ fn user(
     if is_used(kind) {
         let label = 2 + (w / 36028797018963968 % 2) as u32;
         let information = (w / 549755813888 % 65536) as u32;
-        return lay_one(words, at + 25, count, word::join(bus_in(w), label, information));
+        return lay_one(
+            words,
+            at + 25,
+            count,
+            word::join(bus_in(w), label, information),
+        );
     }
     fault(3)
 }

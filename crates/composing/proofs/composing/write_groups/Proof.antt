@@ -1,116 +1,139 @@
+use Rattle.composing.proofs.ComposeGroups.{groups-none, groups-more, groups-all, part-within, share-starts, share-taken, written-all}
+use Rattle.composing.proofs.ComposeLaws.{Written, all-drop, all-take, group-count, written-length, written-none, written-part}
+use Rattle.composing.specs.Compose.{groupsTo}
+use Rattle.format.specs.Plan.{groupWords, slots}
+use Rattle.format.specs.Compose.{groupsFor}
+use lib.ListN.{length, length-take, length-drop}
+use mathlib.Core.Path.{_≡_, ap, sym, _∙_}
+use native.Mathlib.Omega.{arith}
+use native.Mathlib.Nat.{zero-mul}
+use Prim.Native.Nat.{ℕ, _+_, _*_, _-_, _≤_, _<_}
 use borrow.Author.Needs.{needs}
 use Rattle.composing.proofs.composing.write_groups.Statement.{statement}
 use Rattle.composing.proofs.composing.write_groups.Tie as tie
-use Rattle.composing.proofs.composing.write_groups.Reads as reads
-use Rattle.composing.proofs.composing.write_groups.Lts as lts
-use Rattle.composing.proofs.composing.least.Reads as least-reads
-use Rattle.composing.proofs.composing.time_of.Reads as time-of-reads
-use Rattle.crc.proofs.tables.Reads as tables-reads
-use Rattle.group.proofs.writing.write_group.Reads as write-group-reads
-use Rattle.plans.proofs.group_words.Reads as group-words-reads
-use Rattle.plans.proofs.slots.Reads as slots-reads
 
 abbrev Inv-loop : tie.InvT-loop
-Inv-loop plan words times groups out₀ tables share size group₀ out group = ?
+Inv-loop plan words times groups out₀ tables share size group₀ out group = (group ≤ groups) × Written (groupsTo plan times words group) (group * groupWords plan) out₀ out
 
 abbrev μ-loop : tie.MeasureT-loop
-μ-loop plan words times groups out₀ tables share size group₀ out group = ?
+μ-loop plan words times groups out₀ tables share size group₀ out group = groups - group
 
--- src/composing.rt:58:18
+-- in a turn, the next group's part is within the output, and its words begin within the words
+room : (c : tie.In-loop Inv-loop μ-loop) → c .before .loop .group * (3 * c .before .before .group-words .result) + 3 * c .before .before .group-words .result ≤ length (c .before .before .before .before .before .before .before .before .args .out .now)
+room c =
+    let s = c .before .before .before .before .before .before .before .before in
+    part-within (c .before .loop .group) (s .args .groups) _ (length (s .args .out .now)) (c .loop-test .taken) (rw (c .before .before .group-words .ensures .0) (s .pre .1 .1))
+
+begins : (c : tie.In-loop Inv-loop μ-loop) → c .before .loop .group * c .before .before .before .slots .result < length (c .before .before .before .before .before .before .before .before .args .words .now)
+unfolding groupsFor
+begins c =
+    let s = c .before .before .before .before .before .before .before .before in
+    let k = c .before .before .before .slots in
+    share-starts (k .result) (length (s .args .words .now)) (c .before .loop .group) (omega (arith, k .ensures .1)) (rw (k .ensures .0) (rw (s .pre .1 .0) at (c .loop-test .taken)))
+
 tables-requires : tie.Need-tables-requires Inv-loop μ-loop
 tables-requires c κs = search needs
 
--- src/composing.rt:59:9
 slots-requires : tie.Need-slots-requires Inv-loop μ-loop
 slots-requires c κs = search needs
 
--- src/composing.rt:60:20
 group-words-requires : tie.Need-group-words-requires Inv-loop μ-loop
 group-words-requires c κs = search needs
 
--- src/composing.rt:60:16
 mul-size : tie.Need-mul-size Inv-loop μ-loop
 mul-size c = search needs
 
--- src/composing.rt:62:5
 loop-holds : tie.Need-loop-holds Inv-loop μ-loop
-loop-holds c = search needs
+loop-holds c =
+    let a = c .before .before .before .before .before .before .args in
+    (omega arith, rw (groups-none (a .plan) (a .times .now) (a .words .now), zero-mul (groupWords (a .plan))) (written-none (a .out .now)))
 
--- src/composing.rt:63:21
 mul-start : tie.Need-mul-start Inv-loop μ-loop
-mul-start c = search needs
+mul-start c = omega (arith, room c)
 
--- src/composing.rt:64:19
 add-end : tie.Need-add-end Inv-loop μ-loop
-add-end c = search needs
+add-end c = omega (arith, room c)
 
--- src/composing.rt:65:20
 mul-from : tie.Need-mul-from Inv-loop μ-loop
-mul-from c = search needs
+mul-from c = omega (arith, begins c)
 
--- src/composing.rt:66:24
 add-least : tie.Need-add-least Inv-loop μ-loop
-add-least c = search needs
+add-least c = omega (arith, begins c, c .before .before .before .slots .ensures .2)
 
--- src/composing.rt:66:13
 least-requires : tie.Need-least-requires Inv-loop μ-loop
 least-requires c κs = search needs
 
--- src/composing.rt:67:13
 time-of-requires : tie.Need-time-of-requires Inv-loop μ-loop
 time-of-requires c κs = search needs
 
--- src/composing.rt:69:13
 sub-write-group : tie.Need-sub-write-group Inv-loop μ-loop
 sub-write-group c = search needs
 
--- src/composing.rt:69:13
 part-write-group-start : tie.Need-part-write-group-start Inv-loop μ-loop
 part-write-group-start c = search needs
 
--- src/composing.rt:69:13
 part-write-group-end : tie.Need-part-write-group-end Inv-loop μ-loop
-part-write-group-end c = search needs
+part-write-group-end c = omega (arith, room (c .before .before), written-length (c .before .before .before .loop .inv .1))
 
--- src/composing.rt:73:13
 mul-write-group : tie.Need-mul-write-group Inv-loop μ-loop
-mul-write-group c = search needs
+mul-write-group c = omega (arith, begins (c .before .before .before .before), c .before .before .before .before .before .before .before .before .before .before .before .before .pre .0 .1)
 
--- src/composing.rt:73:13
 sub-write-group-2 : tie.Need-sub-write-group-2 Inv-loop μ-loop
-sub-write-group-2 c = search needs
+sub-write-group-2 c = omega (arith, begins (c .before .before .before .before), c .before .before .before .least .ensures)
 
--- src/composing.rt:73:13
 part-write-group-start-2 : tie.Need-part-write-group-start-2 Inv-loop μ-loop
-part-write-group-start-2 c = search needs
+part-write-group-start-2 c = omega (arith, begins (c .before .before .before .before), c .before .before .before .least .ensures)
 
--- src/composing.rt:73:13
 part-write-group-end-2 : tie.Need-part-write-group-end-2 Inv-loop μ-loop
-part-write-group-end-2 c = search needs
+part-write-group-end-2 c = omega (arith, c .before .before .before .least .ensures)
 
--- src/composing.rt:68:9
 write-group-requires : tie.Need-write-group-requires Inv-loop μ-loop
-write-group-requires c κs = search needs
+write-group-requires c κs =
+    let a = c .before .before .before .before .before .before .before .before .before .before .before .before .before .args in
+    let q = c .before .before .before .before .before .before .before .before .before .before .before .before .before .pre in
+    let o = c .before .before .before .before .before .before .loop in
+    let s = c .before .before .before .before .before .before .before .before .slots .ensures in (
+      q .0 .0,
+      simp (length-take, length-drop) (omega (arith, c .before .before .before .before .before .before .before .group-words .ensures .0, room (c .before .before .before .before .before), written-length (o .inv .1))),
+      simp (length-take, length-drop) (omega (arith, s .0, c .before .before .before .before .least .ensures)),
+      all-take (c .before .before .before .before .least .result - o .group * c .before .before .before .before .before .before .before .before .slots .result) (all-drop (o .group * c .before .before .before .before .before .before .before .before .slots .result) (q .0 .2)),
+      rw (c .before .before .before .time-of .ensures) (q .0 .3 (o .group)),
+      c .before .before .before .before .before .before .before .before .before .tables .ensures,
+    )
 
--- src/composing.rt:75:9
 add-group : tie.Need-add-group Inv-loop μ-loop
 add-group c = search needs
 
--- src/composing.rt:62:5
 loop-less : tie.Need-loop-less Inv-loop μ-loop
 loop-less c = search needs
 
--- src/composing.rt:62:5
 loop-again : tie.Need-loop-again Inv-loop μ-loop
-loop-again c = search needs
+loop-again c =
+    let a = c .before .before .before .before .before .before .before .before .before .before .before .before .before .before .before .before .args in
+    let q = c .before .before .before .before .before .before .before .before .before .before .before .before .before .before .before .before .pre in
+    let o = c .before .before .before .before .before .before .before .before .before .loop in
+    let w = c .before .before .write-group in
+    let n = groupWords (a .plan) in
+    let R = c .before .before .before .before .before .before .before .before .before .before .group-words .result in
+    let e : R ≡ n = c .before .before .before .before .before .before .before .before .before .before .group-words .ensures .0 in
+    let start : o .group * (3 * R) ≡ 3 * (o .group * n) = ap (λ (k : ℕ). o .group * (3 * k)) e ∙ omega arith in
+    let r = room (c .before .before .before .before .before .before .before .before) in
+    let share = share-taken (c .before .before .before .before .before .before .before .before .before .before .before .slots .result) (o .group * c .before .before .before .before .before .before .before .before .before .before .before .slots .result) (c .before .before .before .before .before .before .before .least .result) (a .words .now) (c .before .before .before .before .before .before .before .least .ensures) in (
+      omega arith,
+      rw (groups-more (a .plan) (a .times .now) (a .words .now) (o .group))
+          (written-part (o .group * (3 * R)) (o .group * (3 * R) + 3 * R - o .group * (3 * R)) _ (o .inv .1) start (group-count (a .plan) _ (q .0 .0)) (omega (arith, e)) (omega (arith, r)) (omega arith)
+          (rw (c .before .before .before .before .before .before .time-of .ensures, share, c .before .before .before .before .before .before .before .before .before .before .before .slots .ensures .0) at (w .ensures))),
+    )
 
--- src/composing.rt:53:1
 same-length : tie.Need-same-length Inv-loop μ-loop
-same-length c = search needs
+same-length c = written-length (c .before .loop .inv .1)
 
--- src/composing.rt:53:1
 returns : tie.Need-returns Inv-loop μ-loop
-returns c = search needs
+returns c =
+    let a = c .before .before .before .before .before .before .before .before .args in
+    let o = c .before .loop in
+    let e : o .group ≡ a .groups = omega arith in
+    written-all _ (o .inv .1) (groups-all (a .plan) (a .times .now) (a .words .now) (o .group) (e ∙ c .before .before .before .before .before .before .before .before .pre .1 .0))
 
 pub write-groups-spec : {M : Type 1} → statement M
 write-groups-spec =
