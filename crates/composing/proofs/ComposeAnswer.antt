@@ -4,8 +4,8 @@ use native.Mathlib.Omega.{arith}
 use mathlib.Core.Bool.{Bool, true, false, cond}
 use mathlib.Core.Path.{_≡_, refl, ap, sym, _∙_}
 use mathlib.Core.List.{List, [], _∷_, flatMap}
-use lib.ListN.{length, getD}
-use borrow.Author.Tests.{eq-eqb, ne-eqb, le-leb, lt-leb}
+use lib.ListN.{length, getD, take, length-take}
+use borrow.Author.Tests.{eq-eqb, ne-eqb, le-leb, lt-leb, lt-ltb}
 use Rattle.format.specs.Compose.{made, refused, captureOf, composeParsed, composeWords, composed, dealtFor, firstLate, groupsFor}
 use Rattle.format.specs.Group.{group}
 use Rattle.format.specs.Item.{itemParts, itemWords}
@@ -21,9 +21,8 @@ use Rattle.group.specs.Shape.{Shape}
 use Rattle.group.specs.Writing.{Unsent}
 use Rattle.houselog.specs.Tally.{talliedOf}
 use Rattle.houselog.specs.declared.Tally.the-variants.{Items, Fault}
-use Rattle.composing.specs.Compose.{wordsFrom}
-use Rattle.composing.proofs.ComposeLaws.{Holds, all-map, all-mapped, bytes-count, group-count, items-hold, legal-is, length-blocks, log-forth, logged-sound, words-few, words-of}
-use Rattle.composing.proofs.ComposeLog.{words-parsed}
+use Rattle.itemwords.specs.Words.{wordsFrom}
+use Rattle.composing.proofs.ComposeLaws.{Holds, all-map, all-mapped, bytes-count, group-count, items-hold, legal-is, length-blocks, log-forth, logged-sound, words-few, words-of, words-parsed}
 
 module _ (p : Plan) (times : List ℕ) (room : ℕ) (ws : List ℕ) where
   abbrev need : ℕ
@@ -62,6 +61,10 @@ module _ (p : Plan) (ks : List Kind) (log times : List ℕ) (room : ℕ) where
   unfolding composed
   plan-illegal e = rw e
 
+  pub log-long : legal p ks ≡ true → 32768 < length log → composed p ks log times room ≡ refused 2 0
+  unfolding composed parsed
+  log-long e h = rw (e, lt-ltb 32768 (length log) h)
+
   pub log-faulty : legal p ks ≡ true → (n q : ℕ) → Fault n q ≡ talliedOf (parsed (onPlan ks) log) → composed p ks log times room ≡ refused n q
   unfolding composed
   log-faulty e n q t = rw e (go (parsed (onPlan ks) log) t)
@@ -77,7 +80,6 @@ module _ (p : Plan) (ks : List Kind) (log times : List ℕ) (room : ℕ) where
 -- a log of this many words, each on a bus that a word can name
 pub record Counted (p : Plan) (ks : List Kind) (log : List ℕ) (words : ℕ) : Type 0 where
   pub shape : Shape p
-  pub short : length log ≤ 32768
   pub unsent : Unsent p (wordsFrom log 0)
   pub count : words ≡ length (wordsFrom log 0)
   pub few : words ≤ 15420
@@ -104,7 +106,6 @@ log-counted p ks log e w n words t = go (parsed (onPlan ks) log) refl t
         let m : words ≡ length (flatMap itemWords is) = cc in
         record {
           shape = record { words-over = l .words; words-under = l .below; tracks-over = l .tracks; tracks-under = l .few };
-          short = f .2;
           unsent = rw (v, words-of is)
               (all-mapped _ wordFor (flatMap itemParts is)
               (all-map (λ x h. word-unsent (p .parity) x h) (items-hold ks (p .parity) is (all-map (λ i h. logged-sound p ks l i h) (f .1)))));
@@ -112,3 +113,7 @@ log-counted p ks log e w n words t = go (parsed (onPlan ks) log) refl t
           few = rw m (words-few is (rw (f .0) (f .2)));
           is = λ times room. rw v (log-whole p ks log times room e is g);
         }
+
+-- a row that begins with these words has them all
+pub row-holds : (w : ℕ) (row ws : List ℕ) → take w row ≡ ws → w ≡ length ws → w ≤ length row
+row-holds w row ws h e = omega (arith, length-take w row, ap length h, e)

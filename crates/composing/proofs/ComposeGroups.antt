@@ -1,13 +1,15 @@
 -- Frame times from the left, and the groups one behind the other.
-use Prim.Native.Nat.{ℕ, zero, suc, _+_, _*_, _<_, _≤_}
-use native.Mathlib.Nat.{mul-le-mul-right}
+use Prim.Native.Nat.{ℕ, zero, suc, min, _+_, _*_, _/_, _-_, _<_, _≤_}
+use native.Mathlib.Nat.{mul-le-mul-right, div-mul-le-self}
 use native.Mathlib.Omega.{arith}
 use native.Mathlib.Numerals.{add-one}
+use mathlib.Core.Bool.{Bool, true, false}
 use mathlib.Core.Path.{_≡_, refl, ap, sym, _∙_}
 use mathlib.Core.List.{List, [], _∷_, _++_, flatMap, append-nil}
-use lib.ListN.{length, take, drop, getD, drop-of-length-le}
-use lib.Seq.{drop-cons}
-use borrow.Author.Tests.{lt-ltb, le-ltb}
+use lib.Dec.{leb}
+use lib.ListN.{length, take, drop, getD, drop-of-length-le, length-drop}
+use lib.Seq.{drop-cons, take-all}
+use borrow.Author.Tests.{lt-ltb, le-ltb, leb-true, leb-false}
 use Rattle.format.specs.Answer.{over}
 use Rattle.format.specs.Compose.{captureOf, dealtFor, firstLate, groupsFor}
 use Rattle.format.specs.Group.{group}
@@ -63,3 +65,21 @@ written-all {ws} {d} {xs} {n} capture w e = rw (← e) (w .is ∙ ap (λ (k : �
 -- the next of n parts of this size is within
 pub part-within : (g n size L : ℕ) → g < n → n * size ≤ L → g * size + size ≤ L
 part-within g n size L h l = omega (arith, mul-le-mul-right size h)
+
+-- a group begins before the last word, and its share is what is left if that is less
+pub share-starts : (s n g : ℕ) → 0 < s → g < (n + s - 1) / s → g * s < n
+share-starts s n g z h = omega (arith, mul-le-mul-right s h, div-mul-le-self (n + s - 1) s)
+
+pub share-taken : (s from to : ℕ) (ws : List ℕ) → to ≡ min (from + s) (length ws) → take (to - from) (drop from ws) ≡ take s (drop from ws)
+share-taken s from to ws e = go (leb (from + s) (length ws)) refl
+  where
+    go : (b : Bool) → leb (from + s) (length ws) ≡ b → take (to - from) (drop from ws) ≡ take s (drop from ws)
+    go true h =
+        let l : from + s ≤ length ws = leb-true _ _ h in
+        let q : to - from ≡ s = omega arith in
+        rw q
+    go false h =
+        let l : length ws < from + s = leb-false _ _ h in
+        let few : length (drop from ws) ≤ to - from = rw length-drop (omega arith) in
+        let less : length (drop from ws) ≤ s = rw length-drop (omega arith) in
+        take-all (to - from) (drop from ws) few ∙ sym (take-all s (drop from ws) less)

@@ -3,9 +3,8 @@ pub use Rattle.format.specs.Laws.Composed.Length.{words-few, small}
 pub use Rattle.format.specs.Laws.Legal.{Legal, legal-is, logged-sound, timely, many}
 pub use Rattle.format.specs.Laws.Lists.{length-blocks, map-append, flatMap-append, all-map, all-mapped, all-take, all-drop}
 pub use Rattle.format.specs.Laws.Log.Forth.{log-forth}
-pub use Rattle.format.specs.Laws.Log.Fields.{length-bytes}
 pub use Rattle.format.specs.Laws.Reader.Parts.{words-of, items-hold}
 pub use Rattle.format.specs.Laws.Word.Parts.{Holds}
-pub use Rattle.houselog.proofs.Parsing.{follows, words-few as item-few}
+pub use Rattle.itemwords.proofs.Words.{words-parsed}
 pub use Rattle.group.proofs.WritingFrames.{group-count, rows-under}
 pub use Rattle.group.proofs.WritingWords.{Written, bytes-count, written-length, written-none, written-part}

@@ -1,3 +1,2 @@
 -- What the contracts cite beside the definitions of `format`.
 pub mod Compose
-pub mod Gather

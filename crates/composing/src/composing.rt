@@ -1,31 +1,22 @@
 // Composing (document 01, "Groups" and "Answers by number"): from a log and its frame times to the bytes of the groups.
 
-ghost use mathlib.Core.Bool.{cond};
+ghost use mathlib.Core.Bool.{cond, true};
 ghost use mathlib.Core.Path.{_≡_};
-ghost use mathlib.Core.List.{_++_, flatMap};
-ghost use Prim.Native.Nat.{ℕ, _+_, _*_, _<_, _≤_};
-ghost use lib.ListN.{drop, getD, length, take};
+ghost use Prim.Native.Nat.{ℕ, min, _+_, _*_, _<_, _≤_};
+ghost use lib.ListN.{getD, length};
 ghost use Rattle.format.specs.Answer.{composeAnswer, outAfter, over, refusal};
 ghost use Rattle.format.specs.Compose.{captureOf, composeWords, composed, firstLate, groupsFor};
-ghost use Rattle.format.specs.Group.{group};
-ghost use Rattle.format.specs.Plan.{groupWords, slots};
+ghost use Rattle.format.specs.Plan.{groupWords, legal};
 ghost use Rattle.format.specs.Time.{timeEnd};
-ghost use Rattle.format.specs.Word.{bytesOf};
-ghost use Rattle.crc.specs.Running.{entries};
-ghost use Rattle.group.specs.Shape.{Shape, dealtOf};
+ghost use Rattle.group.specs.Shape.{Shape};
 ghost use Rattle.group.specs.Writing.{Unsent};
-ghost use Rattle.composing.specs.Compose.{wordsFrom, written};
-ghost use Rattle.composing.specs.Gather.{toCome};
-use crate::gather::Row;
-use crate::gather::gather;
 use crc;
 use format::Answer;
 use format::Kind;
 use format::Plan;
 use group::writing::write_group;
-use houselog::Cursor;
 use houselog::Tally;
-use houselog::parse_on;
+use itemwords::lay;
 use plans::group_words;
 use plans::groups_for;
 use plans::legal;
@@ -52,81 +43,29 @@ fn time_of(times: &[u64], group: usize) -> u64
     if group < times.len() { times[group] } else { 0 }
 }
 
-// The four words from `from` on stand first from now on.
-fn keep_rest(words: &mut [u32], from: usize)
-    requires { ⌜ from + 4 ≤ length (now words) ⌝ }
-    ensures { λ _. ⌜ now (words .exit) ≡ written 0 (take 4 (drop from (now (words .entry)))) (now (words .entry)) ⌝ }
+fn least(a: usize, b: usize) -> usize
+    ensures { λ r. ⌜ r ≡ min a b ⌝ }
 {
-    let first = words[from];
-    let second = words[from + 1];
-    let third = words[from + 2];
-    let fourth = words[from + 3];
-    words[0] = first;
-    words[1] = second;
-    words[2] = third;
-    words[3] = fourth;
-}
-
-// One group's words are gathered and written; an item's words that it has no slots for stay in the row for the next.
-fn write_next(
-    out: &mut [u8],
-    tables: &[u32; 768],
-    plan: Plan,
-    share: usize,
-    time: u64,
-    log: &[u8],
-    words: &mut [u32],
-    row: Row,
-) -> Row
-    requires { ⌜ Shape plan × (share ≡ slots plan) × (4 ≤ share) × (share ≤ 2044) × (time < timeEnd) × (now tables ≡ entries) ⌝ }
-    requires { ⌜ (3 * groupWords plan ≤ length (now out)) × (length (now log) ≤ 32768) × (2048 ≤ length (now words)) × (row .count ≤ 4) × Unsent plan (toCome (now log) row (now words)) ⌝ }
-    ensures { λ r. ⌜ (now (out .exit) ≡ flatMap bytesOf (group plan (dealtOf plan time (take (slots plan) (toCome (now (log .entry)) row (now (words .entry)))))) ++ drop (3 * groupWords plan) (now (out .entry)))
-        × (toCome (now (log .entry)) r (now (words .exit)) ≡ drop (slots plan) (toCome (now (log .entry)) row (now (words .entry)))) × (r .count ≤ 4) ⌝ }
-{
-    let filled = gather(row, words, log, share);
-    let count = filled.count;
-    let at = filled.at;
-    if count < share {
-        write_group(out, tables, plan, time, &words[..count]);
-        return Row { count: 0, at };
-    }
-    write_group(out, tables, plan, time, &words[..share]);
-    keep_rest(words, share);
-    Row {
-        count: count - share,
-        at,
-    }
+    if a < b { a } else { b }
 }
 
 // Every group, each in its own part of the output.
-fn write_groups(plan: Plan, log: &[u8], times: &[u64], groups: usize, out: &mut [u8])
-    requires { ⌜ Shape plan × (length (now log) ≤ 32768) × Unsent plan (wordsFrom (now log) 0) × ((g : ℕ) → getD (now times) g 0 < timeEnd) ⌝ }
-    requires { ⌜ (groups ≡ groupsFor plan (length (wordsFrom (now log) 0))) × (groups * (3 * groupWords plan) ≤ length (now out)) ⌝ }
-    ensures { λ _. ⌜ now (out .exit) ≡ over (captureOf plan (now (times .entry)) (wordsFrom (now (log .entry)) 0)) (now (out .entry)) ⌝ }
+fn write_groups(plan: Plan, words: &[u32], times: &[u64], groups: usize, out: &mut [u8])
+    requires { ⌜ Shape plan × (length (now words) ≤ 15420) × Unsent plan (now words) × ((g : ℕ) → getD (now times) g 0 < timeEnd) ⌝ }
+    requires { ⌜ (groups ≡ groupsFor plan (length (now words))) × (groups * (3 * groupWords plan) ≤ length (now out)) ⌝ }
+    ensures { λ _. ⌜ now (out .exit) ≡ over (captureOf plan (now (times .entry)) (now (words .entry))) (now (out .entry)) ⌝ }
 {
     let tables = crc::tables();
     let share = slots(plan);
     let size = 3 * group_words(plan);
-    let mut words = [0u32; 2048];
-    let mut row = Row {
-        count: 0,
-        at: Cursor { at: 0 },
-    };
     let mut group = 0;
     while group < groups {
         let start = group * size;
         let end = start + size;
+        let from = group * share;
+        let to = least(from + share, words.len());
         let time = time_of(times, group);
-        row = write_next(
-            &mut out[start..end],
-            &tables,
-            plan,
-            share,
-            time,
-            log,
-            &mut words,
-            row,
-        );
+        write_group(&mut out[start..end], &tables, plan, time, &words[from..to]);
         group += 1;
     }
 }
@@ -153,13 +92,13 @@ fn refusal(number: u32, place: usize) -> Answer
     }
 }
 
-// Of a log that has this many words: "then 5, number before size; then 6". Nothing is written before the last refusal.
-fn compose_words(plan: Plan, log: &[u8], words: usize, times: &[u64], out: &mut [u8]) -> Answer
-    requires { ⌜ Shape plan × (length (now log) ≤ 32768) × Unsent plan (wordsFrom (now log) 0) × (words ≡ length (wordsFrom (now log) 0)) × (words ≤ 15420) ⌝ }
-    ensures { λ r. ⌜ (r ≡ composeAnswer (composeWords plan (now (times .entry)) (length (now (out .entry))) (wordsFrom (now (log .entry)) 0)))
-        × (now (out .exit) ≡ outAfter (composeWords plan (now (times .entry)) (length (now (out .entry))) (wordsFrom (now (log .entry)) 0)) (now (out .entry))) ⌝ }
+// Of a log's words: "then 5, number before size; then 6". Nothing is written before the last refusal.
+fn compose_words(plan: Plan, words: &[u32], times: &[u64], out: &mut [u8]) -> Answer
+    requires { ⌜ Shape plan × (length (now words) ≤ 15420) × Unsent plan (now words) ⌝ }
+    ensures { λ r. ⌜ (r ≡ composeAnswer (composeWords plan (now (times .entry)) (length (now (out .entry))) (now (words .entry))))
+        × (now (out .exit) ≡ outAfter (composeWords plan (now (times .entry)) (length (now (out .entry))) (now (words .entry))) (now (out .entry))) ⌝ }
 {
-    let groups = groups_for(plan, words);
+    let groups = groups_for(plan, words.len());
     let needed = times_needed(plan, groups);
     if times.len() != needed {
         return refusal(5, needed);
@@ -172,7 +111,7 @@ fn compose_words(plan: Plan, log: &[u8], words: usize, times: &[u64], out: &mut 
     if out.len() < bytes {
         return refusal(6, bytes);
     }
-    write_groups(plan, log, times, groups, out);
+    write_groups(plan, words, times, groups, out);
     Answer {
         number: 0,
         place: 0,
@@ -182,16 +121,75 @@ fn compose_words(plan: Plan, log: &[u8], words: usize, times: &[u64], out: &mut 
     }
 }
 
-// "Composing checks 1; the log's length; the items in order, each for 2, 3, 4", then as above.
+// "the items in order, each for 2, 3, 4", then as above. The row has room for the words of any log of this length.
+fn compose_in(
+    plan: Plan,
+    kinds: [Kind; 16],
+    log: &[u8],
+    times: &[u64],
+    out: &mut [u8],
+    row: &mut [u32],
+) -> Answer
+    requires { ⌜ (legal plan kinds ≡ true) × (length (now log) ≤ 32768) × (length (now log) * 8 + 85 ≤ 17 * length (now row)) ⌝ }
+    ensures { λ r. ⌜ (r ≡ composeAnswer (composed plan kinds (now (log .entry)) (now (times .entry)) (length (now (out .entry)))))
+        × (now (out .exit) ≡ outAfter (composed plan kinds (now (log .entry)) (now (times .entry)) (length (now (out .entry)))) (now (out .entry))) ⌝ }
+{
+    match lay(kinds, log, row) {
+        Tally::Items { items: _, words } => compose_words(plan, &row[..words], times, out),
+        Tally::Fault { number, place } => refusal(number, place),
+    }
+}
+
+// No long row is cleared for a short log.
+fn compose_small(plan: Plan, kinds: [Kind; 16], log: &[u8], times: &[u64], out: &mut [u8]) -> Answer
+    requires { ⌜ (legal plan kinds ≡ true) × (length (now log) ≤ 512) ⌝ }
+    ensures { λ r. ⌜ (r ≡ composeAnswer (composed plan kinds (now (log .entry)) (now (times .entry)) (length (now (out .entry)))))
+        × (now (out .exit) ≡ outAfter (composed plan kinds (now (log .entry)) (now (times .entry)) (length (now (out .entry)))) (now (out .entry))) ⌝ }
+{
+    let mut row = [0u32; 256];
+    compose_in(plan, kinds, log, times, out, &mut row)
+}
+
+fn compose_middle(
+    plan: Plan,
+    kinds: [Kind; 16],
+    log: &[u8],
+    times: &[u64],
+    out: &mut [u8],
+) -> Answer
+    requires { ⌜ (legal plan kinds ≡ true) × (length (now log) ≤ 4096) ⌝ }
+    ensures { λ r. ⌜ (r ≡ composeAnswer (composed plan kinds (now (log .entry)) (now (times .entry)) (length (now (out .entry)))))
+        × (now (out .exit) ≡ outAfter (composed plan kinds (now (log .entry)) (now (times .entry)) (length (now (out .entry)))) (now (out .entry))) ⌝ }
+{
+    let mut row = [0u32; 2048];
+    compose_in(plan, kinds, log, times, out, &mut row)
+}
+
+fn compose_large(plan: Plan, kinds: [Kind; 16], log: &[u8], times: &[u64], out: &mut [u8]) -> Answer
+    requires { ⌜ (legal plan kinds ≡ true) × (length (now log) ≤ 32768) ⌝ }
+    ensures { λ r. ⌜ (r ≡ composeAnswer (composed plan kinds (now (log .entry)) (now (times .entry)) (length (now (out .entry)))))
+        × (now (out .exit) ≡ outAfter (composed plan kinds (now (log .entry)) (now (times .entry)) (length (now (out .entry)))) (now (out .entry))) ⌝ }
+{
+    let mut row = [0u32; 15426];
+    compose_in(plan, kinds, log, times, out, &mut row)
+}
+
+// "Composing checks 1; the log's length; the items in order", then as above.
 pub fn compose(plan: Plan, kinds: [Kind; 16], log: &[u8], times: &[u64], out: &mut [u8]) -> Answer
     ensures { λ r. ⌜ (r ≡ composeAnswer (composed plan kinds (now (log .entry)) (now (times .entry)) (length (now (out .entry)))))
         × (now (out .exit) ≡ outAfter (composed plan kinds (now (log .entry)) (now (times .entry)) (length (now (out .entry)))) (now (out .entry))) ⌝ }
 {
     if legal(plan, kinds) {
-        match parse_on(kinds, log) {
-            Tally::Items { items: _, words } => return compose_words(plan, log, words, times, out),
-            Tally::Fault { number, place } => return refusal(number, place),
+        if log.len() <= 512 {
+            return compose_small(plan, kinds, log, times, out);
         }
+        if log.len() <= 4096 {
+            return compose_middle(plan, kinds, log, times, out);
+        }
+        if log.len() <= 32768 {
+            return compose_large(plan, kinds, log, times, out);
+        }
+        return refusal(2, 0);
     }
     refusal(1, 0)
 }

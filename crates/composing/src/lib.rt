@@ -1,6 +1,5 @@
 // Composing (document 01): a log and its frame times to the bytes of the groups.
 
 mod composing;
-mod gather;
 
 pub use composing::compose;

@@ -6,10 +6,10 @@ use mathlib.Core.Path.{_≡_, refl, sym, ap, ap₂, _∙_}
 use mathlib.Core.List.{List, [], _∷_, _++_, append-assoc, append-nil}
 use lib.ListN.{length, take, drop, getD, replicate, length-append, length-drop, length-take, take-append-drop}
 use lib.Seq.{drop-append-add, drop-append-le, take-append-le, drop-at, take-at, drop-drop, getD-drop}
-use lib.Pow.{pow-pos, split, shr-lt}
+use lib.Pow.{pow-pos, split, shr-lt, shr-shr}
 use Rattle.format.specs.Bits.{bitsOf, bytesBits, numFrom, numOf}
 use Rattle.format.specs.Log.{field}
-use Rattle.houselog.specs.Cursor.{eight, Window}
+use Rattle.houselog.specs.Cursor.{eight, Window, Ending}
 use Rattle.format.specs.Laws.Log.Fields.{num-bits}
 use Rattle.items.proofs.Bits.{length-bits, bits-cat, bits-mod, length-bytes, bytes-append, bytes-drop, in-first, joined, Bytes, joined-bits}
 
@@ -117,3 +117,20 @@ window-top s p w n f hw h l =
     let e : n + (64 - n) ≡ 64 = omega arith in
     let g : w < 2 ^ (n + (64 - n)) = rw e hw in
     ap (λ (q : ℕ). field s q n) (sym (add-zero p)) ∙ f 0 n (omega arith) (omega arith) ∙ mod-eq-of-lt (shr-lt n (64 - n) g)
+
+-- the bits up to e: eight bytes of which `past` bits are behind e
+ending-at : (s : List ℕ) (i past e w : ℕ) → e + past ≡ i * 8 + 64 → past ≤ 7 → e ≤ length s * 8 → bytesBits (eight s i) ≡ bitsOf 64 w → Ending (bytesBits s) e (w / 2 ^ past)
+unfolding field
+ending-at s i past e w z few hi q k n g =
+    let j = 64 - (past + k + n) in
+    let at : e - k - n ≡ i * 8 + j = omega arith in
+    let there : j + n ≤ length (drop i s) * 8 = rw length-drop (omega arith) in
+    let d : drop (e - k - n) (bytesBits s) ≡ drop j (bytesBits (drop i s)) =
+    ap (λ (m : ℕ). drop m (bytesBits s)) at ∙ sym (drop-drop j (i * 8) (bytesBits s)) ∙ ap (drop j) (bytes-drop i s) in
+    ap (λ (l : List ℕ). numOf (take n l)) d
+    ∙ ap numOf (eight-same s i j n there (omega arith) ∙ ap (λ (l : List ℕ). take n (drop j l)) q)
+    ∙ field64 w j n (past + k) (omega arith)
+    ∙ ap (λ (m : ℕ). m % 2 ^ n) (sym (shr-shr w past k))
+
+pub ending-is : (s : List ℕ) (e w : ℕ) → 64 ≤ e → e ≤ length s * 8 → bytesBits (eight s ((e + 7) / 8 - 8)) ≡ bitsOf 64 w → Ending (bytesBits s) e (w / 2 ^ (8 * ((e + 7) / 8) - e))
+ending-is s e w lo hi q = ending-at s ((e + 7) / 8 - 8) (8 * ((e + 7) / 8) - e) e w (omega arith) (omega arith) hi q

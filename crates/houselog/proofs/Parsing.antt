@@ -8,9 +8,7 @@ use lib.ListN.{length, drop, length-append}
 use lib.Dec.{eqb, leb, ltb}
 use borrow.Author.Tests.{leb-true, le-ltb, lt-ltb, eq-eqb, ne-eqb}
 use Rattle.format.specs.Bits.{bytesBits, numOf}
-use Rattle.format.specs.Item.{itemWords, busOfItem}
-use Rattle.format.specs.Plan.{kindOn}
-use Rattle.format.specs.declared.Kind.{Kind}
+use Rattle.format.specs.Item.{itemWords}
 use Rattle.format.specs.Log.{ifThere, tagged, timed, endAt, itemAt, nextAt, Next, has, ends, wrong, field, flag, Parsed, items, fault, consed, parseFrom, parsed}
 use Rattle.format.specs.declared.Tag.{Tag}
 use Rattle.format.specs.declared.Tag.the-variants.{Untagged, At}
@@ -24,8 +22,7 @@ use Rattle.houselog.specs.declared.Found.the-variants.{Has, End, Wrong}
 use Rattle.houselog.specs.declared.Tally.{Tally}
 use Rattle.houselog.specs.declared.Tally.the-variants.{Items, Fault}
 use Rattle.houselog.specs.Found.{foundOf}
-use Rattle.items.specs.Faults.{faultOn}
-use Rattle.houselog.specs.Tally.{talliedOf, checkOn}
+use Rattle.houselog.specs.Tally.{talliedOf}
 use Rattle.items.proofs.Bits.{length-bytes}
 
 -- ---- an item takes eight bits or more, and ends within the log
@@ -112,10 +109,6 @@ follows log p f i c e g =
     record { next = n; far = w .0; fits = omega (arith, length-bytes log, w .1) }
 
 -- ---- counting
-
-pub fault-is : (b : Bool) (ks : List Kind) (i : Item) → faultOn b (kindOn ks (busOfItem i)) i ≡ checkOn b ks i
-fault-is true ks i = refl
-fault-is false ks i = refl
 
 -- n items and w words more
 abbrev pub adding : ℕ → ℕ → Tally → Tally

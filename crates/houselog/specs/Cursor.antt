@@ -33,3 +33,7 @@ renewed w v n r = (w / 2 ^ r / 2 ^ n * 2 ^ n + v) * 2 ^ r + w % 2 ^ r
 -- the highest of the 64 bits of w are those of s from p on: every field within 57 bits can be read from w
 abbrev pub Window : List ℕ → ℕ → ℕ → Type 0
 Window s p w = (k n : ℕ) → k + n ≤ 57 → p + k + n ≤ length s → field s (p + k) n ≡ w / 2 ^ (64 - k - n) % 2 ^ n
+
+-- the lowest bits of w are those of s before e: every field within 57 bits can be read from w
+abbrev pub Ending : List ℕ → ℕ → ℕ → Type 0
+Ending s e w = (k n : ℕ) → k + n ≤ 57 → field s (e - k - n) n ≡ w / 2 ^ k % 2 ^ n

@@ -4,7 +4,7 @@ ghost use Prim.Native.Nat.{_+_, _*_, _/_, _%_, _≤_, _<_, _^_};
 ghost use lib.ListN.{length, getD, set};
 ghost use mathlib.Core.List.{[], _∷_};
 ghost use Rattle.format.specs.Bits.{bitsOf, bytesBits};
-ghost use Rattle.houselog.specs.Cursor.{tookOf, putOf, eight, renewed, setEight, Window};
+ghost use Rattle.houselog.specs.Cursor.{tookOf, putOf, eight, renewed, setEight, Window, Ending};
 use crate::Cursor;
 use crate::Took;
 
@@ -15,18 +15,35 @@ fn byte(s: &[u8], i: usize) -> u8
     if i < s.len() { s[i] } else { 0 }
 }
 
-// Eight bytes as one number, the first one highest.
+// Four bytes as one number, the first one highest.
+fn four(a: u8, b: u8, c: u8, d: u8) -> u64
+    ensures { λ r. ⌜ (r ≡ a * 16777216 + b * 65536 + c * 256 + d) × (r < 4294967296) ⌝ }
+{
+    a as u64 * 16777216 + b as u64 * 65536 + c as u64 * 256 + d as u64
+}
+
+// Eight bytes as one number, the first one highest; by fours, since of a longer sum the compiler makes no single load.
 fn join(a: u8, b: u8, c: u8, d: u8, e: u8, f: u8, g: u8, h: u8) -> u64
     ensures { λ r. ⌜ bytesBits (a ∷ b ∷ c ∷ d ∷ e ∷ f ∷ g ∷ h ∷ []) ≡ bitsOf 64 r ⌝ }
 {
-    a as u64 * 72057594037927936
-        + b as u64 * 281474976710656
-        + c as u64 * 1099511627776
-        + d as u64 * 4294967296
-        + e as u64 * 16777216
-        + f as u64 * 65536
-        + g as u64 * 256
-        + h as u64
+    four(a, b, c, d) * 4294967296 + four(e, f, g, h)
+}
+
+// The eight bytes from i on, all of them there, as one number.
+fn eight_in(s: &[u8], i: usize) -> u64
+    requires { ⌜ i + 8 ≤ length (now s) ⌝ }
+    ensures { λ r. ⌜ bytesBits (eight (now (s .entry)) i) ≡ bitsOf 64 r ⌝ }
+{
+    join(
+        s[i],
+        s[i + 1],
+        s[i + 2],
+        s[i + 3],
+        s[i + 4],
+        s[i + 5],
+        s[i + 6],
+        s[i + 7],
+    )
 }
 
 // The eight bytes from i on, zeros past the end, as one number.
@@ -34,18 +51,8 @@ fn eight_at(s: &[u8], i: usize) -> u64
     requires { ⌜ i ≤ 4294967296 ⌝ }
     ensures { λ r. ⌜ bytesBits (eight (now (s .entry)) i) ≡ bitsOf 64 r ⌝ }
 {
-    // One load where all eight are there.
     if i + 8 <= s.len() {
-        return join(
-            s[i],
-            s[i + 1],
-            s[i + 2],
-            s[i + 3],
-            s[i + 4],
-            s[i + 5],
-            s[i + 6],
-            s[i + 7],
-        );
+        return eight_in(s, i);
     }
     join(
         byte(s, i),
@@ -65,6 +72,15 @@ pub fn window(s: &[u8], at: usize) -> u64
     ensures { λ r. ⌜ Window (bytesBits (now (s .entry))) at r ⌝ }
 {
     eight_at(s, at / 8) << (at % 8) as u32
+}
+
+// The bits up to `end`, lowest last: 57 bits or more.
+pub fn ending(s: &[u8], end: usize) -> u64
+    requires { ⌜ (64 ≤ end) × (end ≤ length (now s) * 8) × (length (now s) ≤ 4294967296) ⌝ }
+    ensures { λ r. ⌜ Ending (bytesBits (now (s .entry))) end r ⌝ }
+{
+    let last = (end + 7) / 8;
+    eight_in(s, last - 8) >> (8 * last - end) as u32
 }
 
 // w with the n bits above its r lowest replaced by v.

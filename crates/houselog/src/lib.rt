@@ -4,9 +4,10 @@ mod fields;
 mod item;
 mod whole;
 
+pub use fields::ending;
+pub use fields::window;
 use format::Item;
 pub use whole::parse;
-pub use whole::parse_on;
 
 // A place in a log, counted in bits.
 pub struct Cursor {

@@ -4,7 +4,6 @@ mod faults;
 mod numbers;
 
 pub use faults::fault_of;
-pub use faults::kind_on;
 pub use numbers::item_bits;
 pub use numbers::item_width;
 ghost use mathlib.Core.Path.{_≡_};

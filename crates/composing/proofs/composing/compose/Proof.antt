@@ -1,7 +1,6 @@
-use Rattle.composing.proofs.ComposeAnswer.{bytes-of, log-counted, log-faulty, plan-illegal}
+use Rattle.composing.proofs.ComposeAnswer.{log-long, plan-illegal}
 use lib.ListN.{length}
 use mathlib.Core.Path.{refl, sym, _∙_}
-use native.Mathlib.Omega.{arith}
 use borrow.Author.Needs.{needs}
 use Rattle.composing.proofs.composing.compose.Statement.{statement}
 use Rattle.composing.proofs.composing.compose.Tie as tie
@@ -9,66 +8,64 @@ use Rattle.composing.proofs.composing.compose.Tie as tie
 legal-requires : tie.Need-legal-requires
 legal-requires c κs = search needs
 
-parse-on-requires : tie.Need-parse-on-requires
-parse-on-requires c κs = search needs
-
-enum-known-words : tie.Need-enum-known-words
-enum-known-words c = search needs
-
-compose-words-requires : tie.Need-compose-words-requires
-compose-words-requires c κs =
-    let a = c .before .before .before .before .before .before .before .before .before .before .args in
-    let g = c .before .before .words .given in
-    let e = sym (c .before .before .before .before .before .before .legal .ensures) ∙ c .before .before .before .before .before .if1 .taken in
-    let k = log-counted (a .plan) (a .kinds) (a .log .now) e (bytes-of (a .log .now) (λ i. omega (arith, c .before .before .before .before .before .before .before .before .before .shared-slice-known .given i))) (g .0 .0) (g .0 .1 .0) (sym (g .1) ∙ c .before .before .before .before .parse-on .ensures) in
-    (k .shape, k .short, k .unsent, k .count, k .few)
+compose-small-requires : tie.Need-compose-small-requires
+compose-small-requires c κs = (sym (c .before .before .before .legal .ensures) ∙ c .before .before .if1 .taken, c .before .if2 .taken)
 
 same-length : tie.Need-same-length
 same-length c = search needs
 
 returns : tie.Need-returns
-returns c =
-    let a = c .before .before .before .before .before .before .before .before .before .before .before .before .before .args in
-    let g = c .before .before .before .before .before .words .given in
-    let e = sym (c .before .before .before .before .before .before .before .before .before .legal .ensures) ∙ c .before .before .before .before .before .before .before .before .if1 .taken in
-    let k = log-counted (a .plan) (a .kinds) (a .log .now) e (bytes-of (a .log .now) (λ i. omega (arith, c .before .before .before .before .before .before .before .before .before .before .before .before .shared-slice-known .given i))) (g .0 .0) (g .0 .1 .0) (sym (g .1) ∙ c .before .before .before .before .before .before .before .parse-on .ensures) in
-    rw (k .is (a .times .now) (length (a .out .now))) (c .before .before .compose-words .ensures)
+returns c = search needs
 
-enum-known-number : tie.Need-enum-known-number
-enum-known-number c = search needs
+compose-middle-requires : tie.Need-compose-middle-requires
+compose-middle-requires c κs = (sym (c .before .before .before .before .legal .ensures) ∙ c .before .before .before .if1 .taken, c .before .if3 .taken)
+
+same-length-2 : tie.Need-same-length-2
+same-length-2 c = search needs
+
+returns-2 : tie.Need-returns-2
+returns-2 c = search needs
+
+compose-large-requires : tie.Need-compose-large-requires
+compose-large-requires c κs = (sym (c .before .before .before .before .before .legal .ensures) ∙ c .before .before .before .before .if1 .taken, c .before .if4 .taken)
+
+same-length-3 : tie.Need-same-length-3
+same-length-3 c = search needs
+
+returns-3 : tie.Need-returns-3
+returns-3 c = search needs
 
 refusal-requires : tie.Need-refusal-requires
 refusal-requires c κs = search needs
 
-returns-2 : tie.Need-returns-2
-returns-2 c =
-    let a = c .before .before .before .before .before .before .before .before .before .before .args in
-    let g = c .before .before .number .given in
-    let e = sym (c .before .before .before .before .before .before .legal .ensures) ∙ c .before .before .before .before .before .if1 .taken in
-    rw (log-faulty (a .plan) (a .kinds) (a .log .now) (a .times .now) (length (a .out .now)) e (g .0 .0) (g .0 .1 .0) (sym (g .1) ∙ c .before .before .before .before .parse-on .ensures))
-    (c .refusal .ensures, refl)
+returns-4 : tie.Need-returns-4
+returns-4 c =
+    let a = c .before .before .before .before .before .before .before .before .before .args in
+    rw (log-long (a .plan) (a .kinds) (a .log .now) (a .times .now) (length (a .out .now)) (sym (c .before .before .before .before .before .legal .ensures) ∙ c .before .before .before .before .if1 .taken) (c .before .if4 .left)) (c .refusal .ensures, refl)
 
 refusal-requires-2 : tie.Need-refusal-requires-2
 refusal-requires-2 c κs = search needs
 
-returns-3 : tie.Need-returns-3
-returns-3 c =
+returns-5 : tie.Need-returns-5
+returns-5 c =
     let a = c .before .before .before .before .before .before .args in
-    rw (plan-illegal (a .plan) (a .kinds) (a .log .now) (a .times .now) (length (a .out .now)) (sym (c .before .before .legal .ensures) ∙ c .before .if1 .left))
-    (c .refusal2 .ensures, refl)
+    rw (plan-illegal (a .plan) (a .kinds) (a .log .now) (a .times .now) (length (a .out .now)) (sym (c .before .before .legal .ensures) ∙ c .before .if1 .left)) (c .refusal2 .ensures, refl)
 
 pub compose-spec : {M : Type 1} → statement M
 compose-spec =
     tie.close
     (tie.spec
     legal-requires
-    parse-on-requires
-    enum-known-words
-    compose-words-requires
+    compose-small-requires
     same-length
     returns
-    enum-known-number
-    refusal-requires
+    compose-middle-requires
+    same-length-2
     returns-2
+    compose-large-requires
+    same-length-3
+    returns-3
+    refusal-requires
+    returns-4
     refusal-requires-2
-    returns-3)
+    returns-5)

@@ -1,7 +1,6 @@
 use Rattle.composing.proofs.ComposeAnswer.{times-wrong, time-late, room-short, all-made, capture-length}
 use Rattle.plans.proofs.Sizes.{shape-legal}
 use Rattle.composing.proofs.ComposeLaws.{small, timely}
-use Rattle.composing.specs.Compose.{wordsFrom}
 use Rattle.format.specs.Plan.{groupWords}
 use Rattle.format.specs.Compose.{groupsFor}
 use Rattle.format.specs.Answer.{refusal, success}
@@ -29,8 +28,8 @@ returns c =
     let a = c .before .before .before .before .before .before .before .args in
     let q = c .before .before .before .before .before .before .before .pre in
     let ts = a .times .now in
-    let ws = wordsFrom (a .log .now) 0 in
-    let groups : c .before .before .before .groups-for .result ≡ groupsFor (a .plan) (length ws) = c .before .before .before .groups-for .ensures ∙ ap (groupsFor (a .plan)) (q .3) in
+    let ws = a .words .now in
+    let groups : c .before .before .before .groups-for .result ≡ groupsFor (a .plan) (length ws) = c .before .before .before .groups-for .ensures in
     let need : c .before .before .times-needed .result ≡ cond (a .plan .«frame_time») (groupsFor (a .plan) (length ws)) 0 =
     c .before .before .times-needed .ensures ∙ ap (λ (k : ℕ). cond (a .plan .«frame_time») k 0) groups in
     rw (times-wrong (a .plan) ts (length (a .out .now)) ws (λ z. c .before .if1 .taken (z ∙ sym need)))
@@ -47,8 +46,8 @@ returns-2 c =
     let a = c .before .before .before .before .before .before .before .before .before .args in
     let q = c .before .before .before .before .before .before .before .before .before .pre in
     let ts = a .times .now in
-    let ws = wordsFrom (a .log .now) 0 in
-    let groups : c .before .before .before .before .before .groups-for .result ≡ groupsFor (a .plan) (length ws) = c .before .before .before .before .before .groups-for .ensures ∙ ap (groupsFor (a .plan)) (q .3) in
+    let ws = a .words .now in
+    let groups : c .before .before .before .before .before .groups-for .result ≡ groupsFor (a .plan) (length ws) = c .before .before .before .before .before .groups-for .ensures in
     let need : c .before .before .before .before .times-needed .result ≡ cond (a .plan .«frame_time») (groupsFor (a .plan) (length ws)) 0 =
     c .before .before .before .before .times-needed .ensures ∙ ap (λ (k : ℕ). cond (a .plan .«frame_time») k 0) groups in
     let number = c .before .before .before .if1 .left ∙ need in
@@ -67,11 +66,11 @@ mul-bytes-2 c =
     let a = c .before .before .before .before .before .before .before .before .before .args in
     let q = c .before .before .before .before .before .before .before .before .before .pre in
     let ts = a .times .now in
-    let ws = wordsFrom (a .log .now) 0 in
-    let groups : c .before .before .before .before .before .groups-for .result ≡ groupsFor (a .plan) (length ws) = c .before .before .before .before .before .groups-for .ensures ∙ ap (groupsFor (a .plan)) (q .3) in
+    let ws = a .words .now in
+    let groups : c .before .before .before .before .before .groups-for .result ≡ groupsFor (a .plan) (length ws) = c .before .before .before .before .before .groups-for .ensures in
     let bytes : c .before .before .before .before .before .groups-for .result * (3 * c .group-words .result) ≡ groupsFor (a .plan) (length ws) * (3 * groupWords (a .plan)) =
     ap₂ (λ (g w : ℕ). g * (3 * w)) groups (c .group-words .ensures .0) in
-    rw bytes (omega (arith, small (a .plan) [] (shape-legal (a .plan) (q .0)) (length ws) (rw (← (q .3)) (q .4))))
+    rw bytes (omega (arith, small (a .plan) [] (shape-legal (a .plan) (q .0)) (length ws) (q .1)))
 
 refusal-requires-3 : tie.Need-refusal-requires-3
 refusal-requires-3 c κs = search needs
@@ -81,8 +80,8 @@ returns-3 c =
     let a = c .before .before .before .before .before .before .before .before .before .before .before .args in
     let q = c .before .before .before .before .before .before .before .before .before .before .before .pre in
     let ts = a .times .now in
-    let ws = wordsFrom (a .log .now) 0 in
-    let groups : c .before .before .before .before .before .before .before .groups-for .result ≡ groupsFor (a .plan) (length ws) = c .before .before .before .before .before .before .before .groups-for .ensures ∙ ap (groupsFor (a .plan)) (q .3) in
+    let ws = a .words .now in
+    let groups : c .before .before .before .before .before .before .before .groups-for .result ≡ groupsFor (a .plan) (length ws) = c .before .before .before .before .before .before .before .groups-for .ensures in
     let need : c .before .before .before .before .before .before .times-needed .result ≡ cond (a .plan .«frame_time») (groupsFor (a .plan) (length ws)) 0 =
     c .before .before .before .before .before .before .times-needed .ensures ∙ ap (λ (k : ℕ). cond (a .plan .«frame_time») k 0) groups in
     let number = c .before .before .before .before .before .if1 .left ∙ need in
@@ -97,8 +96,8 @@ write-groups-requires c κs =
     let a = c .before .before .before .before .before .before .before .before .before .before .before .args in
     let q = c .before .before .before .before .before .before .before .before .before .before .before .pre in
     let ts = a .times .now in
-    let ws = wordsFrom (a .log .now) 0 in
-    let groups : c .before .before .before .before .before .before .before .groups-for .result ≡ groupsFor (a .plan) (length ws) = c .before .before .before .before .before .before .before .groups-for .ensures ∙ ap (groupsFor (a .plan)) (q .3) in
+    let ws = a .words .now in
+    let groups : c .before .before .before .before .before .before .before .groups-for .result ≡ groupsFor (a .plan) (length ws) = c .before .before .before .before .before .before .before .groups-for .ensures in
     let size = sym (c .before .before .before .before .first-late .ensures) ∙ c .before .before .before .if2 .left in
     let bytes : c .before .before .before .before .before .before .before .groups-for .result * (3 * c .before .before .group-words .result) ≡ groupsFor (a .plan) (length ws) * (3 * groupWords (a .plan)) =
     ap₂ (λ (g w : ℕ). g * (3 * w)) groups (c .before .before .group-words .ensures .0) in (
@@ -114,8 +113,8 @@ returns-4 c =
     let a = c .before .before .before .before .before .before .before .before .before .before .before .before .before .before .args in
     let q = c .before .before .before .before .before .before .before .before .before .before .before .before .before .before .pre in
     let ts = a .times .now in
-    let ws = wordsFrom (a .log .now) 0 in
-    let groups : c .before .before .before .before .before .before .before .before .before .before .groups-for .result ≡ groupsFor (a .plan) (length ws) = c .before .before .before .before .before .before .before .before .before .before .groups-for .ensures ∙ ap (groupsFor (a .plan)) (q .3) in
+    let ws = a .words .now in
+    let groups : c .before .before .before .before .before .before .before .before .before .before .groups-for .result ≡ groupsFor (a .plan) (length ws) = c .before .before .before .before .before .before .before .before .before .before .groups-for .ensures in
     let need : c .before .before .before .before .before .before .before .before .before .times-needed .result ≡ cond (a .plan .«frame_time») (groupsFor (a .plan) (length ws)) 0 =
     c .before .before .before .before .before .before .before .before .before .times-needed .ensures ∙ ap (λ (k : ℕ). cond (a .plan .«frame_time») k 0) groups in
     let number = c .before .before .before .before .before .before .before .before .if1 .left ∙ need in

@@ -5,53 +5,8 @@ use Rattle.houselog.proofs.fields.eight_at.Tie as tie
 add-if1 : tie.Need-add-if1
 add-if1 c = search needs
 
-shared-slice-read-join : tie.Need-shared-slice-read-join
-shared-slice-read-join c = search needs
-
-add-join : tie.Need-add-join
-add-join c = search needs
-
-shared-slice-read-join-2 : tie.Need-shared-slice-read-join-2
-shared-slice-read-join-2 c = search needs
-
-add-join-2 : tie.Need-add-join-2
-add-join-2 c = search needs
-
-shared-slice-read-join-3 : tie.Need-shared-slice-read-join-3
-shared-slice-read-join-3 c = search needs
-
-add-join-3 : tie.Need-add-join-3
-add-join-3 c = search needs
-
-shared-slice-read-join-4 : tie.Need-shared-slice-read-join-4
-shared-slice-read-join-4 c = search needs
-
-add-join-4 : tie.Need-add-join-4
-add-join-4 c = search needs
-
-shared-slice-read-join-5 : tie.Need-shared-slice-read-join-5
-shared-slice-read-join-5 c = search needs
-
-add-join-5 : tie.Need-add-join-5
-add-join-5 c = search needs
-
-shared-slice-read-join-6 : tie.Need-shared-slice-read-join-6
-shared-slice-read-join-6 c = search needs
-
-add-join-6 : tie.Need-add-join-6
-add-join-6 c = search needs
-
-shared-slice-read-join-7 : tie.Need-shared-slice-read-join-7
-shared-slice-read-join-7 c = search needs
-
-add-join-7 : tie.Need-add-join-7
-add-join-7 c = search needs
-
-shared-slice-read-join-8 : tie.Need-shared-slice-read-join-8
-shared-slice-read-join-8 c = search needs
-
-join-requires : tie.Need-join-requires
-join-requires c κs = search needs
+eight-in-requires : tie.Need-eight-in-requires
+eight-in-requires c κs = search needs
 
 returns : tie.Need-returns
 returns c = search needs
@@ -101,33 +56,18 @@ add-byte-7 c = search needs
 byte-requires-8 : tie.Need-byte-requires-8
 byte-requires-8 c κs = search needs
 
-join-requires-2 : tie.Need-join-requires-2
-join-requires-2 c κs = search needs
+join-requires : tie.Need-join-requires
+join-requires c κs = search needs
 
 returns-2 : tie.Need-returns-2
-returns-2 c = simp (← (c .before .before .before .before .before .before .before .before .byte .ensures), ← (c .before .before .before .before .before .before .before .byte2 .ensures), ← (c .before .before .before .before .before .before .byte3 .ensures), ← (c .before .before .before .before .before .byte4 .ensures), ← (c .before .before .before .before .byte5 .ensures), ← (c .before .before .before .byte6 .ensures), ← (c .before .before .byte7 .ensures), ← (c .before .byte8 .ensures)) (c .join2 .ensures)
+returns-2 c = simp (← (c .before .before .before .before .before .before .before .before .byte .ensures), ← (c .before .before .before .before .before .before .before .byte2 .ensures), ← (c .before .before .before .before .before .before .byte3 .ensures), ← (c .before .before .before .before .before .byte4 .ensures), ← (c .before .before .before .before .byte5 .ensures), ← (c .before .before .before .byte6 .ensures), ← (c .before .before .byte7 .ensures), ← (c .before .byte8 .ensures)) (c .join .ensures)
 
 pub eight-at-spec : {M : Type 1} → statement M
 eight-at-spec =
     tie.close
     (tie.spec
     add-if1
-    shared-slice-read-join
-    add-join
-    shared-slice-read-join-2
-    add-join-2
-    shared-slice-read-join-3
-    add-join-3
-    shared-slice-read-join-4
-    add-join-4
-    shared-slice-read-join-5
-    add-join-5
-    shared-slice-read-join-6
-    add-join-6
-    shared-slice-read-join-7
-    add-join-7
-    shared-slice-read-join-8
-    join-requires
+    eight-in-requires
     returns
     byte-requires
     add-byte
@@ -144,5 +84,5 @@ eight-at-spec =
     byte-requires-7
     add-byte-7
     byte-requires-8
-    join-requires-2
+    join-requires
     returns-2)

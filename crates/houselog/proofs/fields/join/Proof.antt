@@ -1,70 +1,27 @@
-use native.Mathlib.Omega.{arith}
 use Rattle.houselog.proofs.Eight.{eight-num}
+use Rattle.format.specs.Bits.{bitsOf}
+use mathlib.Core.Path.{ap, _∙_}
+use native.Mathlib.Omega.{arith}
 use borrow.Author.Needs.{needs}
 use Rattle.houselog.proofs.fields.join.Statement.{statement}
 use Rattle.houselog.proofs.fields.join.Tie as tie
 
+four-requires : tie.Need-four-requires
+four-requires c κs = search needs
+
 mul-result : tie.Need-mul-result
 mul-result c = search needs
 
-mul-result-2 : tie.Need-mul-result-2
-mul-result-2 c = search needs
+four-requires-2 : tie.Need-four-requires-2
+four-requires-2 c κs = search needs
 
 add-result : tie.Need-add-result
 add-result c = search needs
 
-mul-result-3 : tie.Need-mul-result-3
-mul-result-3 c = search needs
-
-add-result-2 : tie.Need-add-result-2
-add-result-2 c = search needs
-
-mul-result-4 : tie.Need-mul-result-4
-mul-result-4 c = search needs
-
-add-result-3 : tie.Need-add-result-3
-add-result-3 c = search needs
-
-mul-result-5 : tie.Need-mul-result-5
-mul-result-5 c = search needs
-
-add-result-4 : tie.Need-add-result-4
-add-result-4 c = search needs
-
-mul-result-6 : tie.Need-mul-result-6
-mul-result-6 c = search needs
-
-add-result-5 : tie.Need-add-result-5
-add-result-5 c = search needs
-
-mul-result-7 : tie.Need-mul-result-7
-mul-result-7 c = search needs
-
-add-result-6 : tie.Need-add-result-6
-add-result-6 c = search needs
-
-add-result-7 : tie.Need-add-result-7
-add-result-7 c = search needs
-
 returns : tie.Need-returns
-returns c = eight-num (c .args .a) (c .args .b) (c .args .c) (c .args .d) (c .args .e) (c .args .f) (c .args .g) (c .args .h) (omega arith)
+returns c =
+    eight-num (c .before .before .args .a) (c .before .before .args .b) (c .before .before .args .c) (c .before .before .args .d) (c .before .before .args .e) (c .before .before .args .f) (c .before .before .args .g) (c .before .before .args .h) (omega arith)
+    ∙ ap (bitsOf 64) (omega (arith, c .before .four .ensures .0, c .four2 .ensures .0))
 
 pub join-spec : {M : Type 1} → statement M
-join-spec =
-    tie.close
-    (tie.spec
-    mul-result
-    mul-result-2
-    add-result
-    mul-result-3
-    add-result-2
-    mul-result-4
-    add-result-3
-    mul-result-5
-    add-result-4
-    mul-result-6
-    add-result-5
-    mul-result-7
-    add-result-6
-    add-result-7
-    returns)
+join-spec = tie.close (tie.spec four-requires mul-result four-requires-2 add-result returns)

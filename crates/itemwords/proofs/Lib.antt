@@ -1,0 +1,5 @@
+-- The laws of the words of items.
+pub mod Row
+pub mod Words
+pub mod Laying
+pub mod Logged

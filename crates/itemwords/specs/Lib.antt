@@ -1,0 +1,3 @@
+-- What the functions of this crate do, by the definitions of `format`.
+pub mod Words
+pub mod Laid

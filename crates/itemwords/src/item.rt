@@ -1,0 +1,406 @@
+// One item: told by its fault's number, or its words put behind those in the row.
+ghost use mathlib.Core.Path.{_≡_};
+ghost use mathlib.Core.List.{List, [], _∷_};
+ghost use Prim.Native.Nat.{ℕ, _+_, _*_, _/_, _%_, _^_, _≤_, _<_};
+ghost use lib.Dec.{eqb};
+ghost use lib.ListN.{length};
+ghost use Rattle.format.specs.Bits.{bytesBits};
+ghost use Rattle.format.specs.Item.{highLabel, lowLabel, sided};
+ghost use Rattle.format.specs.Log.{endAt, itemAt, onPlan};
+ghost use Rattle.format.specs.Plan.{isUsed, kindOn};
+ghost use Rattle.format.specs.Word.{wordOf};
+ghost use Rattle.format.specs.declared.Kind.{Kind};
+ghost use Rattle.houselog.specs.Cursor.{Window};
+ghost use Rattle.itemwords.specs.Laid.{Ended, Lays, Puts, Tags, faulty, isArinc, isMil};
+use format::Kind;
+use houselog::ending;
+use word;
+
+// An item laid: number 0 and the places behind it, in the log and in the row; or its fault's number.
+pub struct Laid {
+    pub number: usize,
+    pub at: usize,
+    pub count: usize,
+}
+
+fn fault(number: usize) -> Laid
+    ensures { λ r. ⌜ r ≡ faulty number ⌝ }
+{
+    Laid {
+        number,
+        at: 0,
+        count: 0,
+    }
+}
+
+// One word more in the row; `at` is the place behind it in the log.
+fn lay_one(words: &mut [u32], at: usize, count: usize, word: u32) -> Laid
+    requires { ⌜ count < length (now words) ⌝ }
+    ensures { λ r. ⌜ (r .number ≡ 0) × (r .at ≡ at) × Puts count (word ∷ []) (now (words .entry)) (now (words .exit)) (r .count) ⌝ }
+{
+    words[count] = word;
+    Laid {
+        number: 0,
+        at,
+        count: count + 1,
+    }
+}
+
+fn is_1553(kind: Kind) -> bool
+    ensures { λ r. ⌜ r ≡ isMil kind ⌝ }
+{
+    match kind {
+        Kind::Unused => false,
+        Kind::Mil1553 => true,
+        Kind::Arinc429 => false,
+    }
+}
+
+fn is_arinc(kind: Kind) -> bool
+    ensures { λ r. ⌜ r ≡ isArinc kind ⌝ }
+{
+    match kind {
+        Kind::Unused => false,
+        Kind::Mil1553 => false,
+        Kind::Arinc429 => true,
+    }
+}
+
+fn is_used(kind: Kind) -> bool
+    ensures { λ r. ⌜ r ≡ isUsed kind ⌝ }
+{
+    match kind {
+        Kind::Unused => false,
+        Kind::Mil1553 => true,
+        Kind::Arinc429 => true,
+    }
+}
+
+// The bus in the window of an item.
+fn bus_in(w: u64) -> u32
+    ensures { λ r. ⌜ (r ≡ w / 2 ^ 56 % 2 ^ 4) × (r < 16) ⌝ }
+{
+    (w / 72057594037927936 % 16) as u32
+}
+
+// The label on its side of the bus: four less on B.
+fn side_in(w: u64, label: u32) -> u32
+    requires { ⌜ (4 ≤ label) × (label < 16) ⌝ }
+    ensures { λ r. ⌜ (r ≡ sided label (eqb (w / 2 ^ 55 % 2) 1)) × (r < 16) ⌝ }
+{
+    label - 4 * (w / 36028797018963968 % 2) as u32
+}
+
+// The word of a command or a status, which have a mark; and of a data word or a bus error.
+fn marked_word(w: u64, label: u32) -> u32
+    requires { ⌜ (4 ≤ label) × (label < 16) ⌝ }
+    ensures { λ r. ⌜ r ≡ wordOf (w / 2 ^ 56 % 2 ^ 4) (sided label (eqb (w / 2 ^ 55 % 2) 1)) (w / 2 ^ 38 % 2 ^ 16) ⌝ }
+{
+    word::join(
+        bus_in(w),
+        side_in(w, label),
+        (w / 274877906944 % 65536) as u32,
+    )
+}
+
+fn plain_word(w: u64, label: u32) -> u32
+    requires { ⌜ (4 ≤ label) × (label < 16) ⌝ }
+    ensures { λ r. ⌜ r ≡ wordOf (w / 2 ^ 56 % 2 ^ 4) (sided label (eqb (w / 2 ^ 55 % 2) 1)) (w / 2 ^ 39 % 2 ^ 16) ⌝ }
+{
+    word::join(
+        bus_in(w),
+        side_in(w, label),
+        (w / 549755813888 % 65536) as u32,
+    )
+}
+
+// The three words of the tag at a bit.
+fn lay_tag(words: &mut [u32], log: &[u8], bus: u32, at: usize, count: usize) -> Laid
+    requires { ⌜ (bus < 16) × (count + 3 ≤ length (now words)) × (26 ≤ at) × (at + 46 ≤ length (now log) * 8) × (length (now log) ≤ 32768) ⌝ }
+    ensures { λ r. ⌜ Tags (bytesBits (now (log .entry))) bus at count (now (words .entry)) (now (words .exit)) r ⌝ }
+{
+    let w = ending(log, at + 46);
+    let micro = (w % 16384) as u32;
+    if micro < 10000 {
+        let high = lay_one(
+            words,
+            at,
+            count,
+            word::join(bus, 7, (w / 1073741824 % 65536) as u32),
+        );
+        let low = lay_one(
+            words,
+            at,
+            high.count,
+            word::join(bus, 6, (w / 16384 % 65536) as u32),
+        );
+        return lay_one(words, at + 46, low.count, word::join(bus, 5, micro));
+    }
+    fault(4)
+}
+
+// An item of each kind, of which `left` bits are left from `at` on and w is the window there; `kind` is its bus's.
+fn command(
+    words: &mut [u32],
+    log: &[u8],
+    kind: Kind,
+    at: usize,
+    left: usize,
+    count: usize,
+    w: u64,
+) -> Laid
+    requires { ⌜ Window (bytesBits (now log)) at w ⌝ }
+    requires { ⌜ (at + left ≡ length (now log) * 8) × (length (now log) ≤ 32768) × (count + 5 ≤ length (now words)) ⌝ }
+    ensures { λ r. ⌜ ((ks : List Kind) → kindOn ks (w / 2 ^ 56 % 2 ^ 4) ≡ kind → Lays (onPlan ks) at count (length (now (log .entry)) * 8) (itemAt (bytesBits (now (log .entry))) at 1) (now (words .entry)) (now (words .exit)) r) ⌝ }
+{
+    if left < 26 {
+        return fault(2);
+    }
+    if w / 18014398509481984 % 2 == 1 {
+        if left < 72 {
+            return fault(2);
+        }
+        if is_1553(kind) {
+            let first = lay_one(words, at, count, marked_word(w, 15));
+            return lay_tag(words, log, bus_in(w), at + 26, first.count);
+        }
+        return fault(3);
+    }
+    if is_1553(kind) {
+        return lay_one(words, at + 26, count, marked_word(w, 15));
+    }
+    fault(3)
+}
+
+fn status(
+    words: &mut [u32],
+    log: &[u8],
+    kind: Kind,
+    at: usize,
+    left: usize,
+    count: usize,
+    w: u64,
+) -> Laid
+    requires { ⌜ Window (bytesBits (now log)) at w ⌝ }
+    requires { ⌜ (at + left ≡ length (now log) * 8) × (length (now log) ≤ 32768) × (count + 5 ≤ length (now words)) ⌝ }
+    ensures { λ r. ⌜ ((ks : List Kind) → kindOn ks (w / 2 ^ 56 % 2 ^ 4) ≡ kind → Lays (onPlan ks) at count (length (now (log .entry)) * 8) (itemAt (bytesBits (now (log .entry))) at 2) (now (words .entry)) (now (words .exit)) r) ⌝ }
+{
+    if left < 26 {
+        return fault(2);
+    }
+    if w / 18014398509481984 % 2 == 1 {
+        if left < 40 {
+            return fault(2);
+        }
+        if is_1553(kind) {
+            let micro = (w / 16777216 % 16384) as u32;
+            if micro < 10000 {
+                let first = lay_one(words, at, count, word::join(bus_in(w), 4, micro));
+                return lay_one(words, at + 40, first.count, marked_word(w, 14));
+            }
+            return fault(4);
+        }
+        return fault(3);
+    }
+    if is_1553(kind) {
+        return lay_one(words, at + 26, count, marked_word(w, 14));
+    }
+    fault(3)
+}
+
+// A data word or a bus error, by the kind's number; together, since both come at random in a message's midst.
+fn data(
+    words: &mut [u32],
+    log: &[u8],
+    kind: Kind,
+    number: u64,
+    at: usize,
+    left: usize,
+    count: usize,
+    w: u64,
+) -> Laid
+    requires { ⌜ Window (bytesBits (now log)) at w ⌝ }
+    requires { ⌜ (at + left ≡ length (now log) * 8) × (length (now log) ≤ 32768) × (count + 5 ≤ length (now words)) × (3 ≤ number) × (number ≤ 4) ⌝ }
+    ensures { λ r. ⌜ ((ks : List Kind) → kindOn ks (w / 2 ^ 56 % 2 ^ 4) ≡ kind → Lays (onPlan ks) at count (length (now (log .entry)) * 8) (itemAt (bytesBits (now (log .entry))) at number) (now (words .entry)) (now (words .exit)) r) ⌝ }
+{
+    if left < 25 {
+        return fault(2);
+    }
+    if is_1553(kind) {
+        return lay_one(words, at + 25, count, plain_word(w, (16 - number) as u32));
+    }
+    fault(3)
+}
+
+// An ARINC word's two syllables.
+fn lay_syllables(words: &mut [u32], at: usize, count: usize, w: u64) -> Laid
+    requires { ⌜ count + 2 ≤ length (now words) ⌝ }
+    ensures { λ r. ⌜ (r .number ≡ 0) × (r .at ≡ at) × Puts count (wordOf (w / 2 ^ 56 % 2 ^ 4) (highLabel (w / 2 ^ 54 % 4)) (w / 2 ^ 21 % 2 ^ 32 / 2 ^ 16) ∷ wordOf (w / 2 ^ 56 % 2 ^ 4) (lowLabel (w / 2 ^ 54 % 4)) (w / 2 ^ 21 % 2 ^ 32 % 2 ^ 16) ∷ []) (now (words .entry)) (now (words .exit)) (r .count) ⌝ }
+{
+    let bus = bus_in(w);
+    let channel = (w / 18014398509481984 % 4) as u32;
+    let word = (w / 2097152 % 4294967296) as u32;
+    let high = lay_one(
+        words,
+        at,
+        count,
+        word::join(bus, word::high_label(channel), word / 65536),
+    );
+    lay_one(
+        words,
+        at,
+        high.count,
+        word::join(bus, word::low_label(channel), word % 65536),
+    )
+}
+
+fn arinc(
+    words: &mut [u32],
+    log: &[u8],
+    kind: Kind,
+    at: usize,
+    left: usize,
+    count: usize,
+    w: u64,
+) -> Laid
+    requires { ⌜ Window (bytesBits (now log)) at w ⌝ }
+    requires { ⌜ (at + left ≡ length (now log) * 8) × (length (now log) ≤ 32768) × (count + 5 ≤ length (now words)) ⌝ }
+    ensures { λ r. ⌜ ((ks : List Kind) → kindOn ks (w / 2 ^ 56 % 2 ^ 4) ≡ kind → Lays (onPlan ks) at count (length (now (log .entry)) * 8) (itemAt (bytesBits (now (log .entry))) at 5) (now (words .entry)) (now (words .exit)) r) ⌝ }
+{
+    if left < 43 {
+        return fault(2);
+    }
+    if w / 9007199254740992 % 2 == 1 {
+        if left < 89 {
+            return fault(2);
+        }
+        if is_arinc(kind) {
+            let pair = lay_syllables(words, at, count, w);
+            return lay_tag(words, log, bus_in(w), at + 43, pair.count);
+        }
+        return fault(3);
+    }
+    if is_arinc(kind) {
+        return lay_syllables(words, at + 43, count, w);
+    }
+    fault(3)
+}
+
+fn notice(
+    words: &mut [u32],
+    log: &[u8],
+    kind: Kind,
+    at: usize,
+    left: usize,
+    count: usize,
+    w: u64,
+) -> Laid
+    requires { ⌜ Window (bytesBits (now log)) at w ⌝ }
+    requires { ⌜ (at + left ≡ length (now log) * 8) × (length (now log) ≤ 32768) × (count + 5 ≤ length (now words)) ⌝ }
+    ensures { λ r. ⌜ ((ks : List Kind) → kindOn ks (w / 2 ^ 56 % 2 ^ 4) ≡ kind → Lays (onPlan ks) at count (length (now (log .entry)) * 8) (itemAt (bytesBits (now (log .entry))) at 6) (now (words .entry)) (now (words .exit)) r) ⌝ }
+{
+    if left < 18 {
+        return fault(2);
+    }
+    if is_arinc(kind) {
+        let channel = (w / 18014398509481984 % 4) as u32;
+        let diagnostics = (w / 70368744177664 % 256) as u32;
+        let information = word::high_label(channel) * 0x1000
+            + word::low_label(channel) * 0x100
+            + diagnostics;
+        return lay_one(words, at + 18, count, word::join(bus_in(w), 4, information));
+    }
+    fault(3)
+}
+
+fn user(
+    words: &mut [u32],
+    log: &[u8],
+    kind: Kind,
+    at: usize,
+    left: usize,
+    count: usize,
+    w: u64,
+) -> Laid
+    requires { ⌜ Window (bytesBits (now log)) at w ⌝ }
+    requires { ⌜ (at + left ≡ length (now log) * 8) × (length (now log) ≤ 32768) × (count + 5 ≤ length (now words)) ⌝ }
+    ensures { λ r. ⌜ ((ks : List Kind) → kindOn ks (w / 2 ^ 56 % 2 ^ 4) ≡ kind → Lays (onPlan ks) at count (length (now (log .entry)) * 8) (itemAt (bytesBits (now (log .entry))) at 7) (now (words .entry)) (now (words .exit)) r) ⌝ }
+{
+    if left < 25 {
+        return fault(2);
+    }
+    if is_used(kind) {
+        let label = 2 + (w / 36028797018963968 % 2) as u32;
+        let information = (w / 549755813888 % 65536) as u32;
+        return lay_one(
+            words,
+            at + 25,
+            count,
+            word::join(bus_in(w), label, information),
+        );
+    }
+    fault(3)
+}
+
+fn overflow(
+    words: &mut [u32],
+    log: &[u8],
+    kind: Kind,
+    at: usize,
+    left: usize,
+    count: usize,
+    w: u64,
+) -> Laid
+    requires { ⌜ Window (bytesBits (now log)) at w ⌝ }
+    requires { ⌜ (at + left ≡ length (now log) * 8) × (length (now log) ≤ 32768) × (count + 5 ≤ length (now words)) ⌝ }
+    ensures { λ r. ⌜ ((ks : List Kind) → kindOn ks (w / 2 ^ 56 % 2 ^ 4) ≡ kind → Lays (onPlan ks) at count (length (now (log .entry)) * 8) (itemAt (bytesBits (now (log .entry))) at 8) (now (words .entry)) (now (words .exit)) r) ⌝ }
+{
+    if left < 24 {
+        return fault(2);
+    }
+    if is_used(kind) {
+        let information = (w / 1099511627776 % 65536) as u32;
+        return lay_one(words, at + 24, count, word::join(bus_in(w), 0, information));
+    }
+    fault(3)
+}
+
+// The item here, by the number of its kind.
+pub fn lay_item(
+    words: &mut [u32],
+    log: &[u8],
+    kind: Kind,
+    at: usize,
+    left: usize,
+    count: usize,
+    w: u64,
+) -> Laid
+    requires { ⌜ Window (bytesBits (now log)) at w ⌝ }
+    requires { ⌜ (at + left ≡ length (now log) * 8) × (length (now log) ≤ 32768) × (count + 5 ≤ length (now words)) ⌝ }
+    ensures { λ r. ⌜ ((ks : List Kind) → kindOn ks (w / 2 ^ 56 % 2 ^ 4) ≡ kind → Lays (onPlan ks) at count (length (now (log .entry)) * 8) (itemAt (bytesBits (now (log .entry))) at (w / 2 ^ 60)) (now (words .entry)) (now (words .exit)) r) ⌝ }
+{
+    let number = w >> 60;
+    match number {
+        1 => command(words, log, kind, at, left, count, w),
+        2 => status(words, log, kind, at, left, count, w),
+        3 | 4 => data(words, log, kind, number, at, left, count, w),
+        5 => arinc(words, log, kind, at, left, count, w),
+        6 => notice(words, log, kind, at, left, count, w),
+        7 => user(words, log, kind, at, left, count, w),
+        8 => overflow(words, log, kind, at, left, count, w),
+        _ => fault(2),
+    }
+}
+
+// The end mark: 0, or 2 if "zero bits fill its last byte and nothing follows" does not hold.
+pub fn mark_number(log: &[u8], at: usize, left: usize, w: u64) -> u32
+    requires { ⌜ Window (bytesBits (now log)) at w ⌝ }
+    requires { ⌜ (at + left ≡ length (now log) * 8) × (length (now log) ≤ 32768) × (4 ≤ left) × (w / 2 ^ 60 ≡ 0) ⌝ }
+    ensures { λ r. ⌜ Ended (endAt (bytesBits (now (log .entry))) at) r ⌝ }
+{
+    if 12 <= left {
+        return 2;
+    }
+    let rest = w >> (64 - left as u32);
+    if rest == 0 { 0 } else { 2 }
+}
