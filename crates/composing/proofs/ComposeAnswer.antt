@@ -18,7 +18,7 @@ use Rattle.format.specs.declared.Item.{Item}
 use Rattle.format.specs.declared.Kind.{Kind}
 use Rattle.format.specs.declared.Plan.{Plan}
 use Rattle.group.specs.Shape.{Shape}
-use Rattle.group.specs.Writing.{Unsent}
+use Rattle.framing.specs.Writing.{Unsent}
 use Rattle.houselog.specs.Tally.{talliedOf}
 use Rattle.houselog.specs.declared.Tally.the-variants.{Items, Fault}
 use Rattle.composing.specs.Compose.{wordsFrom}

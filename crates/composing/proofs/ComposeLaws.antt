@@ -7,5 +7,6 @@ pub use Rattle.format.specs.Laws.Log.Fields.{length-bytes}
 pub use Rattle.format.specs.Laws.Reader.Parts.{words-of, items-hold}
 pub use Rattle.format.specs.Laws.Word.Parts.{Holds}
 pub use Rattle.houselog.proofs.Parsing.{follows, words-few as item-few}
-pub use Rattle.group.proofs.WritingFrames.{group-count, rows-under}
-pub use Rattle.group.proofs.WritingWords.{Written, bytes-count, written-length, written-none, written-part}
+pub use Rattle.group.proofs.Rows.{rows-under}
+pub use Rattle.framing.proofs.Frames.{group-count}
+pub use Rattle.framing.proofs.Words.{Written, bytes-count, written-length, written-none, written-part}

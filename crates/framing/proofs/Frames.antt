@@ -7,7 +7,6 @@ use mathlib.Core.Path.{_≡_, refl, sym, ap, _∙_}
 use mathlib.Core.List.{List, [], _∷_, _++_, flatMap, append-nil}
 use lib.ListN.{length}
 use Rattle.format.specs.Word.{sync}
-use Rattle.format.specs.Bits.{bit}
 use Rattle.format.specs.Plan.{rows, groupWords}
 use Rattle.format.specs.Group.{frame, group}
 use Rattle.format.specs.Check.{checkOf, checkWord}
@@ -15,9 +14,9 @@ use Rattle.format.specs.Lists.{list}
 use Rattle.format.specs.declared.Plan.{Plan}
 use Rattle.crc.specs.Running.{nextCheck, checkFrom}
 use Rattle.crc.proofs.Running.{check-more, check-is-from}
 use Rattle.group.specs.Shape.{Shape}
-use Rattle.group.specs.Writing.{rowWord, front, checkIf, nextIf}
-use Rattle.group.proofs.WritingLaws.{flatMap-append, length-list, frame-length, group-length}
+use Rattle.framing.specs.Writing.{rowWord, front, checkIf, nextIf}
+use Rattle.framing.proofs.Laws.{flatMap-append, length-list, frame-length, group-length}
 
 list-more : {A : Type 0} (f : ℕ → A) (a n : ℕ) → list f a (suc n) ≡ list f a n ++ (f (a + n) ∷ [])
 unfolding list
@@ -67,23 +66,6 @@ module _ (p : Plan) (dealt : List ℕ) (t : ℕ) where
 pub sync-below : sync < 2 ^ 24
 unfolding sync
 sync-below = omega arith
-
--- how many words of a frame are dealt
-pub rows-checked : (p : Plan) → Shape p → p .crc ≡ true → 1 + rows p + 1 ≡ p .words
-unfolding rows
-rows-checked p h e = rw e (omega (arith, h .words-over))
-
-pub rows-plain : (p : Plan) → Shape p → p .crc ≡ false → 1 + rows p ≡ p .words
-unfolding rows
-rows-plain p h e = rw e (omega (arith, h .words-over))
-
-pub rows-under : (p : Plan) → Shape p → 1 + rows p ≤ p .words
-unfolding rows
-rows-under p h = go (p .crc)
-  where
-    go : (b : Bool) → 1 + (p .words - 1 - bit b) ≤ p .words
-    go true = omega (arith, h .words-over)
-    go false = omega (arith, h .words-over)
 
 -- the first n frames
 unfoldable pub framesOf : Plan → List ℕ → ℕ → List ℕ

@@ -13,9 +13,9 @@ use Rattle.format.specs.Lawful.{buses}
 use Rattle.format.specs.Lists.{nil, cons}
 use Rattle.format.specs.declared.Plan.{Plan}
 use Rattle.word.proofs.Below.{word-below}
 use Rattle.group.specs.Shape.{dealtOf}
-use Rattle.group.specs.Writing.{Unsent}
-use Rattle.group.proofs.WritingLaws.{all-getD, all-append, all-take}
+use Rattle.framing.specs.Writing.{Unsent}
+use Rattle.framing.proofs.Laws.{all-getD, all-append, all-take}
 
 pub dealt-is : (p : Plan) (time : ℕ) (words : List ℕ) → dealtOf p time words ≡ take (lead p) (timeWords time) ++ words
 unfolding dealtOf lead timeWords

@@ -9,12 +9,13 @@ use Rattle.format.specs.Word.{sent, fill}
 use Rattle.format.specs.Plan.{rows}
 use Rattle.format.specs.Lawful.{buses}
 use Rattle.word.proofs.Below.{sent-below}
-use Rattle.group.specs.Writing.{front, rowWord, checkIf, nextIf}
-use Rattle.group.proofs.WritingWords.{Written, written-none, written-length, written-word, written-again, written-over}
-use Rattle.group.proofs.WritingDealt.{dealt-unsent, unsent-below}
-use Rattle.group.proofs.WritingFrames.{front-none, front-more, check-first-if, check-more-if, rows-under, sync-below}
-use Rattle.group.proofs.writing.write_front.Statement.{statement}
-use Rattle.group.proofs.writing.write_front.Tie as tie
+use Rattle.framing.specs.Writing.{front, rowWord, checkIf, nextIf}
+use Rattle.framing.proofs.Words.{Written, written-none, written-length, written-word, written-again, written-over}
+use Rattle.framing.proofs.Dealt.{dealt-unsent, unsent-below}
+use Rattle.group.proofs.Rows.{rows-under}
+use Rattle.framing.proofs.Frames.{front-none, front-more, check-first-if, check-more-if, sync-below}
+use Rattle.framing.proofs.write_front.Statement.{statement}
+use Rattle.framing.proofs.write_front.Tie as tie
 
 abbrev Inv-loop : tie.InvT-loop
 Inv-loop out₀ tables plan times words track rows lead past first check₀ s₀ row₀ out check s row =

@@ -1,8 +1,8 @@
 use Rattle.format.specs.Plan.{rows}
 use native.Mathlib.Omega.{arith}
 use borrow.Author.Needs.{needs}
-use Rattle.group.proofs.writing.dealt_rows.Statement.{statement}
-use Rattle.group.proofs.writing.dealt_rows.Tie as tie
+use Rattle.framing.proofs.dealt_rows.Statement.{statement}
+use Rattle.framing.proofs.dealt_rows.Tie as tie
 
 sub-result : tie.Need-sub-result
 sub-result c = search needs

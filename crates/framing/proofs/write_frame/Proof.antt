@@ -9,13 +9,14 @@ use Rattle.format.specs.Plan.{rows, lead}
 use Rattle.format.specs.Check.{checkWord}
 use Rattle.format.specs.Lawful.{buses}
 use Rattle.word.proofs.Below.{sent-below}
 use Rattle.group.specs.Shape.{dealtOf}
-use Rattle.group.specs.Writing.{front}
-use Rattle.group.proofs.WritingWords.{Written, written-is, written-length, written-word}
-use Rattle.group.proofs.WritingDealt.{dealt-is, time-words-unsent, time-words-three, on-bus-0, unsent-below}
-use Rattle.group.proofs.WritingFrames.{front-count, check-chosen, frame-checked, frame-plain, rows-checked, rows-plain, rows-under}
-use Rattle.group.proofs.writing.write_frame.Statement.{statement}
-use Rattle.group.proofs.writing.write_frame.Tie as tie
+use Rattle.framing.specs.Writing.{front}
+use Rattle.framing.proofs.Words.{Written, written-is, written-length, written-word}
+use Rattle.framing.proofs.Dealt.{dealt-is, time-words-unsent, time-words-three, on-bus-0, unsent-below}
+use Rattle.group.proofs.Rows.{rows-checked, rows-plain, rows-under}
+use Rattle.framing.proofs.Frames.{front-count, check-chosen, frame-checked, frame-plain}
+use Rattle.framing.proofs.write_frame.Statement.{statement}
+use Rattle.framing.proofs.write_frame.Tie as tie
 
 -- where all but the check word is written: the function's entry, the words dealt, and those written
 abbrev Fronted : Type 0

@@ -6,11 +6,11 @@ use mathlib.Core.List.{List}
 use lib.ListN.{length, length-take, length-drop}
 use borrow.Author.Needs.{needs}
 use Rattle.format.specs.Group.{frame}
 use Rattle.group.specs.Shape.{dealtOf}
-use Rattle.group.proofs.WritingWords.{Written, written-is, written-none, written-length, written-part}
-use Rattle.group.proofs.WritingFrames.{framesOf, frames-none, frames-more, frames-all, frame-count}
-use Rattle.group.proofs.writing.write_group.Statement.{statement}
-use Rattle.group.proofs.writing.write_group.Tie as tie
+use Rattle.framing.proofs.Words.{Written, written-is, written-none, written-length, written-part}
+use Rattle.framing.proofs.Frames.{framesOf, frames-none, frames-more, frames-all, frame-count}
+use Rattle.framing.proofs.write_group.Statement.{statement}
+use Rattle.framing.proofs.write_group.Tie as tie
 
 abbrev Inv-loop : tie.InvT-loop
 Inv-loop out₀ tables plan time words size track₀ out track =

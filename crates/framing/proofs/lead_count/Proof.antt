@@ -1,8 +1,8 @@
 use Rattle.format.specs.Plan.{lead}
 use native.Mathlib.Omega.{arith}
 use borrow.Author.Needs.{needs}
-use Rattle.group.proofs.writing.lead_count.Statement.{statement}
-use Rattle.group.proofs.writing.lead_count.Tie as tie
+use Rattle.framing.proofs.lead_count.Statement.{statement}
+use Rattle.framing.proofs.lead_count.Tie as tie
 
 returns : tie.Need-returns
 unfolding lead

@@ -7,7 +7,7 @@ use lib.ListN.{length, take, drop, length-append, length-drop, take-append-drop}
 use lib.Seq.{take-at, drop-at, drop-drop, drop-append-le, length-take-le}
 use borrow.Rule.Slice.PartMut.{putMid}
 use Rattle.format.specs.Word.{bytesOf}
-use Rattle.group.proofs.WritingLaws.{flatMap-append, bytes-three}
+use Rattle.framing.proofs.Laws.{flatMap-append, bytes-three}
 
 -- the n words ws stand at the front of xs, which else is as d
 pub record Written (ws : List ℕ) (n : ℕ) (d xs : List ℕ) : Type 0 where

@@ -3,9 +3,9 @@ use native.Mathlib.Omega.{arith}
 use mathlib.Core.Path.{sym, _∙_}
 use lib.ListN.{List·getD-eq-default}
 use borrow.Author.Needs.{needs}
-use Rattle.group.proofs.WritingDealt.{dealt-time, dealt-past, within}
-use Rattle.group.proofs.writing.dealt_word.Statement.{statement}
-use Rattle.group.proofs.writing.dealt_word.Tie as tie
+use Rattle.framing.proofs.Dealt.{dealt-time, dealt-past, within}
+use Rattle.framing.proofs.dealt_word.Statement.{statement}
+use Rattle.framing.proofs.dealt_word.Tie as tie
 
 mul-result : tie.Need-mul-result
 mul-result c = search needs

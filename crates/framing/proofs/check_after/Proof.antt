@@ -1,6 +1,6 @@
 use borrow.Author.Needs.{needs}
-use Rattle.group.proofs.writing.check_after.Statement.{statement}
-use Rattle.group.proofs.writing.check_after.Tie as tie
+use Rattle.framing.proofs.check_after.Statement.{statement}
+use Rattle.framing.proofs.check_after.Tie as tie
 
 step-requires : tie.Need-step-requires
 step-requires c κs = search needs

@@ -1,7 +1,7 @@
 use Rattle.format.specs.Group.{timeWords}
 use borrow.Author.Needs.{needs}
-use Rattle.group.proofs.writing.time_words.Statement.{statement}
-use Rattle.group.proofs.writing.time_words.Tie as tie
+use Rattle.framing.proofs.time_words.Statement.{statement}
+use Rattle.framing.proofs.time_words.Tie as tie
 
 time-parts-requires : tie.Need-time-parts-requires
 time-parts-requires c κs = search needs

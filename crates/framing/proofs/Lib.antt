@@ -1,0 +1,5 @@
+-- The laws of one group as written, over plain numbers and lists.
+pub mod Laws
+pub mod Words
+pub mod Dealt
+pub mod Frames
