@@ -48,7 +48,7 @@ within [] i d e h = absurd (omega arith)
 within (w ∷ ws) zero d e h = refl
 within (w ∷ ws) (suc i) d e h = within ws i d e (omega arith)
 
-buses-some : (parity : Bool) → 0 < buses parity
+pub buses-some : (parity : Bool) → 0 < buses parity
 buses-some true = omega arith
 buses-some false = omega arith
 

@@ -3,7 +3,7 @@ use Prim.Native.Nat.{ℕ, zero, suc, _+_, _^_, _-_, _<_, _≤_}
 use native.Mathlib.Omega.{arith}
 use native.Mathlib.Numerals.{add-one}
 use mathlib.Core.Bool.{Bool, true, false}
-use mathlib.Core.Path.{_≡_, refl, sym, ap, _∙_}
+use mathlib.Core.Path.{_≡_, refl, sym, ap, ap₂, _∙_}
 use mathlib.Core.List.{List, [], _∷_, _++_, flatMap, append-nil}
 use lib.ListN.{length}
 use Rattle.format.specs.Word.{sync}
@@ -13,46 +13,45 @@ use Rattle.format.specs.Check.{checkOf, checkWord}
 use Rattle.format.specs.Lists.{list}
 use Rattle.format.specs.declared.Plan.{Plan}
 use Rattle.crc.specs.Running.{nextCheck, checkFrom}
-use Rattle.crc.proofs.Running.{check-more, check-is-from}
+use Rattle.crc.proofs.Running.{from-append, check-is-from}
 use Rattle.group.specs.Shape.{Shape}
-use Rattle.framing.specs.Writing.{rowWord, front, checkIf, nextIf}
+use Rattle.framing.specs.Writing.{rowWord, front, checkIf}
 use Rattle.framing.proofs.Laws.{flatMap-append, length-list, frame-length, group-length}
+use Rattle.framing.proofs.Runs.{list-more}
 
-list-more : {A : Type 0} (f : ℕ → A) (a n : ℕ) → list f a (suc n) ≡ list f a n ++ (f (a + n) ∷ [])
+-- lists that say the same, row by row
+list-same : {A : Type 0} (f g : ℕ → A) (a b n : ℕ) → ((i : ℕ) → i < n → f (a + i) ≡ g (b + i)) → list f a n ≡ list g b n
 unfolding list
-list-more f a zero =
-    let e : a ≡ a + 0 = omega arith in
-    ap (λ (i : ℕ). f i ∷ []) e
-list-more f a (suc n) =
-    let e : a + 1 + n ≡ a + suc n = omega arith in
-    ap (λ l. f a ∷ l) (list-more f (a + 1) n ∙ ap (λ (i : ℕ). list f (a + 1) n ++ (f i ∷ [])) e)
+list-same f g a b zero h = refl
+list-same f g a b (suc n) h =
+    let at : (i : ℕ) → i < n → f (a + 1 + i) ≡ g (b + 1 + i) = λ i l. next f a i ∙ h (suc i) (omega arith) ∙ sym (next g b i) in
+    ap₂ _∷_ (first f a ∙ h zero (omega arith) ∙ sym (first g b)) (list-same f g (a + 1) (b + 1) n at)
+  where
+    first : {B : Type 0} (k : ℕ → B) (c : ℕ) → k c ≡ k (c + zero)
+    first k c =
+        let e : c ≡ c + zero = omega arith in
+        ap k e
+    next : {B : Type 0} (k : ℕ → B) (c i : ℕ) → k (c + 1 + i) ≡ k (c + suc i)
+    next k c i =
+        let e : c + 1 + i ≡ c + suc i = omega arith in
+        ap k e
 
-pub check-chosen : {chosen : Bool} (ws : List ℕ) → chosen ≡ true → checkIf chosen ws ≡ checkOf ws
-check-chosen ws e = rw e
+-- a list, and where it stops another from there on
+list-split : {A : Type 0} (f : ℕ → A) (a m n : ℕ) → list f a (m + n) ≡ list f a m ++ list f (a + m) n
+unfolding list
+list-split f a zero n =
+    let e : zero + n ≡ n = omega arith in
+    let o : a ≡ a + zero = omega arith in
+    ap₂ (list f) o e
+list-split f a (suc m) n =
+    let e : suc m + n ≡ suc (m + n) = omega arith in
+    let o : a + 1 + m ≡ a + suc m = omega arith in
+    ap (list f a) e ∙ ap (λ l. f a ∷ l) (list-split f (a + 1) m n ∙ ap (λ (i : ℕ). list f (a + 1) m ++ list f i n) o)
 
 module _ (p : Plan) (dealt : List ℕ) (t : ℕ) where
   pub front-count : (n : ℕ) → length (front p dealt t n) ≡ 1 + n
   unfolding front
   front-count n = ap suc (length-list (rowWord p dealt t) 0 n) ∙ omega arith
-
-  pub front-none : front p dealt t 0 ≡ sync ∷ []
-  unfolding front list
-  front-none = refl
-
-  pub front-more : (n : ℕ) → front p dealt t (n + 1) ≡ front p dealt t n ++ (rowWord p dealt t n ∷ [])
-  unfolding front
-  front-more n =
-      let e : 0 + n ≡ n = omega arith in
-      rw (add-one n, list-more (rowWord p dealt t) 0 n, e)
-
-  pub check-more-if : (chosen : Bool) (n : ℕ) → nextIf chosen (checkIf chosen (front p dealt t n)) (rowWord p dealt t n) ≡ checkIf chosen (front p dealt t (n + 1))
-  check-more-if true n = rw (front-more n) (sym (check-more (front p dealt t n) (rowWord p dealt t n)))
-  check-more-if false n = refl
-
-  pub check-first-if : (chosen : Bool) → nextIf chosen 0 sync ≡ checkIf chosen (front p dealt t 0)
-  unfolding checkFrom
-  check-first-if true = rw front-none (ap (λ (r : ℕ). nextCheck r sync) (sym (check-is-from [])) ∙ sym (check-more [] sync))
-  check-first-if false = refl
 
   -- with the check word, or without it
   pub frame-checked : p .crc ≡ true → frame p dealt t ≡ front p dealt t (rows p) ++ (checkWord (p .parity) (front p dealt t (rows p)) ∷ [])
@@ -66,6 +65,20 @@ module _ (p : Plan) (dealt : List ℕ) (t : ℕ) where
 pub sync-below : sync < 2 ^ 24
 unfolding sync
 sync-below = omega arith
+
+-- ---- the check
+
+pub check-first : (w : ℕ) → nextCheck 0 w ≡ checkFrom 0 (w ∷ [])
+unfolding checkFrom
+check-first w = refl
+
+-- of words and then others, if it is chosen
+pub check-on : (chosen : Bool) (r : ℕ) (ws vs : List ℕ) → checkIf chosen (checkIf chosen r ws) vs ≡ checkIf chosen r (ws ++ vs)
+check-on true r ws vs = sym (from-append r ws vs)
+check-on false r ws vs = refl
+
+pub check-chosen : {chosen : Bool} (ws : List ℕ) → chosen ≡ true → checkIf chosen 0 ws ≡ checkOf ws
+check-chosen ws e = rw e (sym (check-is-from ws))
 
 -- the first n frames
 unfoldable pub framesOf : Plan → List ℕ → ℕ → List ℕ

@@ -2,4 +2,5 @@
 pub mod Laws
 pub mod Words
 pub mod Dealt
+pub mod Runs
 pub mod Frames
