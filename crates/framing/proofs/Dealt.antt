@@ -15,7 +15,6 @@ use Rattle.format.specs.declared.Plan.{Plan}
 use Rattle.word.proofs.Below.{word-below}
 use Rattle.group.specs.Shape.{dealtOf}
 use Rattle.framing.specs.Writing.{Unsent}
-use Rattle.framing.proofs.Laws.{all-getD, all-append, all-take}
 
 pub dealt-is : (p : Plan) (time : ℕ) (words : List ℕ) → dealtOf p time words ≡ take (lead p) (timeWords time) ++ words
 unfolding dealtOf lead timeWords
@@ -71,8 +70,6 @@ time-words-unsent p time h =
     (cons (on-bus-0 (p .parity) 6 (lowPart time) (omega arith) (omega arith))
     (cons (on-bus-0 (p .parity) 5 (microPart time) (omega arith) (omega arith)) nil))
 
--- so does each dealt word, fill past the last too
-pub dealt-unsent : (p : Plan) (k : ℕ) (times words : List ℕ) → Unsent p times → Unsent p words → (s : ℕ) → getD (take k times ++ words) s fill < buses (p .parity) * 2 ^ 20
+pub fill-unsent : (parity : Bool) → fill < buses parity * 2 ^ 20
 unfolding fill
-dealt-unsent p k times words t w s =
-    all-getD (λ x. x < buses (p .parity) * 2 ^ 20) (wordOf 0 1 0xAAAA) (on-bus-0 (p .parity) 1 0xAAAA (omega arith) (omega arith)) (take k times ++ words) (all-append (all-take k t) w) s
+fill-unsent parity = on-bus-0 parity 1 0xAAAA (omega arith) (omega arith)

@@ -20,7 +20,7 @@ use Rattle.framing.proofs.Laws.{flatMap-append, length-list, frame-leng
 use Rattle.framing.proofs.Runs.{list-more}
 
 -- lists that say the same, row by row
-list-same : {A : Type 0} (f g : ℕ → A) (a b n : ℕ) → ((i : ℕ) → i < n → f (a + i) ≡ g (b + i)) → list f a n ≡ list g b n
+pub list-same : {A : Type 0} (f g : ℕ → A) (a b n : ℕ) → ((i : ℕ) → i < n → f (a + i) ≡ g (b + i)) → list f a n ≡ list g b n
 unfolding list
 list-same f g a b zero h = refl
 list-same f g a b (suc n) h =
@@ -31,13 +31,14 @@ list-same f g a b (suc n) h =
     first k c =
         let e : c ≡ c + zero = omega arith in
         ap k e
+
     next : {B : Type 0} (k : ℕ → B) (c i : ℕ) → k (c + 1 + i) ≡ k (c + suc i)
     next k c i =
         let e : c + 1 + i ≡ c + suc i = omega arith in
         ap k e
 
 -- a list, and where it stops another from there on
-list-split : {A : Type 0} (f : ℕ → A) (a m n : ℕ) → list f a (m + n) ≡ list f a m ++ list f (a + m) n
+pub list-split : {A : Type 0} (f : ℕ → A) (a m n : ℕ) → list f a (m + n) ≡ list f a m ++ list f (a + m) n
 unfolding list
 list-split f a zero n =
     let e : zero + n ≡ n = omega arith in
@@ -68,9 +69,9 @@ sync-below = omega arith
 
 -- ---- the check
 
-pub check-first : (w : ℕ) → nextCheck 0 w ≡ checkFrom 0 (w ∷ [])
+pub check-one : (w : ℕ) → nextCheck 0 w ≡ checkFrom 0 (w ∷ [])
 unfolding checkFrom
-check-first w = refl
+check-one w = refl
 
 -- of words and then others, if it is chosen
 pub check-on : (chosen : Bool) (r : ℕ) (ws vs : List ℕ) → checkIf chosen (checkIf chosen r ws) vs ≡ checkIf chosen r (ws ++ vs)

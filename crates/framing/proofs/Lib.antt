@@ -4,3 +4,4 @@ pub mod Words
 pub mod Dealt
 pub mod Runs
 pub mod Frames
+pub mod Front

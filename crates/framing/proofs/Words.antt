@@ -74,6 +74,20 @@ written-part {ws} {d} {xs} {ys} {n} {m} {q} a k vs w ea ev mk kd eq ey = record 
   fits = omega (arith, w .fits);
 }
 
+-- all bytes from `a` on
+abbrev pub rest : ℕ → List ℕ → List ℕ
+rest a xs = take (length xs - a) (drop a xs)
+
+pub rest-room : (a m : ℕ) (xs : List ℕ) → a + m ≤ length xs → m ≤ length (rest a xs)
+rest-room a m xs h = simp (length-take-le (length xs - a) (drop a xs) (simp length-drop (omega arith))) (omega arith)
+
+-- all bytes after the n words are lent
+pub written-rest : {ws d xs ys : List ℕ} {n m q : ℕ} (a : ℕ) (vs : List ℕ) → Written ws n d xs → a ≡ 3 * n → length vs ≡ m → 3 * q ≤ length d → n + m ≡ q
+    → ys ≡ flatMap bytesOf vs ++ drop (3 * m) (rest a xs) → Written (ws ++ vs) q d (putMid a (length xs - a) xs ys)
+written-rest {ws} {d} {xs} {ys} {n} {m} {q} a vs w ea ev fits eq ey =
+    let l = written-length w in
+    written-part a (length xs - a) vs w ea ev (omega arith) (omega arith) eq ey
+
 -- one word more
 pub written-word : {ws d xs ys : List ℕ} {n q : ℕ} (at v : ℕ) → Written ws n d xs → at ≡ 3 * n → at + 3 ≤ length d → n + 1 ≡ q
     → ys ≡ take at xs ++ (bytesOf v ++ drop (at + 3) xs) → Written (ws ++ (v ∷ [])) q d ys

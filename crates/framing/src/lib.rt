@@ -4,7 +4,7 @@ ghost use mathlib.Core.Path.{_≡_};
 ghost use mathlib.Core.List.{[], _∷_, _++_, flatMap};
 ghost use Prim.Native.Nat.{_+_, _*_, _^_, _≤_, _<_};
 ghost use lib.ListN.{length, take, drop};
-ghost use Rattle.format.specs.Word.{bytesOf, sent, sync, fill};
+ghost use Rattle.format.specs.Word.{bytesOf, sent, fill};
 ghost use Rattle.format.specs.Lawful.{buses};
 ghost use Rattle.format.specs.Time.{timeEnd};
 ghost use Rattle.format.specs.Plan.{rows, lead, slots, groupWords};
@@ -144,13 +144,7 @@ fn fill_rows(out: &mut [u8], fill: u32, rows: usize)
 }
 
 // The check after rows of fill.
-fn check_fill(
-    tables: &[u32; 768],
-    far: &[u32; 768],
-    fill: u32,
-    rows: usize,
-    before: u32,
-) -> u32
+fn check_fill(tables: &[u32; 768], far: &[u32; 768], fill: u32, rows: usize, before: u32) -> u32
     requires { ⌜ (rows < 512) × (fill < 2 ^ 24) × (before < 2 ^ 16) × (now tables ≡ entries) × (now far ≡ farEntries) ⌝ }
     ensures { λ r. ⌜ (r ≡ checkFrom before (sameRows fill rows)) × (r < 2 ^ 16) ⌝ }
 {
@@ -187,13 +181,13 @@ fn fill_run(
     before
 }
 
-// The check of the sync word, if it is chosen.
-fn check_sync(tables: &[u32; 768], chosen: bool) -> u32
-    requires { ⌜ now tables ≡ entries ⌝ }
-    ensures { λ r. ⌜ (r ≡ checkIf chosen 0 (sync ∷ [])) × (r < 2 ^ 16) ⌝ }
+// The check of a frame's first word, if it is chosen.
+fn check_first(tables: &[u32; 768], chosen: bool, word: u32) -> u32
+    requires { ⌜ (now tables ≡ entries) × (word < 2 ^ 24) ⌝ }
+    ensures { λ r. ⌜ (r ≡ checkIf chosen 0 (word ∷ [])) × (r < 2 ^ 16) ⌝ }
 {
     if chosen {
-        return crc::step(tables, 0, word::sync());
+        return crc::step(tables, 0, word);
     }
     0
 }
@@ -217,12 +211,22 @@ fn write_front(
     let lead = lead_count(plan);
     let timed = rows_with(plan, track, lead);
     let dealt = rows_with(plan, track, lead + words.len());
-    word::put_word(out, 0, word::sync());
-    let mut check = check_sync(tables, plan.crc);
+    let sync = word::sync();
+    word::put_word(out, 0, sync);
+    let mut check = check_first(tables, plan.crc, sync);
     check = put_run(&mut out[3..], tables, far, plan, times, track, timed, check);
     let first = timed * plan.tracks + track - lead;
     let at = 3 * (1 + timed);
-    check = put_run(&mut out[at..], tables, far, plan, words, first, dealt - timed, check);
+    check = put_run(
+        &mut out[at..],
+        tables,
+        far,
+        plan,
+        words,
+        first,
+        dealt - timed,
+        check,
+    );
     let end = 3 * (1 + dealt);
     fill_run(&mut out[end..], tables, far, plan, rows - dealt, check)
 }
