@@ -1,5 +1,5 @@
 -- A frame by its rows, and a group by its tracks.
-use Prim.Native.Nat.{ℕ, zero, suc, _+_, _^_, _-_, _<_, _≤_}
+use Prim.Native.Nat.{ℕ, zero, suc, _+_, _^_, _-_, _<_}
 use native.Mathlib.Omega.{arith}
 use native.Mathlib.Numerals.{add-one}
 use mathlib.Core.Bool.{Bool, true, false}

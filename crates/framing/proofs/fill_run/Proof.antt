@@ -1,6 +1,6 @@
 use Prim.Native.Nat.{_*_, _^_, _<_}
 use native.Mathlib.Omega.{arith}
-use mathlib.Core.Path.{_≡_, refl, ap, ap₂, _∙_}
+use mathlib.Core.Path.{_≡_, ap, _∙_}
 use mathlib.Core.List.{_++_, flatMap}
 use lib.ListN.{drop}
 use borrow.Author.Needs.{needs}
