@@ -18,7 +18,7 @@ use Rattle.format.specs.declared.Item.{Item}
 use Rattle.format.specs.declared.Kind.{Kind}
 use Rattle.format.specs.declared.Plan.{Plan}
 use Rattle.group.specs.Shape.{Shape}
-use Rattle.group.specs.Writing.{Unsent}
+use Rattle.framing.specs.Writing.{Unsent}
 use Rattle.houselog.specs.Tally.{talliedOf}
 use Rattle.houselog.specs.declared.Tally.the-variants.{Items, Fault}
 use Rattle.itemwords.specs.Words.{wordsFrom}
@@ -117,3 +117,6 @@ log-counted p ks log e w n words t = go (parsed (onPlan ks) log) refl t
 -- a row that begins with these words has them all
 pub row-holds : (w : ℕ) (row ws : List ℕ) → take w row ≡ ws → w ≡ length ws → w ≤ length row
 row-holds w row ws h e = omega (arith, length-take w row, ap length h, e)
+
+pub not-both : {b : Bool} → b ≡ true → b ≡ false → ⊥
+not-both {b} h g = let z : _≡_ {A = ℕ} 0 1 = ap (λ (x : Bool). cond x 0 1) (sym h ∙ g) in absurd (omega arith)

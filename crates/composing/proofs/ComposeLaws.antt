@@ -6,5 +6,5 @@ pub use Rattle.format.specs.Laws.Log.Forth.{log-forth}
 pub use Rattle.format.specs.Laws.Reader.Parts.{words-of, items-hold}
 pub use Rattle.format.specs.Laws.Word.Parts.{Holds}
 pub use Rattle.itemwords.proofs.Words.{words-parsed}
-pub use Rattle.group.proofs.WritingFrames.{group-count, rows-under}
-pub use Rattle.group.proofs.WritingWords.{Written, bytes-count, written-length, written-none, written-part}
+pub use Rattle.framing.proofs.Frames.{group-count}
+pub use Rattle.framing.proofs.Words.{Written, bytes-count, written-length, written-none, written-part}

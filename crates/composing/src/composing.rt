@@ -8,13 +8,14 @@ ghost use Rattle.format.specs.Answer.{composeAnswer, outAfter, over, refusal};
 ghost use Rattle.format.specs.Compose.{captureOf, composeWords, composed, firstLate, groupsFor};
 ghost use Rattle.format.specs.Plan.{groupWords, legal};
 ghost use Rattle.format.specs.Time.{timeEnd};
+ghost use Rattle.crc.specs.Running.{entries, farEntries};
 ghost use Rattle.group.specs.Shape.{Shape};
-ghost use Rattle.group.specs.Writing.{Unsent};
+ghost use Rattle.framing.specs.Writing.{Unsent};
 use crc;
 use format::Answer;
 use format::Kind;
 use format::Plan;
-use group::writing::write_group;
+use framing::write_group;
 use houselog::Tally;
 use itemwords::lay;
 use plans::group_words;
@@ -50,12 +51,20 @@ fn least(a: usize, b: usize) -> usize
 }
 
 // Every group, each in its own part of the output.
-fn write_groups(plan: Plan, words: &[u32], times: &[u64], groups: usize, out: &mut [u8])
+fn write_by(
+    plan: Plan,
+    words: &[u32],
+    times: &[u64],
+    groups: usize,
+    out: &mut [u8],
+    tables: &[u32; 768],
+    far: &[u32; 768],
+)
     requires { ⌜ Shape plan × (length (now words) ≤ 15420) × Unsent plan (now words) × ((g : ℕ) → getD (now times) g 0 < timeEnd) ⌝ }
     requires { ⌜ (groups ≡ groupsFor plan (length (now words))) × (groups * (3 * groupWords plan) ≤ length (now out)) ⌝ }
+    requires { ⌜ (plan .crc ≡ true → now tables ≡ entries) × (plan .crc ≡ true → now far ≡ farEntries) ⌝ }
     ensures { λ _. ⌜ now (out .exit) ≡ over (captureOf plan (now (times .entry)) (now (words .entry))) (now (out .entry)) ⌝ }
 {
-    let tables = crc::tables();
     let share = slots(plan);
     let size = 3 * group_words(plan);
     let mut group = 0;
@@ -65,8 +74,31 @@ fn write_groups(plan: Plan, words: &[u32], times: &[u64], groups: usize, out: &m
         let from = group * share;
         let to = least(from + share, words.len());
         let time = time_of(times, group);
-        write_group(&mut out[start..end], &tables, plan, time, &words[from..to]);
+        write_group(
+            &mut out[start..end],
+            tables,
+            far,
+            plan,
+            time,
+            &words[from..to],
+        );
         group += 1;
+    }
+}
+
+// The tables are made for a plan with CRC only.
+fn write_groups(plan: Plan, words: &[u32], times: &[u64], groups: usize, out: &mut [u8])
+    requires { ⌜ Shape plan × (length (now words) ≤ 15420) × Unsent plan (now words) × ((g : ℕ) → getD (now times) g 0 < timeEnd) ⌝ }
+    requires { ⌜ (groups ≡ groupsFor plan (length (now words))) × (groups * (3 * groupWords plan) ≤ length (now out)) ⌝ }
+    ensures { λ _. ⌜ now (out .exit) ≡ over (captureOf plan (now (times .entry)) (now (words .entry))) (now (out .entry)) ⌝ }
+{
+    if plan.crc {
+        let tables = crc::tables();
+        let far = crc::far_tables();
+        write_by(plan, words, times, groups, out, &tables, &far);
+    } else {
+        let none = [0u32; 768];
+        write_by(plan, words, times, groups, out, &none, &none);
     }
 }
 

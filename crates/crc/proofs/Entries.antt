@@ -30,7 +30,7 @@ holds-list f i (x ∷ xs) t =
     let p = both (eqb x (f i)) (holds f (i + 1) xs) t in
     ap₂ (λ (u : ℕ) (l : List ℕ). u ∷ l) (eqb→eq x (f i) (p .0)) (holds-list f (i + 1) xs (p .1))
 
-list-at : (f : ℕ → ℕ) (a n i : ℕ) → i < n → getD (list f a n) i 0 ≡ f (a + i)
+pub list-at : (f : ℕ → ℕ) (a n i : ℕ) → i < n → getD (list f a n) i 0 ≡ f (a + i)
 unfolding list
 list-at f a zero i h = absurd (omega arith)
 list-at f a (suc n) zero h = ap f (sym (add-zero a))
@@ -47,7 +47,7 @@ entry-at p k i e hp hk =
     list-at entryOf 0 768 i (omega arith) ∙ ap₂ (λ (x y : ℕ). checkOf (x * 2 ^ (8 * y) ∷ [])) m q
 
 -- what the entries of the word's last byte and of its upper 16 bits make together
-abbrev looked : List ℕ → ℕ → ℕ → ℕ
+abbrev pub looked : List ℕ → ℕ → ℕ → ℕ
 looked t last upper = bitXor (bitXor (getD t last 0) (getD t (256 + upper % 2 ^ 8) 0)) (getD t (512 + upper / 2 ^ 8) 0)
 
 -- a word is the xor of its bytes where they stand

@@ -4,3 +4,4 @@ pub mod Bits
 pub mod Division
 pub mod Running
 pub mod Entries
+pub mod Two

@@ -72,10 +72,15 @@ pub check-is-from : (ws : List ℕ) → checkOf ws ≡ checkFrom 0 ws
 unfolding checkOf ended
 check-is-from ws = from-ended ws 0 (lit< tt) ∙ ap (λ (n : ℕ). checkFrom n ws) (remainder-small 16 0 0 (lit< tt))
 
+-- of words and then others
+pub from-append : (r : ℕ) (ws vs : List ℕ) → checkFrom r (ws ++ vs) ≡ checkFrom (checkFrom r ws) vs
+unfolding checkFrom
+from-append r [] vs = refl
+from-append r (w ∷ ws) vs = from-append (nextCheck r w) ws vs
+
 pub from-more : (r : ℕ) (ws : List ℕ) (w : ℕ) → checkFrom r (ws ++ (w ∷ [])) ≡ nextCheck (checkFrom r ws) w
 unfolding checkFrom
-from-more r [] w = refl
-from-more r (v ∷ ws) w = from-more (nextCheck r v) ws w
+from-more r ws w = from-append r ws (w ∷ [])
 
 -- and of one word more
 pub check-more : (ws : List ℕ) (w : ℕ) → checkOf (ws ++ (w ∷ [])) ≡ nextCheck (checkOf ws) w

@@ -1,4 +1,4 @@
--- The check of a frame, a word at a time; and the three tables, one a byte of the word.
+-- The check of a frame, a word at a time; the three tables, one a byte of the word; and three that go a word further.
 use Prim.Native.Nat.{ℕ, _*_, _/_, _%_, _^_}
 use mathlib.Core.List.{List, [], _∷_}
 use lib.Bits.{bitXor}
@@ -21,3 +21,10 @@ entryOf i = checkOf (i % 256 * 2 ^ (8 * (i / 256)) ∷ [])
 
 unfoldable pub entries : List ℕ
 entries = list entryOf 0 768
+
+-- what this byte leaves when one word more has gone by
+unfoldable pub farEntryOf : ℕ → ℕ
+farEntryOf i = nextCheck (entryOf i) 0
+
+unfoldable pub farEntries : List ℕ
+farEntries = list farEntryOf 0 768

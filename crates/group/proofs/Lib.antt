@@ -1,8 +1,5 @@
--- The laws of one group, over plain numbers and lists.
-pub mod WritingLaws
-pub mod WritingWords
-pub mod WritingDealt
-pub mod WritingFrames
+-- The laws of one group as read, over plain numbers and lists.
+pub mod Rows
 pub mod ReadingNumbers
 pub mod ReadingPlaces
 pub mod ReadingTime

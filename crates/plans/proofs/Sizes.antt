@@ -12,7 +12,7 @@ use Rattle.format.specs.Plan.{groupWords, isUsed, kindOn, lead, rows, slots, us
 use Rattle.format.specs.declared.Plan.{Plan}
 use Rattle.group.specs.Shape.{Shape}
 use Rattle.format.specs.Laws.Legal.{Legal, many}
-use Rattle.group.proofs.WritingFrames.{rows-under}
+use Rattle.group.proofs.Rows.{rows-under}
 use Rattle.format.specs.declared.Kind.{Kind}
 
 pub bus-counted : (ks : List Kind) (i : ℕ) (b : Bool) → isUsed (kindOn ks i) ≡ b → i < length ks → usedBuses (drop i ks) ≡ bit b + usedBuses (drop (i + 1) ks)

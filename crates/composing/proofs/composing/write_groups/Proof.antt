@@ -1,167 +1,41 @@
-use Rattle.composing.proofs.ComposeGroups.{groups-none, groups-more, groups-all, part-within, share-starts, share-taken, written-all}
-use Rattle.composing.proofs.ComposeLaws.{Written, all-drop, all-take, group-count, written-length, written-none, written-part}
-use Rattle.composing.specs.Compose.{groupsTo}
-use Rattle.format.specs.Plan.{groupWords, slots}
-use Rattle.format.specs.Compose.{groupsFor}
-use lib.ListN.{length, length-take, length-drop}
-use mathlib.Core.Path.{_≡_, ap, sym, _∙_}
-use native.Mathlib.Omega.{arith}
-use native.Mathlib.Nat.{zero-mul}
-use Prim.Native.Nat.{ℕ, _+_, _*_, _-_, _≤_, _<_}
+use Rattle.composing.proofs.ComposeAnswer.{not-both}
 use borrow.Author.Needs.{needs}
 use Rattle.composing.proofs.composing.write_groups.Statement.{statement}
 use Rattle.composing.proofs.composing.write_groups.Tie as tie
 
-abbrev Inv-loop : tie.InvT-loop
-Inv-loop plan words times groups out₀ tables share size group₀ out group = (group ≤ groups) × Written (groupsTo plan times words group) (group * groupWords plan) out₀ out
-
-abbrev μ-loop : tie.MeasureT-loop
-μ-loop plan words times groups out₀ tables share size group₀ out group = groups - group
-
--- in a turn, the next group's part is within the output, and its words begin within the words
-room : (c : tie.In-loop Inv-loop μ-loop) → c .before .loop .group * (3 * c .before .before .group-words .result) + 3 * c .before .before .group-words .result ≤ length (c .before .before .before .before .before .before .before .before .args .out .now)
-room c =
-    let s = c .before .before .before .before .before .before .before .before in
-    part-within (c .before .loop .group) (s .args .groups) _ (length (s .args .out .now)) (c .loop-test .taken) (rw (c .before .before .group-words .ensures .0) (s .pre .1 .1))
-
-begins : (c : tie.In-loop Inv-loop μ-loop) → c .before .loop .group * c .before .before .before .slots .result < length (c .before .before .before .before .before .before .before .before .args .words .now)
-unfolding groupsFor
-begins c =
-    let s = c .before .before .before .before .before .before .before .before in
-    let k = c .before .before .before .slots in
-    share-starts (k .result) (length (s .args .words .now)) (c .before .loop .group) (omega (arith, k .ensures .1)) (rw (k .ensures .0) (rw (s .pre .1 .0) at (c .loop-test .taken)))
-
-tables-requires : tie.Need-tables-requires Inv-loop μ-loop
+tables-requires : tie.Need-tables-requires
 tables-requires c κs = search needs
 
-slots-requires : tie.Need-slots-requires Inv-loop μ-loop
-slots-requires c κs = search needs
+far-tables-requires : tie.Need-far-tables-requires
+far-tables-requires c κs = search needs
 
-group-words-requires : tie.Need-group-words-requires Inv-loop μ-loop
-group-words-requires c κs = search needs
+write-by-requires : tie.Need-write-by-requires
+write-by-requires c κs = search needs
 
-mul-size : tie.Need-mul-size Inv-loop μ-loop
-mul-size c = search needs
+write-by-requires-2 : tie.Need-write-by-requires-2
+write-by-requires-2 c κs = (c .before .before .before .before .before .before .before .pre .0, (c .before .before .before .before .before .before .before .pre .1, (λ h. absurd (not-both h (c .before .before .before .if1 .left)), λ h. absurd (not-both h (c .before .before .before .if1 .left)))))
 
-loop-holds : tie.Need-loop-holds Inv-loop μ-loop
-loop-holds c =
-    let a = c .before .before .before .before .before .before .args in
-    (omega arith, rw (groups-none (a .plan) (a .times .now) (a .words .now), zero-mul (groupWords (a .plan))) (written-none (a .out .now)))
+same-length : tie.Need-same-length
+same-length c = search needs
 
-mul-start : tie.Need-mul-start Inv-loop μ-loop
-mul-start c = omega (arith, room c)
+returns : tie.Need-returns
+returns c = search needs
 
-add-end : tie.Need-add-end Inv-loop μ-loop
-add-end c = omega (arith, room c)
+same-length-2 : tie.Need-same-length-2
+same-length-2 c = search needs
 
-mul-from : tie.Need-mul-from Inv-loop μ-loop
-mul-from c = omega (arith, begins c)
-
-add-least : tie.Need-add-least Inv-loop μ-loop
-add-least c = omega (arith, begins c, c .before .before .before .slots .ensures .2)
-
-least-requires : tie.Need-least-requires Inv-loop μ-loop
-least-requires c κs = search needs
-
-time-of-requires : tie.Need-time-of-requires Inv-loop μ-loop
-time-of-requires c κs = search needs
-
-sub-write-group : tie.Need-sub-write-group Inv-loop μ-loop
-sub-write-group c = search needs
-
-part-write-group-start : tie.Need-part-write-group-start Inv-loop μ-loop
-part-write-group-start c = search needs
-
-part-write-group-end : tie.Need-part-write-group-end Inv-loop μ-loop
-part-write-group-end c = omega (arith, room (c .before .before), written-length (c .before .before .before .loop .inv .1))
-
-mul-write-group : tie.Need-mul-write-group Inv-loop μ-loop
-mul-write-group c = omega (arith, begins (c .before .before .before .before), c .before .before .before .before .before .before .before .before .before .before .before .before .pre .0 .1)
-
-sub-write-group-2 : tie.Need-sub-write-group-2 Inv-loop μ-loop
-sub-write-group-2 c = omega (arith, begins (c .before .before .before .before), c .before .before .before .least .ensures)
-
-part-write-group-start-2 : tie.Need-part-write-group-start-2 Inv-loop μ-loop
-part-write-group-start-2 c = omega (arith, begins (c .before .before .before .before), c .before .before .before .least .ensures)
-
-part-write-group-end-2 : tie.Need-part-write-group-end-2 Inv-loop μ-loop
-part-write-group-end-2 c = omega (arith, c .before .before .before .least .ensures)
-
-write-group-requires : tie.Need-write-group-requires Inv-loop μ-loop
-write-group-requires c κs =
-    let a = c .before .before .before .before .before .before .before .before .before .before .before .before .before .args in
-    let q = c .before .before .before .before .before .before .before .before .before .before .before .before .before .pre in
-    let o = c .before .before .before .before .before .before .loop in
-    let s = c .before .before .before .before .before .before .before .before .slots .ensures in (
-      q .0 .0,
-      simp (length-take, length-drop) (omega (arith, c .before .before .before .before .before .before .before .group-words .ensures .0, room (c .before .before .before .before .before), written-length (o .inv .1))),
-      simp (length-take, length-drop) (omega (arith, s .0, c .before .before .before .before .least .ensures)),
-      all-take (c .before .before .before .before .least .result - o .group * c .before .before .before .before .before .before .before .before .slots .result) (all-drop (o .group * c .before .before .before .before .before .before .before .before .slots .result) (q .0 .2)),
-      rw (c .before .before .before .time-of .ensures) (q .0 .3 (o .group)),
-      c .before .before .before .before .before .before .before .before .before .tables .ensures,
-    )
-
-add-group : tie.Need-add-group Inv-loop μ-loop
-add-group c = search needs
-
-loop-less : tie.Need-loop-less Inv-loop μ-loop
-loop-less c = search needs
-
-loop-again : tie.Need-loop-again Inv-loop μ-loop
-loop-again c =
-    let a = c .before .before .before .before .before .before .before .before .before .before .before .before .before .before .before .before .args in
-    let q = c .before .before .before .before .before .before .before .before .before .before .before .before .before .before .before .before .pre in
-    let o = c .before .before .before .before .before .before .before .before .before .loop in
-    let w = c .before .before .write-group in
-    let n = groupWords (a .plan) in
-    let R = c .before .before .before .before .before .before .before .before .before .before .group-words .result in
-    let e : R ≡ n = c .before .before .before .before .before .before .before .before .before .before .group-words .ensures .0 in
-    let start : o .group * (3 * R) ≡ 3 * (o .group * n) = ap (λ (k : ℕ). o .group * (3 * k)) e ∙ omega arith in
-    let r = room (c .before .before .before .before .before .before .before .before) in
-    let share = share-taken (c .before .before .before .before .before .before .before .before .before .before .before .slots .result) (o .group * c .before .before .before .before .before .before .before .before .before .before .before .slots .result) (c .before .before .before .before .before .before .before .least .result) (a .words .now) (c .before .before .before .before .before .before .before .least .ensures) in (
-      omega arith,
-      rw (groups-more (a .plan) (a .times .now) (a .words .now) (o .group))
-          (written-part (o .group * (3 * R)) (o .group * (3 * R) + 3 * R - o .group * (3 * R)) _ (o .inv .1) start (group-count (a .plan) _ (q .0 .0)) (omega (arith, e)) (omega (arith, r)) (omega arith)
-          (rw (c .before .before .before .before .before .before .time-of .ensures, share, c .before .before .before .before .before .before .before .before .before .before .before .slots .ensures .0) at (w .ensures))),
-    )
-
-same-length : tie.Need-same-length Inv-loop μ-loop
-same-length c = written-length (c .before .loop .inv .1)
-
-returns : tie.Need-returns Inv-loop μ-loop
-returns c =
-    let a = c .before .before .before .before .before .before .before .before .args in
-    let o = c .before .loop in
-    let e : o .group ≡ a .groups = omega arith in
-    written-all _ (o .inv .1) (groups-all (a .plan) (a .times .now) (a .words .now) (o .group) (e ∙ c .before .before .before .before .before .before .before .before .pre .1 .0))
+returns-2 : tie.Need-returns-2
+returns-2 c = search needs
 
 pub write-groups-spec : {M : Type 1} → statement M
 write-groups-spec =
     tie.close
     (tie.spec
-    Inv-loop
-    μ-loop
     tables-requires
-    slots-requires
-    group-words-requires
-    mul-size
-    loop-holds
-    mul-start
-    add-end
-    mul-from
-    add-least
-    least-requires
-    time-of-requires
-    sub-write-group
-    part-write-group-start
-    part-write-group-end
-    mul-write-group
-    sub-write-group-2
-    part-write-group-start-2
-    part-write-group-end-2
-    write-group-requires
-    add-group
-    loop-less
-    loop-again
+    far-tables-requires
+    write-by-requires
+    write-by-requires-2
     same-length
-    returns)
+    returns
+    same-length-2
+    returns-2)
