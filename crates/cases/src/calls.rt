@@ -1,0 +1,171 @@
+// The calls: composing and both readings, each lent buffers that hold A5 and are digested afterwards.
+
+ghost use Prim.Native.Nat.{_<_, _≤_};
+use crate::digest::digest_of;
+use crate::runs::part;
+use format::Answer;
+
+pub struct Numbers {
+    pub words: u32,
+    pub tracks: u32,
+    pub frame_time: u32,
+    pub crc: u32,
+    pub parity: u32,
+    pub kinds: [u8; 16],
+    pub kinds_len: usize,
+}
+
+// An answer, and the digests of the lent buffers: out and 0, or log and times.
+pub struct Outcome {
+    pub number: u32,
+    pub place: u64,
+    pub second: u64,
+    pub bytes: u64,
+    pub times: u64,
+    pub first_digest: u64,
+    pub second_digest: u64,
+}
+
+pub fn plan(words: u32, tracks: u32, frame_time: u32, crc: u32, parity: u32) -> Numbers {
+    Numbers {
+        words: words,
+        tracks: tracks,
+        frame_time: frame_time,
+        crc: crc,
+        parity: parity,
+        kinds: [0; 16],
+        kinds_len: 16,
+    }
+}
+
+pub fn with_bus(p: Numbers, bus: usize, kind: u8) -> Numbers {
+    let mut q = p;
+    if bus < 16 {
+        q.kinds[bus] = kind;
+    }
+    q
+}
+
+fn with_digests(answer: Answer, first_digest: u64, second_digest: u64) -> Outcome {
+    Outcome {
+        number: answer.number,
+        place: answer.place,
+        second: answer.second,
+        bytes: answer.bytes,
+        times: answer.times,
+        first_digest: first_digest,
+        second_digest: second_digest,
+    }
+}
+
+fn untouched(bytes: &mut [u8]) {
+    let mut at = 0;
+    while at < bytes.len() {
+        bytes[at] = 0xA5;
+        at += 1;
+    }
+}
+
+fn compose_run(p: Numbers, kinds: [u8; 16], log: &[u8], times: &[u8], out: &mut [u8]) -> Outcome {
+    untouched(out);
+    let kinds_end = part(&kinds, p.kinds_len);
+    let answer = vinculampe::vin_compose(
+        p.words,
+        p.tracks,
+        p.frame_time,
+        p.crc,
+        p.parity,
+        &kinds[..kinds_end],
+        log,
+        times,
+        out,
+    );
+    with_digests(answer, digest_of(out), 0)
+}
+
+// Composes so many bytes of log and times into so many of out.
+pub fn composing(
+    p: Numbers,
+    log: &[u8],
+    log_len: usize,
+    times: &[u8],
+    times_len: usize,
+    out: &mut [u8],
+    out_len: usize,
+) -> Outcome {
+    let log_end = part(log, log_len);
+    let times_end = part(times, times_len);
+    let out_end = part(out, out_len);
+    let kinds = p.kinds;
+    compose_run(
+        p,
+        kinds,
+        &log[..log_end],
+        &times[..times_end],
+        &mut out[..out_end],
+    )
+}
+
+fn read_answer(
+    closed: bool,
+    p: Numbers,
+    kinds: [u8; 16],
+    capture: &[u8],
+    log: &mut [u8],
+    times: &mut [u8],
+) -> Answer {
+    let kinds_end = part(&kinds, p.kinds_len);
+    if closed {
+        return vinculampe::vin_read_closed(
+            p.words,
+            p.tracks,
+            p.frame_time,
+            p.crc,
+            p.parity,
+            &kinds[..kinds_end],
+            capture,
+            log,
+            times,
+        );
+    }
+    vinculampe::vin_read(
+        p.words,
+        p.tracks,
+        p.frame_time,
+        p.crc,
+        p.parity,
+        &kinds[..kinds_end],
+        capture,
+        log,
+        times,
+    )
+}
+
+fn read_run(closed: bool, p: Numbers, capture: &[u8], log: &mut [u8], times: &mut [u8]) -> Outcome {
+    let kinds = p.kinds;
+    let answer = read_answer(closed, p, kinds, capture, log, times);
+    with_digests(answer, digest_of(log), digest_of(times))
+}
+
+// Reads so many bytes of capture into so many of log and times.
+pub fn reading(
+    closed: bool,
+    p: Numbers,
+    capture: &[u8],
+    capture_len: usize,
+    log_len: usize,
+    times_len: usize,
+) -> Outcome {
+    let mut log = [0xA5u8; 32769];
+    let mut times = [0xA5u8; 1024];
+    let capture_end = part(capture, capture_len);
+    let log_end = part(&log, log_len);
+    let times_end = part(&times, times_len);
+    read_run(
+        closed,
+        p,
+        &capture[..capture_end],
+        &mut log[..log_end],
+        &mut times[..times_end],
+    )
+}
