@@ -46,6 +46,18 @@ pub fn with_bus(p: Numbers, bus: usize, kind: u8) -> Numbers {
     q
 }
 
+// With only so many kinds lent.
+pub fn with_kinds_len(p: Numbers, kinds_len: usize) -> Numbers {
+    let mut q = p;
+    q.kinds_len = kinds_len;
+    q
+}
+
+// With bus 2 a 1553 bus.
+pub fn data_plan(words: u32, tracks: u32, frame_time: u32, crc: u32, parity: u32) -> Numbers {
+    with_bus(plan(words, tracks, frame_time, crc, parity), 2, 1)
+}
+
 fn with_digests(answer: Answer, first_digest: u64, second_digest: u64) -> Outcome {
     Outcome {
         number: answer.number,

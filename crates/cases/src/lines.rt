@@ -2,6 +2,7 @@
 
 use crate::calls::Numbers;
 use crate::calls::Outcome;
+use crate::calls::composing;
 use crate::calls::reading;
 
 fn say_number(number: u64) {
@@ -23,9 +24,18 @@ fn say_answer(o: Outcome) {
     say_number(o.first_digest);
 }
 
-pub fn say_composing(o: Outcome) {
+pub fn say_composing(
+    p: Numbers,
+    log: &[u8],
+    log_len: usize,
+    times: &[u8],
+    times_len: usize,
+    out: &mut [u8],
+    out_len: usize,
+) {
+    let composed = composing(p, log, log_len, times, times_len, out, out_len);
     io::write_all(1, b" c");
-    say_answer(o);
+    say_answer(composed);
 }
 
 pub fn say_both_readings(

@@ -6,11 +6,14 @@ mod calls;
 mod digest;
 mod items;
 mod lines;
+mod refusals;
 mod runs;
 mod tempting;
 
+use crate::refusals::refusal_cases;
 use crate::tempting::tempting_cases;
 
 fn main() {
     tempting_cases();
+    refusal_cases();
 }
