@@ -5,7 +5,7 @@ use crate::calls::Outcome;
 use crate::calls::composing;
 use crate::calls::reading;
 
-fn say_number(number: u64) {
+pub fn say_number(number: u64) {
     io::write_all(1, b" ");
     io::print_decimal(1, number);
 }

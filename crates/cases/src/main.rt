@@ -3,17 +3,23 @@
 // implementation, writes; there stands what the lines say.
 
 mod calls;
+mod captures;
 mod digest;
+mod draws;
 mod items;
 mod lines;
+mod logs;
+mod random;
 mod refusals;
 mod runs;
 mod tempting;
 
+use crate::random::random_cases;
 use crate::refusals::refusal_cases;
 use crate::tempting::tempting_cases;
 
 fn main() {
     tempting_cases();
     refusal_cases();
+    random_cases();
 }

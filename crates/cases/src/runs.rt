@@ -33,6 +33,38 @@ pub fn less(a: usize, b: usize) -> usize
     0
 }
 
+pub fn put_byte(bytes: &mut [u8], at: usize, byte: u8) {
+    if at < bytes.len() {
+        bytes[at] = byte;
+    }
+}
+
+fn wide(byte: u8) -> u32
+    ensures { λ r. ⌜ r < 256 ⌝ }
+{
+    byte as u32
+}
+
+fn byte_at(bytes: &[u8], at: usize) -> u32
+    ensures { λ r. ⌜ r < 256 ⌝ }
+{
+    if at < bytes.len() {
+        return wide(bytes[at]);
+    }
+    0
+}
+
+// A word of a capture; zeros past its end.
+pub fn word_at(capture: &[u8], place: usize) -> u32 {
+    if place < 10923 {
+        let first = byte_at(capture, 3 * place);
+        let second = byte_at(capture, 3 * place + 1);
+        let third = byte_at(capture, 3 * place + 2);
+        return first * 65536 + second * 256 + third;
+    }
+    0
+}
+
 // Turns the byte's bits that are ones in `bits`.
 pub fn turn(bytes: &mut [u8], at: usize, bits: u8) {
     if at < bytes.len() {
