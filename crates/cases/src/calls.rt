@@ -5,28 +5,28 @@ use crate::digest::digest_of;
 use crate::runs::part;
 use format::Answer;
 
-pub struct Numbers {
-    pub words: u32,
-    pub tracks: u32,
-    pub frame_time: u32,
-    pub crc: u32,
-    pub parity: u32,
-    pub kinds: [u8; 16],
-    pub kinds_len: usize,
+pub(crate) struct Numbers {
+    pub(crate) words: u32,
+    pub(crate) tracks: u32,
+    pub(crate) frame_time: u32,
+    pub(crate) crc: u32,
+    pub(crate) parity: u32,
+    pub(crate) kinds: [u8; 16],
+    pub(crate) kinds_len: usize,
 }
 
 // An answer, and the digests of the lent buffers: out and 0, or log and times.
-pub struct Outcome {
-    pub number: u32,
-    pub place: u64,
-    pub second: u64,
-    pub bytes: u64,
-    pub times: u64,
-    pub first_digest: u64,
-    pub second_digest: u64,
+pub(crate) struct Outcome {
+    pub(crate) number: u32,
+    pub(crate) place: u64,
+    pub(crate) second: u64,
+    pub(crate) bytes: u64,
+    pub(crate) times: u64,
+    pub(crate) first_digest: u64,
+    pub(crate) second_digest: u64,
 }
 
-pub fn plan(words: u32, tracks: u32, frame_time: u32, crc: u32, parity: u32) -> Numbers {
+pub(crate) fn plan(words: u32, tracks: u32, frame_time: u32, crc: u32, parity: u32) -> Numbers {
     Numbers {
         words: words,
         tracks: tracks,
@@ -38,7 +38,7 @@ pub fn plan(words: u32, tracks: u32, frame_time: u32, crc: u32, parity: u32) -> 
     }
 }
 
-pub fn with_bus(p: Numbers, bus: usize, kind: u8) -> Numbers {
+pub(crate) fn with_bus(p: Numbers, bus: usize, kind: u8) -> Numbers {
     let mut q = p;
     if bus < 16 {
         q.kinds[bus] = kind;
@@ -47,14 +47,20 @@ pub fn with_bus(p: Numbers, bus: usize, kind: u8) -> Numbers {
 }
 
 // With only so many kinds lent.
-pub fn with_kinds_len(p: Numbers, kinds_len: usize) -> Numbers {
+pub(crate) fn with_kinds_len(p: Numbers, kinds_len: usize) -> Numbers {
     let mut q = p;
     q.kinds_len = kinds_len;
     q
 }
 
 // With bus 2 a 1553 bus.
-pub fn data_plan(words: u32, tracks: u32, frame_time: u32, crc: u32, parity: u32) -> Numbers {
+pub(crate) fn data_plan(
+    words: u32,
+    tracks: u32,
+    frame_time: u32,
+    crc: u32,
+    parity: u32,
+) -> Numbers {
     with_bus(plan(words, tracks, frame_time, crc, parity), 2, 1)
 }
 
@@ -96,7 +102,7 @@ fn compose_run(p: Numbers, kinds: [u8; 16], log: &[u8], times: &[u8], out: &mut 
 }
 
 // Composes so many bytes of log and times into so many of out.
-pub fn composing(
+pub(crate) fn composing(
     p: Numbers,
     log: &[u8],
     log_len: usize,
@@ -160,7 +166,7 @@ fn read_run(closed: bool, p: Numbers, capture: &[u8], log: &mut [u8], times: &mu
 }
 
 // Reads so many bytes of capture into so many of log and times.
-pub fn reading(
+pub(crate) fn reading(
     closed: bool,
     p: Numbers,
     capture: &[u8],

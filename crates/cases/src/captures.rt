@@ -82,7 +82,7 @@ fn damages(seed: &mut u64, p: Numbers, capture: &mut [u8], size: u32, times: u32
 }
 
 // With faults, one to three damages to the first bytes, if there are any.
-pub fn damage(seed: &mut u64, p: Numbers, capture: &mut [u8], size: usize, faults: bool) {
+pub(crate) fn damage(seed: &mut u64, p: Numbers, capture: &mut [u8], size: usize, faults: bool) {
     if faults {
         if 3 <= size {
             if size < 65536 {
@@ -138,7 +138,7 @@ fn noise_group(seed: &mut u64, p: Numbers, capture: &mut [u8], from: u32) -> u32
 }
 
 // One or two groups of a plan without frame time and CRC; returns their length in bytes.
-pub fn noise(seed: &mut u64, p: Numbers, capture: &mut [u8]) -> usize {
+pub(crate) fn noise(seed: &mut u64, p: Numbers, capture: &mut [u8]) -> usize {
     let words = noise_group(seed, p, capture, 0);
     if one_in(seed, 2) {
         return 3 * words as usize;

@@ -7,7 +7,7 @@ use crate::calls::with_bus;
 use crate::calls::with_kinds_len;
 
 // "minimal standard" generator: from 1 to 2147483646, and no product reaches 48 bits
-pub fn draw(seed: &mut u64, below: u32) -> u32
+pub(crate) fn draw(seed: &mut u64, below: u32) -> u32
     requires { ⌜ 0 < below ⌝ }
     ensures { λ r. ⌜ r < below ⌝ }
 {
@@ -15,7 +15,7 @@ pub fn draw(seed: &mut u64, below: u32) -> u32
     (*seed % below as u64) as u32
 }
 
-pub fn one_in(seed: &mut u64, n: u32) -> bool
+pub(crate) fn one_in(seed: &mut u64, n: u32) -> bool
     requires { ⌜ 0 < n ⌝ }
 {
     draw(seed, n) == 0
@@ -52,7 +52,7 @@ fn draw_buses(seed: &mut u64, p: Numbers, buses: u32) -> Numbers {
 }
 
 // A legal plan.
-pub fn draw_plan(seed: &mut u64) -> Numbers {
+pub(crate) fn draw_plan(seed: &mut u64) -> Numbers {
     let words = draw_words(seed);
     let tracks = 1 + draw(seed, 4);
     let frame_time = draw(seed, 2);
@@ -67,7 +67,7 @@ pub fn draw_plan(seed: &mut u64) -> Numbers {
 }
 
 // Now and then a number that makes it illegal, or another legal plan.
-pub fn spoil_plan(seed: &mut u64, p: Numbers) -> Numbers {
+pub(crate) fn spoil_plan(seed: &mut u64, p: Numbers) -> Numbers {
     let what = draw(seed, 8);
     let bus = draw(seed, 16);
     let mut q = p;
@@ -94,7 +94,7 @@ fn is_used(kind: u8) -> u32
 }
 
 // 0 of a bus that there is not.
-pub fn kind_at(p: Numbers, bus: usize) -> u8 {
+pub(crate) fn kind_at(p: Numbers, bus: usize) -> u8 {
     if bus < 16 {
         return p.kinds[bus];
     }
@@ -128,7 +128,7 @@ fn used_bus(p: Numbers, others: u32) -> u32 {
 }
 
 // A used bus; 16 if no bus is used.
-pub fn draw_bus(seed: &mut u64, p: Numbers) -> u32 {
+pub(crate) fn draw_bus(seed: &mut u64, p: Numbers) -> u32 {
     let used = used_buses(p);
     if used == 0 {
         return 16;

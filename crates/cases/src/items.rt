@@ -33,7 +33,7 @@ fn put_flagged(
     put(log, flag_end, 16, word as u64)
 }
 
-pub fn put_command(
+pub(crate) fn put_command(
     log: &mut [u8],
     bit: usize,
     bus: u32,
@@ -49,7 +49,7 @@ pub fn put_command(
     end
 }
 
-pub fn put_status(
+pub(crate) fn put_status(
     log: &mut [u8],
     bit: usize,
     bus: u32,
@@ -66,13 +66,20 @@ pub fn put_status(
 }
 
 // Kind 3 or 4; or 7, a user word.
-pub fn put_data(log: &mut [u8], bit: usize, kind: u32, bus: u32, b: u32, word: u32) -> usize {
+pub(crate) fn put_data(
+    log: &mut [u8],
+    bit: usize,
+    kind: u32,
+    bus: u32,
+    b: u32,
+    word: u32,
+) -> usize {
     let start_end = put_start(log, bit, kind, bus);
     let b_end = put(log, start_end, 1, b as u64);
     put(log, b_end, 16, word as u64)
 }
 
-pub fn put_arinc(
+pub(crate) fn put_arinc(
     log: &mut [u8],
     bit: usize,
     bus: u32,
@@ -91,19 +98,25 @@ pub fn put_arinc(
     end
 }
 
-pub fn put_notice(log: &mut [u8], bit: usize, bus: u32, channel: u32, diagnostics: u32) -> usize {
+pub(crate) fn put_notice(
+    log: &mut [u8],
+    bit: usize,
+    bus: u32,
+    channel: u32,
+    diagnostics: u32,
+) -> usize {
     let start_end = put_start(log, bit, 6, bus);
     let channel_end = put(log, start_end, 2, channel as u64);
     put(log, channel_end, 8, diagnostics as u64)
 }
 
-pub fn put_overflow(log: &mut [u8], bit: usize, bus: u32, word: u32) -> usize {
+pub(crate) fn put_overflow(log: &mut [u8], bit: usize, bus: u32, word: u32) -> usize {
     let start_end = put_start(log, bit, 8, bus);
     put(log, start_end, 16, word as u64)
 }
 
 // Ends the log; returns its length in bytes.
-pub fn put_end(log: &mut [u8], bit: usize) -> usize
+pub(crate) fn put_end(log: &mut [u8], bit: usize) -> usize
     ensures { λ r. ⌜ r ≤ length (now (log .exit)) ⌝ }
 {
     let end = put(log, bit, 4, 0);
@@ -112,7 +125,7 @@ pub fn put_end(log: &mut [u8], bit: usize) -> usize
 }
 
 // So many data words on bus 2; returns the log's length in bytes.
-pub fn put_data_words(log: &mut [u8], items: usize) -> usize
+pub(crate) fn put_data_words(log: &mut [u8], items: usize) -> usize
     ensures { λ r. ⌜ r ≤ length (now (log .exit)) ⌝ }
 {
     let mut bit = 0;

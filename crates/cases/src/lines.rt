@@ -5,12 +5,12 @@ use crate::calls::Outcome;
 use crate::calls::composing;
 use crate::calls::reading;
 
-pub fn say_number(number: u64) {
+pub(crate) fn say_number(number: u64) {
     io::write_all(1, b" ");
     io::print_decimal(1, number);
 }
 
-pub fn name(letters: &[u8], number: u32) {
+pub(crate) fn name(letters: &[u8], number: u32) {
     io::write_all(1, letters);
     say_number(number as u64);
     io::write_all(1, b":");
@@ -24,7 +24,7 @@ fn say_answer(o: Outcome) {
     say_number(o.first_digest);
 }
 
-pub fn say_composing(
+pub(crate) fn say_composing(
     p: Numbers,
     log: &[u8],
     log_len: usize,
@@ -38,7 +38,7 @@ pub fn say_composing(
     say_answer(composed);
 }
 
-pub fn say_both_readings(
+pub(crate) fn say_both_readings(
     p: Numbers,
     capture: &[u8],
     capture_len: usize,
@@ -55,6 +55,6 @@ pub fn say_both_readings(
     say_number(closed.second_digest);
 }
 
-pub fn line_end() {
+pub(crate) fn line_end() {
     io::write_all(1, b"\n");
 }

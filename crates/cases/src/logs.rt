@@ -175,7 +175,7 @@ fn spoil_log(seed: &mut u64, log: &mut [u8], length: u32) -> usize
 }
 
 // Returns the log's length in bytes.
-pub fn draw_log(seed: &mut u64, p: Numbers, log: &mut [u8], faults: bool) -> usize {
+pub(crate) fn draw_log(seed: &mut u64, p: Numbers, log: &mut [u8], faults: bool) -> usize {
     let items = draw_number(seed);
     let bit = draw_items(seed, p, log, items, faults);
     let length = put_end(log, bit);
@@ -203,7 +203,7 @@ fn draw_time(seed: &mut u64, faults: bool) -> u64 {
     10000 * (65536 * high as u64 + low as u64) + micro as u64
 }
 
-pub fn draw_times(seed: &mut u64, times: &mut [u8], number: u32, faults: bool) {
+pub(crate) fn draw_times(seed: &mut u64, times: &mut [u8], number: u32, faults: bool) {
     let mut n = 0;
     while n < number {
         put_time(times, n as usize, draw_time(seed, faults));

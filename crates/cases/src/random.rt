@@ -181,7 +181,7 @@ fn random_block(seed: &mut u64, block: u32) {
     line_end();
 }
 
-pub fn random_cases() {
+pub(crate) fn random_cases() {
     let mut seed = 20241001;
     let mut block = 0;
     while block < 10 {

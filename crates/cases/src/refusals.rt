@@ -313,7 +313,7 @@ fn time_case(tracks: u32, high: usize, low: usize, micro: usize) {
     line_end();
 }
 
-pub fn refusal_cases() {
+pub(crate) fn refusal_cases() {
     plan_cases();
     log_cases();
     room_cases();

@@ -14,7 +14,7 @@ fn least(a: usize, b: usize) -> usize
 }
 
 // So many bytes, or all if there are fewer.
-pub fn part(bytes: &[u8], size: usize) -> usize
+pub(crate) fn part(bytes: &[u8], size: usize) -> usize
     ensures { λ r. ⌜ Counts r (now (bytes .entry)) ⌝ }
 {
     if size < bytes.len() {
@@ -24,7 +24,7 @@ pub fn part(bytes: &[u8], size: usize) -> usize
 }
 
 // What is left of a; none if b is more.
-pub fn less(a: usize, b: usize) -> usize
+pub(crate) fn less(a: usize, b: usize) -> usize
     ensures { λ r. ⌜ r ≤ a ⌝ }
 {
     if b < a {
@@ -33,7 +33,7 @@ pub fn less(a: usize, b: usize) -> usize
     0
 }
 
-pub fn put_byte(bytes: &mut [u8], at: usize, byte: u8) {
+pub(crate) fn put_byte(bytes: &mut [u8], at: usize, byte: u8) {
     if at < bytes.len() {
         bytes[at] = byte;
     }
@@ -55,7 +55,7 @@ fn byte_at(bytes: &[u8], at: usize) -> u32
 }
 
 // A word of a capture; zeros past its end.
-pub fn word_at(capture: &[u8], place: usize) -> u32 {
+pub(crate) fn word_at(capture: &[u8], place: usize) -> u32 {
     if place < 10923 {
         let first = byte_at(capture, 3 * place);
         let second = byte_at(capture, 3 * place + 1);
@@ -66,7 +66,7 @@ pub fn word_at(capture: &[u8], place: usize) -> u32 {
 }
 
 // Turns the byte's bits that are ones in `bits`.
-pub fn turn(bytes: &mut [u8], at: usize, bits: u8) {
+pub(crate) fn turn(bytes: &mut [u8], at: usize, bits: u8) {
     if at < bytes.len() {
         bytes[at] = bytes[at] ^ bits;
     }
@@ -92,7 +92,7 @@ fn put_bit(bytes: &mut [u8], bit: usize, one: u64) -> usize {
 }
 
 // The low bits of a number; returns the bit behind them.
-pub fn put(bytes: &mut [u8], from: usize, width: u32, value: u64) -> usize
+pub(crate) fn put(bytes: &mut [u8], from: usize, width: u32, value: u64) -> usize
     requires { ⌜ width ≤ 64 ⌝ }
 {
     let mut bit = from;
@@ -105,21 +105,21 @@ pub fn put(bytes: &mut [u8], from: usize, width: u32, value: u64) -> usize
 }
 
 // A word of a capture.
-pub fn put_word(capture: &mut [u8], place: usize, bits: u32) {
+pub(crate) fn put_word(capture: &mut [u8], place: usize, bits: u32) {
     if place < 10923 {
         put(capture, 24 * place, 24, bits as u64);
     }
 }
 
 // A frame time.
-pub fn put_time(times: &mut [u8], index: usize, time: u64) {
+pub(crate) fn put_time(times: &mut [u8], index: usize, time: u64) {
     if index < 128 {
         put(times, 64 * index, 64, time);
     }
 }
 
 // Frames of a plan without frame time and CRC: the sync word and fill, to the end of the run.
-pub fn put_fill(capture: &mut [u8], words: usize)
+pub(crate) fn put_fill(capture: &mut [u8], words: usize)
     requires { ⌜ 0 < words ⌝ }
 {
     let end = capture.len() / 3;
@@ -139,7 +139,7 @@ pub fn put_fill(capture: &mut [u8], words: usize)
 }
 
 // The first bytes of one run put into another.
-pub fn copy(from: &[u8], to: &mut [u8], size: usize) {
+pub(crate) fn copy(from: &[u8], to: &mut [u8], size: usize) {
     let end = least(size, least(from.len(), to.len()));
     let mut at = 0;
     while at < end {

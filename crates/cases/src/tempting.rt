@@ -190,7 +190,7 @@ fn user_case() {
     line_end();
 }
 
-pub fn tempting_cases() {
+pub(crate) fn tempting_cases() {
     frame_cases();
     fill_cases();
     sync_case(0, 15);

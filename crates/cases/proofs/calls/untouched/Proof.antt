@@ -4,8 +4,6 @@ use lib.ListN.{length}
 use borrow.Author.Needs.{needs}
 use Rattle.cases.proofs.calls.untouched.Statement.{statement}
 use Rattle.cases.proofs.calls.untouched.Tie as tie
-use Rattle.cases.proofs.calls.untouched.Reads as reads
-use Rattle.cases.proofs.calls.untouched.Lts as lts
 
 abbrev Inv-loop : tie.InvT-loop
 Inv-loop bytes₀ at₀ bytes at = length bytes ≡ length bytes₀
@@ -13,31 +11,24 @@ Inv-loop bytes₀ at₀ bytes at = length bytes ≡ length bytes₀
 abbrev μ-loop : tie.MeasureT-loop
 μ-loop bytes₀ at₀ bytes at = length bytes₀ - at
 
--- src/calls.rt:63:5
 loop-holds : tie.Need-loop-holds Inv-loop μ-loop
 loop-holds c = search needs
 
--- src/calls.rt:64:9
 slice-write-bytes : tie.Need-slice-write-bytes Inv-loop μ-loop
 slice-write-bytes c = search needs
 
--- src/calls.rt:65:9
 add-at : tie.Need-add-at Inv-loop μ-loop
 add-at c = search needs
 
--- src/calls.rt:63:5
 loop-less : tie.Need-loop-less Inv-loop μ-loop
 loop-less c = search needs
 
--- src/calls.rt:63:5
 loop-again : tie.Need-loop-again Inv-loop μ-loop
 loop-again c = search needs
 
--- src/calls.rt:61:1
 same-length : tie.Need-same-length Inv-loop μ-loop
 same-length c = search needs
 
--- src/calls.rt:61:1
 returns : tie.Need-returns Inv-loop μ-loop
 returns c = search needs
 

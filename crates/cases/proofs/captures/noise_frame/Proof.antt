@@ -4,11 +4,6 @@ use lib.ListN.{length}
 use borrow.Author.Needs.{needs}
 use Rattle.cases.proofs.captures.noise_frame.Statement.{statement}
 use Rattle.cases.proofs.captures.noise_frame.Tie as tie
-use Rattle.cases.proofs.captures.noise_frame.Reads as reads
-use Rattle.cases.proofs.captures.noise_frame.Lts as lts
-use Rattle.cases.proofs.captures.noise_word.Reads as noise-word-reads
-use Rattle.cases.proofs.captures.place_behind.Reads as place-behind-reads
-use Rattle.cases.proofs.runs.put_word.Reads as put-word-reads
 
 abbrev Inv-loop : tie.InvT-loop
 Inv-loop seed₀ p capture₀ from words position₀ seed capture position = length capture ≡ length capture₀
@@ -16,47 +11,36 @@ Inv-loop seed₀ p capture₀ from words position₀ seed capture position = len
 abbrev μ-loop : tie.MeasureT-loop
 μ-loop seed₀ p capture₀ from words position₀ seed capture position = words - position
 
--- src/captures.rt:118:5
 loop-holds : tie.Need-loop-holds Inv-loop μ-loop
 loop-holds c = search needs
 
--- src/captures.rt:119:13
 noise-word-requires : tie.Need-noise-word-requires Inv-loop μ-loop
 noise-word-requires c κs = search needs
 
--- src/captures.rt:120:43
 cast-put-word : tie.Need-cast-put-word Inv-loop μ-loop
 cast-put-word c = search needs
 
--- src/captures.rt:120:27
 add-put-word : tie.Need-add-put-word Inv-loop μ-loop
 add-put-word c = search needs
 
--- src/captures.rt:120:9
 put-word-requires : tie.Need-put-word-requires Inv-loop μ-loop
 put-word-requires c κs = search needs
 
--- src/captures.rt:121:9
 add-position : tie.Need-add-position Inv-loop μ-loop
 add-position c = search needs
 
--- src/captures.rt:118:5
 loop-less : tie.Need-loop-less Inv-loop μ-loop
 loop-less c = search needs
 
--- src/captures.rt:118:5
 loop-again : tie.Need-loop-again Inv-loop μ-loop
 loop-again c = search needs
 
--- src/captures.rt:123:5
 place-behind-requires : tie.Need-place-behind-requires Inv-loop μ-loop
 place-behind-requires c κs = search needs
 
--- src/captures.rt:115:1
 same-length : tie.Need-same-length Inv-loop μ-loop
 same-length c = search needs
 
--- src/captures.rt:115:1
 returns : tie.Need-returns Inv-loop μ-loop
 returns c = search needs
 

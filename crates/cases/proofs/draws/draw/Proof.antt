@@ -4,8 +4,6 @@ use native.Mathlib.Omega.{arith}
 use borrow.Author.Needs.{needs}
 use Rattle.cases.proofs.draws.draw.Statement.{statement}
 use Rattle.cases.proofs.draws.draw.Tie as tie
-use Rattle.cases.proofs.draws.draw.Reads as reads
-use Rattle.cases.proofs.draws.draw.Lts as lts
 
 mul-seed : tie.Need-mul-seed
 mul-seed c = search needs

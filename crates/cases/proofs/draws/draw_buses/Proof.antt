@@ -2,10 +2,6 @@ use Prim.Native.Nat.{_-_}
 use borrow.Author.Needs.{needs}
 use Rattle.cases.proofs.draws.draw_buses.Statement.{statement}
 use Rattle.cases.proofs.draws.draw_buses.Tie as tie
-use Rattle.cases.proofs.draws.draw_buses.Reads as reads
-use Rattle.cases.proofs.draws.draw_buses.Lts as lts
-use Rattle.cases.proofs.calls.with_bus.Reads as with-bus-reads
-use Rattle.cases.proofs.draws.draw.Reads as draw-reads
 
 abbrev Inv-loop : tie.InvT-loop
 Inv-loop seed₀ buses q₀ bus₀ seed q bus = Unit {0}
@@ -13,39 +9,30 @@ Inv-loop seed₀ buses q₀ bus₀ seed q bus = Unit {0}
 abbrev μ-loop : tie.MeasureT-loop
 μ-loop seed₀ buses q₀ bus₀ seed q bus = buses - bus
 
--- src/draws.rt:46:5
 loop-holds : tie.Need-loop-holds Inv-loop μ-loop
 loop-holds c = search needs
 
--- src/draws.rt:47:13
 draw-requires : tie.Need-draw-requires Inv-loop μ-loop
 draw-requires c κs = search needs
 
--- src/draws.rt:48:25
 cast-with-bus : tie.Need-cast-with-bus Inv-loop μ-loop
 cast-with-bus c = search needs
 
--- src/draws.rt:48:39
 cast-with-bus-2 : tie.Need-cast-with-bus-2 Inv-loop μ-loop
 cast-with-bus-2 c = search needs
 
--- src/draws.rt:48:9
 with-bus-requires : tie.Need-with-bus-requires Inv-loop μ-loop
 with-bus-requires c κs = search needs
 
--- src/draws.rt:49:9
 add-bus : tie.Need-add-bus Inv-loop μ-loop
 add-bus c = search needs
 
--- src/draws.rt:46:5
 loop-less : tie.Need-loop-less Inv-loop μ-loop
 loop-less c = search needs
 
--- src/draws.rt:46:5
 loop-again : tie.Need-loop-again Inv-loop μ-loop
 loop-again c = search needs
 
--- src/draws.rt:43:1
 returns : tie.Need-returns Inv-loop μ-loop
 returns c = search needs
 

@@ -2,9 +2,6 @@ use Prim.Native.Nat.{_≤_, _-_}
 use borrow.Author.Needs.{needs}
 use Rattle.cases.proofs.draws.used_buses.Statement.{statement}
 use Rattle.cases.proofs.draws.used_buses.Tie as tie
-use Rattle.cases.proofs.draws.used_buses.Reads as reads
-use Rattle.cases.proofs.draws.used_buses.Lts as lts
-use Rattle.cases.proofs.draws.is_used.Reads as is-used-reads
 
 abbrev Inv-loop : tie.InvT-loop
 Inv-loop p used₀ bus₀ used bus = used ≤ bus
@@ -12,35 +9,27 @@ Inv-loop p used₀ bus₀ used bus = used ≤ bus
 abbrev μ-loop : tie.MeasureT-loop
 μ-loop p used₀ bus₀ used bus = 16 - bus
 
--- src/draws.rt:107:5
 loop-holds : tie.Need-loop-holds Inv-loop μ-loop
 loop-holds c = search needs
 
--- src/draws.rt:108:25
 element-copy-out-is-used : tie.Need-element-copy-out-is-used Inv-loop μ-loop
 element-copy-out-is-used c = search needs
 
--- src/draws.rt:108:17
 is-used-requires : tie.Need-is-used-requires Inv-loop μ-loop
 is-used-requires c κs = search needs
 
--- src/draws.rt:108:9
 add-used : tie.Need-add-used Inv-loop μ-loop
 add-used c = search needs
 
--- src/draws.rt:109:9
 add-bus : tie.Need-add-bus Inv-loop μ-loop
 add-bus c = search needs
 
--- src/draws.rt:107:5
 loop-less : tie.Need-loop-less Inv-loop μ-loop
 loop-less c = search needs
 
--- src/draws.rt:107:5
 loop-again : tie.Need-loop-again Inv-loop μ-loop
 loop-again c = search needs
 
--- src/draws.rt:104:1
 returns : tie.Need-returns Inv-loop μ-loop
 returns c = search needs
 

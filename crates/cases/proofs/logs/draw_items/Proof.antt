@@ -4,9 +4,6 @@ use lib.ListN.{length}
 use borrow.Author.Needs.{needs}
 use Rattle.cases.proofs.logs.draw_items.Statement.{statement}
 use Rattle.cases.proofs.logs.draw_items.Tie as tie
-use Rattle.cases.proofs.logs.draw_items.Reads as reads
-use Rattle.cases.proofs.logs.draw_items.Lts as lts
-use Rattle.cases.proofs.logs.draw_item_of.Reads as draw-item-of-reads
 
 abbrev Inv-loop : tie.InvT-loop
 Inv-loop seed₀ p log₀ items faults bit₀ n₀ seed log bit n = length log ≡ length log₀
@@ -14,31 +11,24 @@ Inv-loop seed₀ p log₀ items faults bit₀ n₀ seed log bit n = length log �
 abbrev μ-loop : tie.MeasureT-loop
 μ-loop seed₀ p log₀ items faults bit₀ n₀ seed log bit n = items - n
 
--- src/logs.rt:123:5
 loop-holds : tie.Need-loop-holds Inv-loop μ-loop
 loop-holds c = search needs
 
--- src/logs.rt:124:9
 draw-item-of-requires : tie.Need-draw-item-of-requires Inv-loop μ-loop
 draw-item-of-requires c κs = search needs
 
--- src/logs.rt:125:9
 add-n : tie.Need-add-n Inv-loop μ-loop
 add-n c = search needs
 
--- src/logs.rt:123:5
 loop-less : tie.Need-loop-less Inv-loop μ-loop
 loop-less c = search needs
 
--- src/logs.rt:123:5
 loop-again : tie.Need-loop-again Inv-loop μ-loop
 loop-again c = search needs
 
--- src/logs.rt:120:1
 same-length : tie.Need-same-length Inv-loop μ-loop
 same-length c = search needs
 
--- src/logs.rt:120:1
 returns : tie.Need-returns Inv-loop μ-loop
 returns c = search needs
 
