@@ -1,10 +1,10 @@
 // The calls: composing and both readings, each lent buffers that hold A5 and are digested afterwards.
 
-ghost use Prim.Native.Nat.{_<_, _≤_};
 use crate::digest::digest_of;
 use crate::runs::part;
 use format::Answer;
 
+// A plan by its numbers, as C lends them.
 pub(crate) struct Numbers {
     pub(crate) words: u32,
     pub(crate) tracks: u32,

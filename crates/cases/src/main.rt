@@ -1,6 +1,6 @@
 // Document 01's second program: every bench case that is not marked P, the list "Tempting and wrong", each refusal of each entry
-// point, and ten blocks of 200 pseudo-random cases. What it writes is what `independent/cases.c`, the same cases over the independent
-// implementation, writes; there stands what the lines say.
+// point, and ten blocks of 200 pseudo-random cases. `independent/cases.c`, the same cases over the independent implementation, must
+// write the same; what the lines mean is said there.
 
 mod calls;
 mod captures;
@@ -11,6 +11,7 @@ mod lines;
 mod logs;
 mod random;
 mod refusals;
+mod rooms;
 mod runs;
 mod tempting;
 

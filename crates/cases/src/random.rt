@@ -1,7 +1,6 @@
 // Ten blocks of 200 pseudo-random cases: composed and read back, composed and damaged, and noise. Every answer and every lent byte
 // goes into the block's digest.
 
-ghost use Prim.Native.Nat.{_<_, _≤_};
 use crate::calls::Numbers;
 use crate::calls::Outcome;
 use crate::calls::composing;
@@ -78,9 +77,7 @@ fn read_case(
 }
 
 // The number of times that an answer says is needed; with faults, now and then one more.
-fn times_needed(seed: &mut u64, asked: Outcome, faults: bool) -> u32
-    ensures { λ r. ⌜ r ≤ 120 ⌝ }
-{
+fn times_needed(seed: &mut u64, asked: Outcome, faults: bool) -> u32 {
     if asked.number == 5 {
         if asked.place < 120 {
             if faults {

@@ -24,9 +24,7 @@ pub(crate) fn part(bytes: &[u8], size: usize) -> usize
 }
 
 // What is left of a; none if b is more.
-pub(crate) fn less(a: usize, b: usize) -> usize
-    ensures { λ r. ⌜ r ≤ a ⌝ }
-{
+pub(crate) fn less(a: usize, b: usize) -> usize {
     if b < a {
         return a - b;
     }

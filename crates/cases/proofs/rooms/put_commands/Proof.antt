@@ -2,8 +2,8 @@ use Prim.Native.Nat.{_-_}
 use mathlib.Core.Path.{_≡_}
 use lib.ListN.{length}
 use borrow.Author.Needs.{needs}
-use Rattle.cases.proofs.refusals.put_commands.Statement.{statement}
-use Rattle.cases.proofs.refusals.put_commands.Tie as tie
+use Rattle.cases.proofs.rooms.put_commands.Statement.{statement}
+use Rattle.cases.proofs.rooms.put_commands.Tie as tie
 
 abbrev Inv-loop : tie.InvT-loop
 Inv-loop capture₀ commands end place₀ capture place = length capture ≡ length capture₀
