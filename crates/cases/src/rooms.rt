@@ -3,11 +3,11 @@
 use crate::calls::Numbers;
 use crate::calls::composing;
 use crate::calls::data_plan;
-use crate::items::put_data_words;
 use crate::lines::line_end;
 use crate::lines::name;
 use crate::lines::say_both_readings;
 use crate::lines::say_composing;
+use crate::log_items::put_data_words;
 use crate::runs::less;
 use crate::runs::put_time;
 use crate::runs::put_word;

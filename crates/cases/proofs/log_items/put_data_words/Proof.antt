@@ -2,8 +2,8 @@ use Prim.Native.Nat.{_-_}
 use mathlib.Core.Path.{_≡_}
 use lib.ListN.{length}
 use borrow.Author.Needs.{needs}
-use Rattle.cases.proofs.items.put_data_words.Statement.{statement}
-use Rattle.cases.proofs.items.put_data_words.Tie as tie
+use Rattle.cases.proofs.log_items.put_data_words.Statement.{statement}
+use Rattle.cases.proofs.log_items.put_data_words.Tie as tie
 
 abbrev Inv-loop : tie.InvT-loop
 Inv-loop log₀ items bit₀ n₀ log bit n = length log ≡ length log₀
