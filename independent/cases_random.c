@@ -104,7 +104,7 @@ static uint32_t draw_below_10000(uint32_t faults)
 static uint32_t draw_item(uint32_t bit, uint32_t bus, uint32_t bus_kind, uint32_t faults)
 {
     static const uint32_t kinds[2][8] = {{1, 1, 2, 2, 3, 4, 7, 8}, {5, 5, 5, 5, 6, 6, 7, 8}};
-    uint32_t kind, b = draw(2), flag = draw(2), word = draw(65536), other = draw(65536), limited = draw_below_10000(faults);
+    uint32_t kind, b = draw(4), flag = draw(2), word = draw(65536), other = draw(65536), limited = draw_below_10000(faults);
     kind = kinds[bus_kind == 2 ? 1 : 0][draw(8)];
     if (faults == 1 && one_in(100))
         kind = draw(16);
@@ -117,39 +117,41 @@ static uint32_t draw_item(uint32_t bit, uint32_t bus, uint32_t bus_kind, uint32_
     if (kind == 3 || kind == 4 || kind == 7)
         return put_data(bit, kind, bus, b, word);
     if (kind == 5)
-        return put_arinc(bit, bus, 2 * b + other % 2, flag, (uint64_t)word * 65536 + other, limited);
+        return put_arinc(bit, bus, b, flag, (uint64_t)word * 65536 + other, limited);
     if (kind == 6)
-        return put_notice(bit, bus, 2 * b + flag, word % 256);
+        return put_notice(bit, bus, b, word);
     if (kind == 8)
         return put_overflow(bit, bus, word);
     return put(bit, 4, kind);
 }
 
-/* A log of up to 60, or of up to 600 items; returns its length in bytes. */
+/* A byte less, a byte more, or a byte changed. */
+static uint32_t spoil_log(uint32_t length)
+{
+    uint32_t what = draw(3), at = draw(length), byte = draw(256);
+    if (what == 0)
+        return length - 1;
+    if (what == 1) {
+        log_in[length] = 0;
+        return length + 1;
+    }
+    log_in[at] = (uint8_t)byte;
+    return length;
+}
+
+/* A log of up to 60 items, or of up to 600, or of none; returns its length in bytes. */
 static uint32_t draw_log(plan_numbers p, uint32_t faults)
 {
-    uint32_t items = draw(60), bit = 0, length;
-    if (one_in(16))
-        items = draw(600);
-    if (one_in(16))
-        items = 0;
+    uint32_t few = draw(60), many = draw(600), shape = draw(16), bit = 0, length;
+    uint32_t items = shape == 0 ? many : shape == 1 ? 0 : few;
     for (uint32_t n = 0; n < items; n++) {
         uint32_t bus = draw_bus(p);
         if (bus < 16)
             bit = draw_item(bit, bus, p.kinds[bus], faults);
     }
     length = put_end(bit);
-    if (faults == 1 && one_in(4)) { /* a byte less, a byte more, or a byte changed */
-        uint32_t what = draw(3), byte = draw(length);
-        if (what == 0)
-            length = length - 1;
-        if (what == 1) {
-            put(8 * length, 8, 0);
-            length = length + 1;
-        }
-        if (what == 2)
-            log_in[byte] = (uint8_t)draw(256);
-    }
+    if (faults == 1 && one_in(4))
+        length = spoil_log(length);
     return length;
 }
 
@@ -157,9 +159,10 @@ static void draw_times(uint32_t times, uint32_t faults)
 {
     for (uint32_t n = 0; n < times; n++) {
         uint64_t high = draw(65536), low = draw(65536), micro = draw(10000);
-        put_time(n, 10000 * (65536 * high + low) + micro);
         if (faults == 1 && one_in(20))
-            put_time(n, 42949672950000 + draw(20000));
+            put_time(n, 42949672950000 + 2 * micro); /* about the limit */
+        else
+            put_time(n, 10000 * (65536 * high + low) + micro);
     }
 }
 
@@ -187,40 +190,51 @@ static uint32_t draw_word(plan_numbers p)
     return p.parity == 1 ? odd_parity(bits) : bits;
 }
 
-/* One to three changes: a word drawn, noise, fill, a bit turned, two words made alike, or the label of track 1's second word. */
-static void damage(plan_numbers p, uint32_t length)
+/* A word drawn, noise, fill, a bit turned, two words made alike, or the label of track 1's second word. */
+static void damage_once(plan_numbers p, uint32_t length)
 {
-    uint32_t words = length / 3, times = 1 + draw(3);
-    for (uint32_t n = 0; n < times; n++) {
-        uint32_t what = draw(6), place = draw(words), byte = draw(length), turned = draw(8), from = draw(words);
-        uint32_t top = draw(65536), bottom = draw(256);
-        if (what == 0)
-            word(place, draw_word(p));
-        if (what == 1)
-            word(place, top * 256 + bottom);
-        if (what == 2)
-            word(place, 0x01AAAA);
-        if (what == 3)
-            capture[byte] = (uint8_t)(capture[byte] ^ (1u << turned));
-        if (what == 4)
-            for (uint32_t i = 0; i < 3; i++)
-                capture[3 * place + i] = capture[3 * from + i];
-        if (what == 5)
-            capture[3] = capture[3] ^ 3;
-    }
+    uint32_t what = draw(6), place = draw(length / 3), from = draw(length / 3), byte = draw(length), turned = draw(8);
+    uint32_t noise = draw(16777216), drawn = draw_word(p);
+    if (what == 0)
+        word(place, drawn);
+    if (what == 1)
+        word(place, noise);
+    if (what == 2)
+        word(place, 0x01AAAA);
+    if (what == 3)
+        capture[byte] = (uint8_t)(capture[byte] ^ (1u << turned));
+    if (what == 4)
+        for (uint32_t n = 0; n < 3; n++)
+            capture[3 * place + n] = capture[3 * from + n];
+    if (what == 5)
+        capture[3] = capture[3] ^ 3;
 }
 
-/* Syncs, a few drawn words in front of each frame, and fill: for a plan without frame time and CRC. */
+static void damage(plan_numbers p, uint32_t length)
+{
+    uint32_t times = 1 + draw(3);
+    for (uint32_t n = 0; n < times; n++)
+        damage_once(p, length);
+}
+
+/* A group from a place on: each frame a sync, three drawn words, and fill. Returns the place behind it. */
+static uint32_t noise_group(plan_numbers p, uint32_t place)
+{
+    for (uint32_t track = 0; track < p.tracks; track++)
+        for (uint32_t n = 0; n < p.words; n++) {
+            word(place, n == 0 ? 0xFAF320 : n < 4 ? draw_word(p) : 0x01AAAA);
+            place = place + 1;
+        }
+    return place;
+}
+
+/* One or two groups of a plan without frame time and CRC; returns their length in bytes. */
 static uint32_t noise(plan_numbers p)
 {
-    uint32_t groups = 1 + draw(2), length = 0;
-    for (uint32_t group = 0; group < groups; group++) {
-        length = length + group_of_fill(p, group);
-        for (uint32_t track = 0; track < p.tracks; track++)
-            for (uint32_t n = 1; n < 4; n++)
-                word((group * p.tracks + track) * p.words + n, draw_word(p));
-    }
-    return length;
+    uint32_t words = noise_group(p, 0);
+    if (one_in(2))
+        return 3 * words;
+    return 3 * noise_group(p, words);
 }
 
 /* ==== A case ==== */
@@ -232,48 +246,73 @@ static uint64_t fold_result(uint64_t digest, result r)
     return fold(fold(digest, r.first), r.second);
 }
 
+/* A byte less now and then, where faults are asked for. */
+static uint32_t draw_less(uint32_t size, uint32_t faults)
+{
+    if (faults == 1 && size > 0 && one_in(8))
+        return size - 1;
+    return size;
+}
+
+/* What an answer says is needed, and up to two bytes more. */
+static uint32_t draw_room(ind_answer asked, uint32_t otherwise)
+{
+    uint32_t more = draw(3);
+    if (asked.number == 6 && asked.place < 32767)
+        return (uint32_t)asked.place + more;
+    return otherwise;
+}
+
+/* Room for enough times; with faults, now and then for up to nine. */
+static uint32_t draw_times_room(uint32_t faults)
+{
+    if (faults == 1 && one_in(2))
+        return 8 * draw(10);
+    return 1000 + draw(8);
+}
+
 /* Both readings: first with no room, to learn the log's length, then with room a little off now and then. */
 static uint64_t read_case(uint64_t digest, plan_numbers p, uint32_t length, uint32_t faults)
 {
-    result asked;
-    uint32_t log_len = 40, times_len = 8 * draw(10);
-    if (faults == 1 && length > 0 && one_in(16))
-        length = length - 1;
-    asked = reading(0, p, length, 0, 0);
-    if (asked.answer.number == 6 && asked.answer.place < LOG_ROOM)
-        log_len = (uint32_t)asked.answer.place + draw(3);
-    if (faults == 1 && one_in(4))
-        log_len = log_len - 1;
-    if (faults == 0 || one_in(2))
-        times_len = 1000 + draw(8);
+    uint32_t size = draw_less(length, faults), log_len, times_len;
+    result asked = reading(0, p, size, 0, 0);
+    log_len = draw_room(asked.answer, 40);
+    log_len = draw_less(log_len, faults);
+    times_len = draw_times_room(faults);
     digest = fold_result(digest, asked);
-    digest = fold_result(digest, reading(0, p, length, log_len, times_len));
-    return fold_result(digest, reading(1, p, length, log_len, times_len));
+    digest = fold_result(digest, reading(0, p, size, log_len, times_len));
+    return fold_result(digest, reading(1, p, size, log_len, times_len));
+}
+
+/* The number of times that an answer says is needed; with faults, now and then one more. */
+static uint32_t times_needed(ind_answer asked, uint32_t faults)
+{
+    if (asked.number != 5 || asked.place >= 120)
+        return 0;
+    if (faults == 1 && one_in(8))
+        return (uint32_t)asked.place + 1;
+    return (uint32_t)asked.place;
 }
 
 /* Composing: first with no times, to learn how many, then with no room, to learn how much. Then reading what was composed. */
 static uint64_t compose_case(uint64_t digest, plan_numbers p, uint32_t faults)
 {
-    uint32_t log_len = draw_log(p, faults), times = 0, out_len = 0;
+    uint32_t log_len = draw_log(p, faults), times, out_len, length;
     result asked = composing(p, log_len, 0, 0);
     digest = fold_result(digest, asked);
-    if (asked.answer.number == 5 && asked.answer.place <= 120)
-        times = (uint32_t)asked.answer.place;
+    times = times_needed(asked.answer, faults);
     draw_times(times, faults);
-    if (faults == 1 && one_in(8))
-        times = times + 1;
     asked = composing(p, log_len, 8 * times, 0);
     digest = fold_result(digest, asked);
-    if (asked.answer.number == 6 && asked.answer.place <= CAPTURE_ROOM - 2)
-        out_len = (uint32_t)asked.answer.place + draw(3);
-    if (faults == 1 && out_len > 0 && one_in(8))
-        out_len = out_len - 1;
+    out_len = draw_room(asked.answer, 0);
+    out_len = draw_less(out_len, faults);
     asked = composing(p, log_len, 8 * times, out_len);
     digest = fold_result(digest, asked);
-    take_composed((uint32_t)asked.answer.bytes);
-    if (faults == 1 && asked.answer.bytes > 0)
-        damage(p, (uint32_t)asked.answer.bytes);
-    return read_case(digest, p, (uint32_t)asked.answer.bytes, faults);
+    length = (uint32_t)asked.answer.bytes;
+    take_composed(length);
+    if (faults == 1 && length > 0)
+        damage(p, length);
+    return read_case(digest, p, length, faults);
 }
 
 static uint64_t random_case(uint64_t digest)
@@ -287,7 +326,7 @@ static uint64_t random_case(uint64_t digest)
     }
     if (what < 4)
         return compose_case(digest, p, 0);
-    if (one_in(8))
+    if (what == 4)
         p = spoil_plan(p);
     return compose_case(digest, p, 1);
 }
