@@ -66,23 +66,6 @@ fn eight_at(s: &[u8], i: usize) -> u64
     )
 }
 
-// The bits from `at` on, highest first, as far as eight bytes hold them: 57 bits or more.
-pub fn window(s: &[u8], at: usize) -> u64
-    requires { ⌜ at ≤ 34359738368 ⌝ }
-    ensures { λ r. ⌜ Window (bytesBits (now (s .entry))) at r ⌝ }
-{
-    eight_at(s, at / 8) << (at % 8) as u32
-}
-
-// The bits up to `end`, lowest last: 57 bits or more.
-pub fn ending(s: &[u8], end: usize) -> u64
-    requires { ⌜ (64 ≤ end) × (end ≤ length (now s) * 8) × (length (now s) ≤ 4294967296) ⌝ }
-    ensures { λ r. ⌜ Ending (bytesBits (now (s .entry))) end r ⌝ }
-{
-    let last = (end + 7) / 8;
-    eight_in(s, last - 8) >> (8 * last - end) as u32
-}
-
 // w with the n bits above its r lowest replaced by v.
 fn renew(w: u64, v: u64, n: u32, r: u32) -> u64
     requires { ⌜ (1 ≤ n) × (n + r ≤ 64) × (r ≤ 63) × (n ≤ 57) × (v < 2 ^ n) ⌝ }
@@ -117,6 +100,25 @@ fn put_eight(s: &mut [u8], i: usize, w: u64)
 }
 
 impl Cursor {
+    // The bits from here on, highest first, as far as eight bytes hold them: 57 bits or more.
+    pub fn window(self, log: &[u8]) -> u64
+        requires { ⌜ self .at ≤ 34359738368 ⌝ }
+        ensures { λ r. ⌜ Window (bytesBits (now (log .entry))) (self .at) r ⌝ }
+    {
+        let at = self.at;
+        eight_at(log, at / 8) << (at % 8) as u32
+    }
+
+    // The bits up to here, lowest last: 57 bits or more.
+    pub fn ending(self, log: &[u8]) -> u64
+        requires { ⌜ (64 ≤ self .at) × (self .at ≤ length (now log) * 8) × (length (now log) ≤ 4294967296) ⌝ }
+        ensures { λ r. ⌜ Ending (bytesBits (now (log .entry))) (self .at) r ⌝ }
+    {
+        let end = self.at;
+        let last = (end + 7) / 8;
+        eight_in(log, last - 8) >> (8 * last - end) as u32
+    }
+
     // The field of `width` bits here and the cursor behind it; cut if the log ends before that.
     pub fn take(self, log: &[u8], width: u32) -> Took
         requires { ⌜ (1 ≤ width) × (width ≤ 57) × (length (now log) ≤ 4294967296) ⌝ }
@@ -131,7 +133,7 @@ impl Cursor {
             return Took::Cut;
         }
         Took::Field {
-            value: window(log, at) >> (64 - width),
+            value: self.window(log) >> (64 - width),
             next: Cursor {
                 at: at + width as usize,
             },

@@ -8,7 +8,6 @@ ghost use Rattle.houselog.specs.Found.{foundOf, timeAt};
 ghost use Rattle.houselog.specs.Cursor.{Window};
 use crate::Cursor;
 use crate::Found;
-use crate::fields::window;
 use format::Item;
 use format::Response;
 use format::Tag;
@@ -26,7 +25,7 @@ fn time_at(log: &[u8], at: usize) -> Time
     requires { ⌜ (at + 46 ≤ length (now log) * 8) × (length (now log) ≤ 4294967296) ⌝ }
     ensures { λ r. ⌜ r ≡ timeAt (bytesBits (now (log .entry))) at ⌝ }
 {
-    let w = window(log, at);
+    let w = Cursor { at }.window(log);
     Time {
         high: (w / 281474976710656) as u16,
         low: (w / 4294967296 % 65536) as u16,
@@ -278,7 +277,7 @@ impl Cursor {
         if left < 4 {
             return Found::Wrong;
         }
-        let w = window(log, at);
+        let w = self.window(log);
         let kind = w >> 60;
         match kind {
             0 => end_mark(log, at, left, w),

@@ -4,8 +4,6 @@ mod fields;
 mod item;
 mod whole;
 
-pub use fields::ending;
-pub use fields::window;
 use format::Item;
 pub use whole::parse;
 

@@ -13,7 +13,7 @@ ghost use Rattle.format.specs.declared.Kind.{Kind};
 ghost use Rattle.houselog.specs.Cursor.{Window};
 ghost use Rattle.itemwords.specs.Laid.{Ended, Lays, Puts, Tags, faulty, isArinc, isMil};
 use format::Kind;
-use houselog::ending;
+use houselog::Cursor;
 use word;
 
 // An item laid: number 0 and the places behind it, in the log and in the row; or its fault's number.
@@ -119,7 +119,7 @@ fn lay_tag(words: &mut [u32], log: &[u8], bus: u32, at: usize, count: usize) -> 
     requires { ⌜ (bus < 16) × (count + 3 ≤ length (now words)) × (26 ≤ at) × (at + 46 ≤ length (now log) * 8) × (length (now log) ≤ 32768) ⌝ }
     ensures { λ r. ⌜ Tags (bytesBits (now (log .entry))) bus at count (now (words .entry)) (now (words .exit)) r ⌝ }
 {
-    let w = ending(log, at + 46);
+    let w = Cursor { at: at + 46 }.ending(log);
     let micro = (w % 16384) as u32;
     if micro < 10000 {
         let high = lay_one(

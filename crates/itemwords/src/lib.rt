@@ -9,8 +9,8 @@ ghost use Rattle.itemwords.specs.Words.{wordsFrom};
 use crate::item::lay_item;
 use crate::item::mark_number;
 use format::Kind;
+use houselog::Cursor;
 use houselog::Tally;
-use houselog::window;
 
 mod item;
 
@@ -21,22 +21,25 @@ pub fn lay(kinds: [Kind; 16], log: &[u8], words: &mut [u32]) -> Tally
         × ((n w : ℕ) → r ≡ Items n w → take w (now (words .exit)) ≡ wordsFrom (now (log .entry)) 0) ⌝ }
 {
     let total = log.len() * 8;
-    let mut at: usize = 0;
+    let mut at = Cursor { at: 0 };
     let mut items: usize = 0;
     let mut count: usize = 0;
     loop {
-        let left = total - at;
+        let left = total - at.at;
         if left < 4 {
             return Tally::Fault {
                 number: 2,
-                place: at,
+                place: at.at,
             };
         }
-        let w = window(log, at);
+        let w = at.window(log);
         if w >> 60 == 0 {
-            let number = mark_number(log, at, left, w);
+            let number = mark_number(log, at.at, left, w);
             if number != 0 {
-                return Tally::Fault { number, place: at };
+                return Tally::Fault {
+                    number,
+                    place: at.at,
+                };
             }
             return Tally::Items {
                 items,
@@ -47,7 +50,7 @@ pub fn lay(kinds: [Kind; 16], log: &[u8], words: &mut [u32]) -> Tally
             words,
             log,
             kinds[(w / 72057594037927936 % 16) as usize],
-            at,
+            at.at,
             left,
             count,
             w,
@@ -55,10 +58,10 @@ pub fn lay(kinds: [Kind; 16], log: &[u8], words: &mut [u32]) -> Tally
         if laid.number != 0 {
             return Tally::Fault {
                 number: laid.number as u32,
-                place: at,
+                place: at.at,
             };
         }
-        at = laid.at;
+        at = Cursor { at: laid.at };
         count = laid.count;
         items += 1;
     }

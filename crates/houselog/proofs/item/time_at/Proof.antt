@@ -1,7 +1,7 @@
-use lib.ListN.{length}
-use Prim.Native.Nat.{_*_, _-_}
-use native.Mathlib.Omega.{arith}
 use Rattle.houselog.proofs.Items.{time-whole}
+use native.Mathlib.Omega.{arith}
+use Prim.Native.Nat.{_*_, _-_}
+use lib.ListN.{length}
 use borrow.Author.Needs.{needs}
 use Rattle.houselog.proofs.item.time_at.Statement.{statement}
 use Rattle.houselog.proofs.item.time_at.Tie as tie
@@ -9,14 +9,14 @@ use Rattle.houselog.proofs.item.time_at.Tie as tie
 window-requires : tie.Need-window-requires
 window-requires c κs = search needs
 
-cast-t5 : tie.Need-cast-t5
-cast-t5 c = search needs
+cast-t6 : tie.Need-cast-t6
+cast-t6 c = search needs
 
-cast-t8 : tie.Need-cast-t8
-cast-t8 c = search needs
+cast-t9 : tie.Need-cast-t9
+cast-t9 c = search needs
 
-cast-t11 : tie.Need-cast-t11
-cast-t11 c = search needs
+cast-t12 : tie.Need-cast-t12
+cast-t12 c = search needs
 
 returns : tie.Need-returns
 returns c =
@@ -25,4 +25,4 @@ returns c =
     rw (time-whole (a .log .now) (a .at) n (c .window .result) (c .window .ensures) (omega arith) (omega arith) (omega arith))
 
 pub time-at-spec : {M : Type 1} → statement M
-time-at-spec = tie.close (tie.spec window-requires cast-t5 cast-t8 cast-t11 returns)
+time-at-spec = tie.close (tie.spec window-requires cast-t6 cast-t9 cast-t12 returns)

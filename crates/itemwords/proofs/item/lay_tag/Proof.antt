@@ -10,8 +10,8 @@ use borrow.Author.Needs.{needs}
 use Rattle.itemwords.proofs.item.lay_tag.Statement.{statement}
 use Rattle.itemwords.proofs.item.lay_tag.Tie as tie
 
-add-ending : tie.Need-add-ending
-add-ending c = search needs
+add-t10 : tie.Need-add-t10
+add-t10 c = search needs
 
 ending-requires : tie.Need-ending-requires
 ending-requires c κs = search needs
@@ -67,7 +67,7 @@ pub lay-tag-spec : {M : Type 1} → statement M
 lay-tag-spec =
     tie.close
     (tie.spec
-    add-ending
+    add-t10
     ending-requires
     cast-micro
     cast-join

@@ -1,7 +1,7 @@
 use Rattle.houselog.proofs.Eight.{window-is}
 use borrow.Author.Needs.{needs}
-use Rattle.houselog.proofs.fields.window.Statement.{statement}
-use Rattle.houselog.proofs.fields.window.Tie as tie
+use Rattle.houselog.proofs.Cursor.window.Statement.{statement}
+use Rattle.houselog.proofs.Cursor.window.Tie as tie
 
 eight-at-requires : tie.Need-eight-at-requires
 eight-at-requires c κs = search needs
@@ -16,7 +16,7 @@ shl-result : tie.Need-shl-result
 shl-result c = search needs
 
 returns : tie.Need-returns
-returns c = window-is (c .before .before .args .s .now) (c .before .before .args .at) (c .eight-at .result) (c .eight-at .ensures)
+returns c = window-is (c .before .before .args .log .now) (c .before .before .args .self .at) (c .eight-at .result) (c .eight-at .ensures)
 
 pub window-spec : {M : Type 1} → statement M
 window-spec = tie.close (tie.spec eight-at-requires cast-result cast-result-2 shl-result returns)

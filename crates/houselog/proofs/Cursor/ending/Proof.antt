@@ -1,7 +1,7 @@
 use Rattle.houselog.proofs.Eight.{ending-is}
 use borrow.Author.Needs.{needs}
-use Rattle.houselog.proofs.fields.ending.Statement.{statement}
-use Rattle.houselog.proofs.fields.ending.Tie as tie
+use Rattle.houselog.proofs.Cursor.ending.Statement.{statement}
+use Rattle.houselog.proofs.Cursor.ending.Tie as tie
 
 add-last : tie.Need-add-last
 add-last c = search needs
@@ -28,7 +28,7 @@ shr-result : tie.Need-shr-result
 shr-result c = search needs
 
 returns : tie.Need-returns
-returns c = ending-is (c .before .before .args .s .now) (c .before .before .args .end) (c .eight-in .result) (c .before .before .pre .0) (c .before .before .pre .1) (c .eight-in .ensures)
+returns c = ending-is (c .before .before .args .log .now) (c .before .before .args .self .at) (c .eight-in .result) (c .before .before .pre .0) (c .before .before .pre .1) (c .eight-in .ensures)
 
 pub ending-spec : {M : Type 1} → statement M
 ending-spec =
