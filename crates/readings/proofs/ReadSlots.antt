@@ -27,7 +27,7 @@ use Rattle.reader.specs.Holding.{heldOf, Sane}
 use Rattle.readings.specs.declared.reading.Pass.{Pass}
 use Rattle.readings.specs.declared.reading.Fills.{Fills}
 use Rattle.readings.specs.ReadFills.{fillsIn}
-use Rattle.readings.specs.ReadWriter.{Wrote}
+use Rattle.pen.specs.Pen.{Wrote}
 use Rattle.readings.specs.ReadPass.{slotPass, slotOut, Sound, Brought, RanTo, Along}
 use Rattle.readings.proofs.ReadPass.{along-step, along-stop}
 
@@ -135,7 +135,7 @@ module _ (ks : List Kind) (p : Plan) (c : List ℕ) (g : ℕ) (x₀ : Pass) (out
     items = [];
     is = ap (λ (l : List Slot). run ks (p .parity) l (heldOf (x₀ .held)) (x₀ .since)) (slots-all p c g) ∙ sym (more-none (run ks (p .parity) (slotsOn p c g 0) (heldOf (x₀ .held)) (x₀ .since)));
     fill = ap (λ (l : List Slot). fillsIn p 0 l (x₀ .fills)) (slots-all p c g);
-    brought = record { sound = s; long = refl; wrote = λ bits y. subst (λ (l : List ℕ). Wrote l out₀ (x₀ .writer)) (sym (append-nil bits)) y };
+    brought = record { sound = s; long = refl; wrote = λ bits y. subst (λ (l : List ℕ). Wrote l out₀ (x₀ .pen)) (sym (append-nil bits)) y };
     few = omega arith;
   }
 
@@ -150,14 +150,14 @@ module _ (ks : List Kind) (p : Plan) (c : List ℕ) (g : ℕ) (x₀ : Pass) (out
   here-low : (i : ℕ) {place word : ℕ} → place ≡ g + placeOf p (lead p + i) → word ≡ wordAt c place → word < 2 ^ 24 → wordAt c (g + placeOf p (lead p + i)) < 2 ^ 24
   here-low i e w low = rw (w, e) at low
 
-  pub passed-more : (i : ℕ) {x r : Pass} {out out′ : List ℕ} {place word : ℕ} → i < slots p → length out₀ % 4 ≡ 0 → Passed i x out
+  pub passed-more : (i : ℕ) {x r : Pass} {out out′ : List ℕ} {place word : ℕ} → i < slots p → Passed i x out
       → place ≡ g + placeOf p (lead p + i) → word ≡ wordAt c place → word < 2 ^ 24
       → r ≡ slotPass ks (p .parity) i place word x → out′ ≡ slotOut ks (p .parity) word x out → r .bad ≡ false → Passed (i + 1) r out′
-  passed-more i {x} {r} {out} {out′} {place} {word} h l a e w low er eo z =
+  passed-more i {x} {r} {out} {out′} {place} {word} h a e w low er eo z =
       let q = here i x e w er in
       let o : out′ ≡ slotOut ks (p .parity) (wordAt c (g + placeOf p (lead p + i))) x out = eo ∙ rw (w, e) refl in
       rw (q, o)
-      (along-step ks p (groupSlots p c g) x₀ out₀ i (slot p c g (lead p + i)) (slotsOn p c g (i + 1)) x out (here-low i e w low) l (next i h a) (rw q at z))
+      (along-step ks p (groupSlots p c g) x₀ out₀ i (slot p c g (lead p + i)) (slotsOn p c g (i + 1)) x out (here-low i e w low) (next i h a) (rw q at z))
 
   pub passed-bad : (i : ℕ) {x r : Pass} {out : List ℕ} (out′ : List ℕ) {place word : ℕ} (f : Fills) → i < slots p → Passed i x out
       → place ≡ g + placeOf p (lead p + i) → word ≡ wordAt c place → word < 2 ^ 24

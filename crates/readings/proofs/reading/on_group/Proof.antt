@@ -36,7 +36,7 @@ placed c = place-is _ _ (c .before .before .loop .inv .1) (c .place-at .ensures)
 room : (c : tie.After-place-at Inv-loop μ-loop) → 3 * (c .before .before .before .before .before .before .args .group + c .place-at .result) + 3 ≤ length (c .before .before .before .before .before .before .args .capture .now)
 room c = omega (arith, placed c, slot-place _ _ (c .before .before .before .before .before .before .pre .0 .2) (inside (c .before)), c .before .before .before .before .before .before .pre .1 .0)
 
-few : (c : tie.In-loop Inv-loop μ-loop) → c .before .loop .pass .writer .at + 16 ≤ 16 * (c .before .before .before .before .before .args .group + groupWords (c .before .before .before .before .before .args .plan))
+few : (c : tie.In-loop Inv-loop μ-loop) → c .before .loop .pass .pen .bits + 16 ≤ 128 * (c .before .before .before .before .before .args .group + groupWords (c .before .before .before .before .before .args .plan))
 few c = omega (arith, inside c, slots-few _ (c .before .before .before .before .before .pre .0 .2), c .before .loop .inv .2 .few, c .before .before .before .before .before .pre .0 .1)
 
 first-slot-requires : tie.Need-first-slot-requires Inv-loop μ-loop
@@ -88,7 +88,7 @@ loop-less c = search needs
 
 -- src/read.rt:168:5
 loop-again : tie.Need-loop-again Inv-loop μ-loop
-loop-again c = (omega arith, next-is _ _ (c .before .before .before .before .before .before .before .before .before .loop .inv .1) (c .next-slot .ensures), passed-more (c .before .before .before .before .before .before .before .before .before .before .before .before .before .args .kinds) (c .before .before .before .before .before .before .before .before .before .before .before .before .before .args .plan) (c .before .before .before .before .before .before .before .before .before .before .before .before .before .args .capture .now) (c .before .before .before .before .before .before .before .before .before .before .before .before .before .args .group) (c .before .before .before .before .before .before .before .before .before .before .before .before .before .args .pass) (c .before .before .before .before .before .before .before .before .before .before .before .before .before .args .out .now) (c .before .before .before .before .before .before .before .before .before .loop .i) (inside (c .before .before .before .before .before .before .before .before)) (c .before .before .before .before .before .before .before .before .before .before .before .before .before .pre .1 .2) (c .before .before .before .before .before .before .before .before .before .loop .inv .2) (ap (λ (x : ℕ). c .before .before .before .before .before .before .before .before .before .before .before .before .before .args .group + x) (placed (c .before .before .before .before .before .before .before))) (word-is (c .before .before .before .before .before .before .before .before .before .before .before .before .before .args .capture .now) (c .before .before .before .before .before .before .before .before .before .before .before .before .before .args .group + c .before .before .before .before .before .before .before .place-at .result) (c .before .before .before .before .before .before .word-at .ensures .0)) (c .before .before .before .before .before .before .word-at .ensures .1) (c .before .before .before .before .on-slot .ensures .0) (c .before .before .before .before .on-slot .ensures .1) (c .before .if1 .left))
+loop-again c = (omega arith, next-is _ _ (c .before .before .before .before .before .before .before .before .before .loop .inv .1) (c .next-slot .ensures), passed-more (c .before .before .before .before .before .before .before .before .before .before .before .before .before .args .kinds) (c .before .before .before .before .before .before .before .before .before .before .before .before .before .args .plan) (c .before .before .before .before .before .before .before .before .before .before .before .before .before .args .capture .now) (c .before .before .before .before .before .before .before .before .before .before .before .before .before .args .group) (c .before .before .before .before .before .before .before .before .before .before .before .before .before .args .pass) (c .before .before .before .before .before .before .before .before .before .before .before .before .before .args .out .now) (c .before .before .before .before .before .before .before .before .before .loop .i) (inside (c .before .before .before .before .before .before .before .before)) (c .before .before .before .before .before .before .before .before .before .loop .inv .2) (ap (λ (x : ℕ). c .before .before .before .before .before .before .before .before .before .before .before .before .before .args .group + x) (placed (c .before .before .before .before .before .before .before))) (word-is (c .before .before .before .before .before .before .before .before .before .before .before .before .before .args .capture .now) (c .before .before .before .before .before .before .before .before .before .before .before .before .before .args .group + c .before .before .before .before .before .before .before .place-at .result) (c .before .before .before .before .before .before .word-at .ensures .0)) (c .before .before .before .before .before .before .word-at .ensures .1) (c .before .before .before .before .on-slot .ensures .0) (c .before .before .before .before .on-slot .ensures .1) (c .before .if1 .left))
 
 -- src/read.rt:159:1
 same-length-2 : tie.Need-same-length-2 Inv-loop μ-loop
