@@ -21,6 +21,8 @@ use Rattle.reader.specs.Holding.{heldOf, Sane}
 use Rattle.reader.specs.Step.{stepOf}
 use Rattle.reader.specs.Meaning.{Means, Brings}
 use Rattle.reader.proofs.Meaning.{feed-means}
+use Rattle.taking.proofs.Items.{more-more}
+use Rattle.taking.proofs.Slots.{bus-low, label-low, info-low}
 use Rattle.readings.specs.declared.reading.Fills.{Fills}
 use Rattle.pen.specs.declared.Pen.{Pen}
 use Rattle.readings.specs.declared.reading.Pass.{Pass}
@@ -29,25 +31,6 @@ use Rattle.pen.specs.Pen.{penPut, penIn, Wrote}
 use Rattle.pen.proofs.Writing.{put-bits, put-long, wrote-more}
 use Rattle.readings.specs.ReadPass.{Strings, fillPass, stepPen, stepOut, stepPass, wordStep, slotPass, slotOut, Sound, Brought, RanTo, Along}
 use Rattle.readings.proofs.ReadFills.{yes-or-no}
-
-pub more-more : (is js : List Item) (r : Ran) → more is (more js r) ≡ more (is ++ js) r
-more-more is js (badAt p) = refl
-more-more is js (ran ks h p) = ap (λ (l : List Item). ran l h p) (sym (append-assoc is js ks))
-
--- ---- a word's fields
-
-pub bus-low : (parity : Bool) (w : ℕ) → w < 2 ^ 24 → busOf parity w < 16
-unfolding busOf
-bus-low true w h = omega arith
-bus-low false w h = omega arith
-
-pub label-low : (w : ℕ) → labelOf w < 16
-unfolding labelOf
-label-low w = omega arith
-
-pub info-low : (w : ℕ) → infoOf w < 65536
-unfolding infoOf
-info-low w = omega arith
 
 -- ---- a step's two strings in the log
 

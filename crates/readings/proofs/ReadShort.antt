@@ -28,7 +28,7 @@ use Rattle.format.specs.Laws.Accepted.Faultless.{accepted-parts}
 use Rattle.group.specs.Shape.{Shape}
 use Rattle.readings.specs.ReadGiven.{Enough}
 use Rattle.readings.proofs.ReadFills.{yes-or-no}
-use Rattle.readings.proofs.ReadSlots.{slots-few}
+use Rattle.taking.proofs.Slots.{slots-few}
 use Rattle.readings.proofs.ReadGiven.{whole-groups}
 
 item-short : (i : Item) → length (itemBits i) ≤ 26 * length (itemParts i)

@@ -15,6 +15,10 @@ use Rattle.format.specs.declared.Plan.{Plan}
 use Rattle.reader.specs.declared.Step.{Step}
 use Rattle.reader.specs.Holding.{heldOf, Sane}
 use Rattle.reader.specs.Step.{stepOf}
+use Rattle.format.specs.Plan.{slots}
+use Rattle.group.specs.declared.reading.Position.{Position}
+use Rattle.taking.specs.declared.Taken.{Taken}
+use Rattle.taking.specs.Taken.{Took}
 use Rattle.readings.specs.declared.reading.Fills.{Fills}
 use Rattle.pen.specs.declared.Pen.{Pen}
 use Rattle.readings.specs.declared.reading.Pass.{Pass}
@@ -63,6 +67,18 @@ slotPass ks parity i place word x = cond (isFill word) (fillPass parity i place 
 unfoldable pub slotOut : List Kind → Bool → ℕ → Pass → List ℕ → List ℕ
 slotOut ks parity word x out =
     cond (isFill word) out (passOut out x (wordStep ks parity word x))
+
+-- items that were taken whole, nothing being held
+abbrev pub takenFrom : Pass → ℕ → Position → Taken
+takenFrom x i at = record { slot = i; at = at; last = x .since; pen = x .pen }
+
+abbrev pub itemsPass : Pass → Taken → Pass
+itemsPass x t = record { held = x .held; since = t .last; pen = t .pen; fills = onData (x .fills); bad = false }
+
+pub record FromPass (ks : List Kind) (p : Plan) (c : List ℕ) (g : ℕ) (x : Pass) (i : ℕ) (at : Position) (out : List ℕ) (t : Taken) (out′ : List ℕ) : Type 0 where
+  pub some : i < t .slot → (x .held .awaits ≡ 0) × Took ks p c g (takenFrom x i at) out t out′
+  pub none : t .slot ≤ i → out′ ≡ out
+  pub room : t .slot ≤ slots p
 
 -- what is carried can go on
 pub record Sound (x : Pass) : Type 0 where

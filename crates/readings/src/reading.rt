@@ -11,24 +11,27 @@ ghost use Rattle.format.specs.Plan.{groupWords, slots};
 ghost use Rattle.format.specs.Group.{groupSlots, groupTime};
 ghost use Rattle.format.specs.Reader.{run};
 ghost use Rattle.group.specs.Shape.{Shape};
+ghost use Rattle.taking.specs.Slots.{Ahead};
 ghost use Rattle.reader.specs.Holding.{heldOf, Sane};
 ghost use Rattle.crc.specs.Running.{entries};
 ghost use Rattle.format.specs.Read.{reading, readGroups, roomed, settled};
 ghost use Rattle.format.specs.declared.Held.the-variants.{Nothing};
 ghost use Rattle.readings.specs.ReadEnd.{EndsAs};
 ghost use Rattle.readings.specs.ReadGroups.{startPass, Walked};
-ghost use Rattle.readings.specs.ReadPass.{RanTo, Sound, Strings, oddFill, stepPen, stepOut, stepPass, passOut, slotPass, slotOut};
-ghost use Rattle.readings.specs.ReadFills.{orPlace, onFill, onData, fillsIn};
+ghost use Rattle.readings.specs.ReadPass.{FromPass, RanTo, Sound, Strings, itemsPass, oddFill, stepPen, stepOut, stepPass, passOut, slotPass, slotOut};
+ghost use Rattle.readings.specs.ReadFills.{orPlace, onFill, onData, fillsIn, quiet};
 use format::Answer;
 use format::Kind;
 use format::Plan;
 use group::reading;
+use group::reading::Position;
 use pen::Pen;
 use plans::group_words;
 use plans::legal;
 use plans::slots;
 use reader::Holding;
 use reader::Step;
+use taking::Taken;
 
 // Where fill stood so far, each place one up, 0 for none: the first fill of all, and the earliest that is misplaced.
 struct Fills {
@@ -178,6 +181,63 @@ fn on_slot(
     on_step(pass, place, step, out)
 }
 
+// Fill that changes nothing: on bus 0, not the first of all, nor in the first slot of its group.
+fn is_quiet(fills: Fills, i: usize, word: u32) -> bool
+    ensures { λ r. ⌜ r ≡ quiet fills i word ⌝ }
+{
+    if word != word::fill() {
+        return false;
+    }
+    if fills.first == 0 {
+        return false;
+    }
+    i != 0
+}
+
+// Items taken whole from the slot i on, if nothing is held.
+fn items_from(
+    pass: Pass,
+    kinds: [Kind; 16],
+    plan: Plan,
+    count: usize,
+    capture: &[u8],
+    group: usize,
+    i: usize,
+    at: Position,
+    out: &mut [u8],
+) -> Taken
+    requires { ⌜ Ahead plan (now capture) group i 0 at × (count ≡ slots plan) × (pass .pen .bits < 2 ^ 59) ⌝ }
+    ensures { λ r. ⌜ FromPass kinds plan (now (capture .entry)) group pass i at (now (out .entry)) r (now (out .exit)) ⌝ }
+{
+    let held = pass.held;
+    let pen = pass.pen;
+    let from = Taken {
+        slot: i,
+        at: at,
+        last: pass.since as usize,
+        pen: pen,
+    };
+    if held.awaits == 0 {
+        return taking::take(kinds, plan, count, capture, group, from, out);
+    }
+    from
+}
+
+// Items that were taken.
+fn on_items(pass: Pass, taken: Taken) -> Pass
+    ensures { λ r. ⌜ r ≡ itemsPass pass taken ⌝ }
+{
+    let held = pass.held;
+    let pen = taken.pen;
+    Pass {
+        held: held,
+        since: taken.last as u64,
+        pen: pen,
+        fills: on_data(pass.fills),
+        bad: false,
+    }
+}
+
 // The data slots of the group whose first stored word is `group`, up to a bad word.
 fn on_group(
     pass: Pass,
@@ -194,12 +254,23 @@ fn on_group(
     ensures { λ r. ⌜ (r .bad ≡ false → r .pen .bits ≤ 128 * (group + groupWords plan)) ⌝ }
 {
     let mut pass = pass;
-    let mut at = reading::first_slot(plan);
+    let mut at = reading::first_slot(plan, group);
     let mut i: usize = 0;
     while i < count {
-        let place = group + reading::place_at(plan, at);
-        let word = word::word_at(capture, 3 * place);
-        pass = on_slot(pass, kinds, plan.parity, i, place, word, out);
+        let word = word::word_at(capture, 3 * at.place);
+        if is_quiet(pass.fills, i, word) {
+            at = reading::next_slot(plan, at);
+            i += 1;
+            continue;
+        }
+        let taken = items_from(pass, kinds, plan, count, capture, group, i, at, out);
+        if i < taken.slot {
+            pass = on_items(pass, taken);
+            at = taken.at;
+            i = taken.slot;
+            continue;
+        }
+        pass = on_slot(pass, kinds, plan.parity, i, at.place, word, out);
         if pass.bad {
             return pass;
         }

@@ -1,4 +1,5 @@
-use Rattle.readings.proofs.ReadPass.{bus-low, label-low, info-low, word-step, word-fits}
+use Rattle.taking.proofs.Slots.{bus-low, label-low, info-low}
+use Rattle.readings.proofs.ReadPass.{word-step, word-fits}
 use Rattle.readings.specs.ReadPass.{slotPass, slotOut}
 use native.Mathlib.Omega.{arith}
 use mathlib.Core.Path.{refl, sym, _∙_}
