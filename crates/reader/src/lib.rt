@@ -223,7 +223,12 @@ pub fn begin(kind: Kind, bus: u32, label: u32, information: u32) -> Step
     requires { ⌜ (bus < 16) × (label < 16) × (information < 65536) ⌝ }
     ensures { λ r. ⌜ r ≡ begun (flat Nothing) 0 0 (reader.starts kind bus label information) ⌝ }
 {
-    starts(nothing(), 0, 0, kind, bus, label, information)
+    let held = nothing();
+    match kind {
+        Kind::Unused => refused(held),
+        Kind::Mil1553 => starts_on_1553(held, 0, 0, bus, label, information),
+        Kind::Arinc429 => starts_on_429(held, 0, 0, bus, label, information),
+    }
 }
 
 // The bits of an untagged command, or of an untagged ARINC word.
