@@ -1,3 +1,5 @@
+use Rattle.readings.specs.ReadGiven.{earlier}
+use mathlib.Core.Path.{ap₂, _∙_}
 use Rattle.readings.specs.ReadGiven.{roomNumber}
 use borrow.Author.Needs.{needs}
 use Rattle.readings.proofs.reading.room_number.Statement.{statement}
@@ -30,7 +32,7 @@ earlier-requires-2 c κs = search needs
 -- src/reading.rt:376:1
 returns : tie.Need-returns
 unfolding roomNumber
-returns c = rw (← (c .before .before .before .before .short-of .ensures), ← (c .before .before .before .short-of2 .ensures), ← (c .before .before .short-of3 .ensures), ← (c .before .earlier .ensures)) (c .earlier2 .ensures)
+returns c = c .earlier2 .ensures ∙ ap₂ earlier (c .before .before .before .before .short-of .ensures) (c .before .earlier .ensures ∙ ap₂ earlier (c .before .before .before .short-of2 .ensures) (c .before .before .short-of3 .ensures))
 
 pub room-number-spec : {M : Type 1} → statement M
 room-number-spec =
