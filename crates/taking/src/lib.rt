@@ -270,9 +270,12 @@ fn item_at(
             last: at.place,
         };
     }
+    if 256 <= held.awaits {
+        return answered(plan, capture, held, group, slot + 1, next);
+    }
     let begun = begun_with(plan, capture, held, group, slot + 1, next, at.place);
     if begun.slots == 0 {
-        return answered(plan, capture, held, group, slot + 1, next);
+        return none(at);
     }
     tail(plan, capture, begun, group, slot + begun.slots)
 }
