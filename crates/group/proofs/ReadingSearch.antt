@@ -162,3 +162,21 @@ module _ (p : Plan) (c : List ℕ) (at : ℕ) where
 
       pub word-good : number ≡ 0 → restOfTrack t j ≡ restOfTrack t (j + 1)
       word-good n = word-first ∙ rw n
+
+    -- without parity and CRC the other words have no fault
+    quiet : (j : ℕ) → 1 ≤ j → p .parity ≡ false → p .crc ≡ false → faultAt p c (at + t * p .words) j ≡ none
+    unfolding faultAt
+    quiet zero h a b = absurd (omega arith)
+    quiet (suc j) h a b = rw (a, b) refl
+
+    past-quiet : (n j : ℕ) → 1 ≤ j → j + n ≡ p .words → p .parity ≡ false → p .crc ≡ false → restOfTrack t j ≡ restOfTrack t (p .words)
+    past-quiet zero j h e a b = let z : j ≡ p .words = omega arith in ap (restOfTrack t) z
+    past-quiet (suc n) j h e a b =
+        rest-word t j (omega arith) ∙ ap (λ (f : Fault). orElse f (restOfTrack t (j + 1))) (quiet j h a b) ∙ past-quiet n (j + 1) (omega arith) (omega arith) a b
+
+    pub checked-from : (parity crc : Bool) → p .parity ≡ parity → p .crc ≡ crc → 0 < p .words → (check k : ℕ) → check ≡ checkSoFar (p .crc) c (at + t * p .words) 1 → k ≡ cond (parity || crc) 1 (p .words)
+        → (1 ≤ k) × (k ≤ p .words) × (check ≡ checkSoFar (p .crc) c (at + t * p .words) k) × (restOfTrack t 1 ≡ restOfTrack t k)
+    checked-from true crc a b h check k e z = (omega arith, omega arith, e ∙ ap (checkSoFar (p .crc) c (at + t * p .words)) (sym z), ap (restOfTrack t) (sym z))
+    checked-from false true a b h check k e z = (omega arith, omega arith, e ∙ ap (checkSoFar (p .crc) c (at + t * p .words)) (sym z), ap (restOfTrack t) (sym z))
+    checked-from false false a b h check k e z =
+        (omega arith, omega arith, e ∙ rw b refl, past-quiet (p .words - 1) 1 (omega arith) (omega arith) a b ∙ ap (restOfTrack t) (sym z))

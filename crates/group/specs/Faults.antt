@@ -4,12 +4,17 @@ use mathlib.Core.Bool.{Bool, true, false, cond, not, _&&_, _||_}
 use lib.Dec.{ltb, eqb}
 use Rattle.format.specs.Word.{wordOf, busOf, labelOf, infoOf, isOdd, sent}
 use Rattle.format.specs.Group.{Fault as GroupFault, none, found}
+use Rattle.format.specs.declared.Plan.{Plan}
 use Rattle.group.specs.declared.reading.Fault.{Fault}
 
 -- "number 0, place 0" where there is none
 abbrev pub faultOf : GroupFault → Fault
 faultOf none = record { number = 0; place = 0 }
 faultOf (found n q) = record { number = n; place = q }
+
+-- the first position of a frame that can have a fault, past its sync word
+abbrev pub firstChecked : Plan → ℕ
+firstChecked p = cond (p .parity || p .crc) 1 (p .words)
 
 abbrev pub earlierFault : Fault → Fault → Fault
 earlierFault a b = cond (eqb (a .number) 0) b a

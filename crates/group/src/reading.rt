@@ -2,7 +2,7 @@
 
 ghost use mathlib.Core.Path.{_≡_};
 ghost use mathlib.Core.Bool.{cond, not, _&&_, _||_};
-ghost use Prim.Native.Nat.{_+_, _*_, _≤_, _<_, _^_};
+ghost use Prim.Native.Nat.{ℕ, _+_, _*_, _≤_, _<_, _^_};
 ghost use lib.ListN.{length};
 ghost use lib.Dec.{eqb};
 ghost use Rattle.format.specs.Word.{wordOf, wordAt, isOdd, sent};
@@ -10,8 +10,8 @@ ghost use Rattle.format.specs.Plan.{lead, groupWords, placeOf};
 ghost use Rattle.format.specs.Group.{none, unless, groupFault, timeFault, timeInfo, groupTime};
 ghost use Rattle.crc.specs.Running.{entries, nextCheck};
 ghost use Rattle.group.specs.Shape.{Shape};
-ghost use Rattle.group.specs.Position.{positionOf, slotAt, placeAt};
-ghost use Rattle.group.specs.Faults.{faultOf, earlierFault, isTimeWord, numberUnless, dueNumber, earlierNumber, wordNumber};
+ghost use Rattle.group.specs.Position.{Dealt, positionOf};
+ghost use Rattle.group.specs.Faults.{faultOf, firstChecked, earlierFault, isTimeWord, numberUnless, dueNumber, earlierNumber, wordNumber};
 use format::Plan;
 use format::Time;
 
@@ -21,49 +21,50 @@ pub struct Fault {
     pub place: usize,
 }
 
-// Where a dealt word stands: its track, and its row among those that are dealt.
+// Where a dealt word stands: its track, and its stored place in the capture.
 pub struct Position {
     pub track: usize,
-    pub row: usize,
+    pub place: usize,
 }
 
-pub fn first_slot(plan: Plan) -> Position
-    requires { ⌜ Shape plan ⌝ }
-    ensures { λ r. ⌜ r ≡ positionOf plan (lead plan) ⌝ }
+// The first data slot of the group whose first stored word is `at`.
+pub fn first_slot(plan: Plan, at: usize) -> Position
+    requires { ⌜ Shape plan × (at ≤ 1048576) ⌝ }
+    ensures { λ r. ⌜ r ≡ positionOf plan at (lead plan) ⌝ }
 {
     if plan.frame_time {
-        Position {
+        return Position {
             track: 3 % plan.tracks,
-            row: 3 / plan.tracks,
-        }
-    } else {
-        Position { track: 0, row: 0 }
+            place: at + (3 % plan.tracks * plan.words + 3 / plan.tracks + 1),
+        };
+    }
+    Position {
+        track: 0,
+        place: at + 1,
     }
 }
 
+// The dealt word behind the one that stands there: in the next track, or in the first and a row further.
 pub fn next_slot(plan: Plan, at: Position) -> Position
-    requires { ⌜ Shape plan × (at .track < plan .tracks) × (at .row < plan .words) ⌝ }
-    ensures { λ r. ⌜ r ≡ positionOf plan (slotAt plan at + 1) ⌝ }
+    requires { ⌜ Shape plan × Dealt plan at ⌝ }
+    ensures { λ r. ⌜ ((group s : ℕ) → at ≡ positionOf plan group s → r ≡ positionOf plan group (s + 1)) ⌝ }
 {
-    if at.track + 1 < plan.tracks {
-        Position {
-            track: at.track + 1,
-            row: at.row,
-        }
-    } else {
-        Position {
-            track: 0,
-            row: at.row + 1,
-        }
+    if plan.tracks == 1 {
+        return Position {
+            track: at.track,
+            place: at.place + 1,
+        };
     }
-}
-
-// The stored place in the group, past the sync word of each frame.
-pub fn place_at(plan: Plan, at: Position) -> usize
-    requires { ⌜ Shape plan × (at .track < plan .tracks) × (at .row < plan .words) ⌝ }
-    ensures { λ r. ⌜ r ≡ placeAt plan at ⌝ }
-{
-    at.track * plan.words + at.row + 1
+    if at.track + 1 < plan.tracks {
+        return Position {
+            track: at.track + 1,
+            place: at.place + plan.words,
+        };
+    }
+    Position {
+        track: 0,
+        place: at.place + 1 - (plan.tracks - 1) * plan.words,
+    }
 }
 
 fn time_place(plan: Plan, at: usize, dealt: usize) -> usize
@@ -214,6 +215,16 @@ fn next_check(tables: &[u32; 768], crc: bool, check: u32, word: u32) -> u32
     }
 }
 
+// Without parity and CRC no word past the sync word has a fault: the first position of a frame to look at.
+fn first_checked(plan: Plan) -> usize
+    ensures { λ r. ⌜ r ≡ firstChecked plan ⌝ }
+{
+    if plan.parity {
+        return 1;
+    }
+    if plan.crc { 1 } else { plan.words }
+}
+
 // "each word as stored (9 for a frame's first word, 10 for any other, 11 after 10 for a CRC word), then 12"
 pub fn first_fault(capture: &[u8], tables: &[u32; 768], plan: Plan, at: usize) -> Fault
     requires { ⌜ Shape plan × (3 * (at + groupWords plan) ≤ length (now capture)) × (length (now capture) ≤ 1048576) × (now tables ≡ entries) ⌝ }
@@ -234,7 +245,7 @@ pub fn first_fault(capture: &[u8], tables: &[u32; 768], plan: Plan, at: usize) -
             };
         }
         let mut check = next_check(tables, plan.crc, 0, sync);
-        let mut position: usize = 1;
+        let mut position = first_checked(plan);
         while position < words {
             let word = stored_word(capture, first + position);
             let number = word_number(plan.parity, plan.crc, position + 1 == words, check, word);

@@ -1,229 +1,331 @@
--- A log written from its front: the bits so far, more bits, and the end.
+-- Bits put behind those that are written, and the end.
 use Prim.Native.Nat.{ℕ, zero, suc, _+_, _*_, _-_, _/_, _%_, _^_, _≤_, _<_}
-use native.Mathlib.Nat.{add-assoc, mod-lt, le-refl, mod-eq-of-lt, zero-div}
+use native.Mathlib.Nat.{mod-lt, le-refl, zero-div}
 use native.Mathlib.Omega.{arith}
-use mathlib.Core.Path.{_≡_, refl, sym, ap, ap₂, _∙_}
-use mathlib.Core.List.{List, [], _∷_, _++_, append-assoc, append-nil}
-use lib.ListN.{length, take, drop, set, getD, replicate, length-append, length-drop, length-replicate, length-set, take-append-drop}
-use lib.Seq.{sets, sets-eq, take-at, drop-at, drop-drop, length-take-le, take-suc-set, drop-set-lt}
-use lib.Pow.{pow-pos, pow-mono, pow-add, split, shl-exact, shr-shr, shr-lt}
+use native.Mathlib.Decide.{decLt}
+use mathlib.Core.Bool.{Bool, true, false, cond}
+use mathlib.Core.Path.{_≡_, refl, sym, ap, ap₂, subst, _∙_}
+use mathlib.Core.List.{List, [], _∷_, _++_, append-assoc, append-nil, flatMap}
+use lib.ListN.{length, take, drop, getD, set, replicate, length-append, length-drop, length-replicate, replicate-append-replicate, List·getD-append}
+use lib.Seq.{getD-append-add, getD-take, length-take-le, take-append-add, take-append-le, sets-eq, ext-getD}
+use lib.Pow.{pow-pos, pow-mono, pow-add, split, shl-shr, shr-shr, shl-lt, mod-pow-add, low}
 use lib.Arith.{digits-lt}
-use lib.Bits.{bitAnd}
-use native.Mathlib.Numerals.{add-one}
+use lib.Dec.{leb}
+use borrow.Author.Tests.{leb-true, leb-false}
 use Rattle.format.specs.Bits.{bitsOf, bytesBits, packed}
-use Rattle.format.specs.Lists.{All, nil, cons}
-use Rattle.pen.specs.declared.Pen.{Pen}
-use Rattle.pen.specs.Pen.{soFar, four, Ready, Puts, Closes, Written}
-use Rattle.format.specs.Laws.Log.Fields.{packs}
-use Rattle.format.specs.Laws.Log.Sizes.{bits-low}
-use Rattle.format.specs.Laws.Log.Forth.{bytes-same}
+use Rattle.format.specs.Item.{itemBits}
+use Rattle.format.specs.Log.{logOf}
+use Rattle.format.specs.Lists.{All, nil, cons, Bytes}
+use Rattle.format.specs.declared.Item.{Item}
 use Rattle.format.specs.Laws.Lists.{all-append, all-take}
-use Rattle.items.proofs.Bits.{length-bits, bits-cat, bits-mod, bytes-append, length-bytes, joined, joined-bits, mask}
+use Rattle.format.specs.Laws.Log.Fields.{Packs, packs, length-bits, length-bytes}
+use Rattle.format.specs.Laws.Log.Sizes.{bits-low, items-low}
+use Rattle.format.specs.Laws.Log.Forth.{bytes-same}
+use Rattle.items.proofs.Bits.{bits-cat, bits-mod, bytes-append, bytes-take}
+use Rattle.items.proofs.Bits as bytes
+use Rattle.items.specs.Packed.{packedOf}
+use Rattle.items.proofs.Packing.{says}
+use Rattle.pen.specs.declared.Pen.{Pen}
+use Rattle.pen.specs.Pen.{start, eight, eightIn, joined, topped, penPut, penIn, itemPut, itemIn, closedIn, closedSize, Wrote}
 
--- ---- four bytes stored at once
+-- ---- eight bytes
 
-pub four-bits : (w : ℕ) → w < 2 ^ 32 → bytesBits (four w) ≡ bitsOf 32 w
+abbrev pub sets : List ℕ → ℕ → ℕ → List ℕ
+sets out at w =
+    set (set (set (set (set (set (set (set out at (w / 2 ^ 56)) (at + 1) (w / 2 ^ 48 % 256)) (at + 2) (w / 2 ^ 40 % 256)) (at + 3) (w / 2 ^ 32 % 256)) (at + 4) (w / 2 ^ 24 % 256)) (at + 5) (w / 2 ^ 16 % 256)) (at + 6) (w / 2 ^ 8 % 256)) (at + 7) (w % 256)
+
+pub eight-sets : (out : List ℕ) (at w : ℕ) → at + 8 ≤ length out → sets out at w ≡ take at out ++ (eight w ++ drop (at + 8) out)
+eight-sets out at w h =
+    let e1 : at + 1 ≡ suc at = omega arith in
+    let e2 : at + 2 ≡ suc (suc at) = omega arith in
+    let e3 : at + 3 ≡ suc (suc (suc at)) = omega arith in
+    let e4 : at + 4 ≡ suc (suc (suc (suc at))) = omega arith in
+    let e5 : at + 5 ≡ suc (suc (suc (suc (suc at)))) = omega arith in
+    let e6 : at + 6 ≡ suc (suc (suc (suc (suc (suc at))))) = omega arith in
+    let e7 : at + 7 ≡ suc (suc (suc (suc (suc (suc (suc at)))))) = omega arith in
+    rw (e1, e2, e3, e4, e5, e6, e7) (sets-eq (eight w) out at h ∙ append-assoc (take at out) (eight w) (drop (at + 8) out))
+
+eight-bytes : (w : ℕ) → w < 2 ^ 64 → bytes.Bytes (eight w)
+eight-bytes w h = omega arith
+
+eight-small : (w : ℕ) → w < 2 ^ 64 → Bytes (eight w)
+eight-small w h =
+    cons {a = w / 2 ^ 56} (omega arith) (cons {a = w / 2 ^ 48 % 256} (omega arith) (cons {a = w / 2 ^ 40 % 256} (omega arith) (cons {a = w / 2 ^ 32 % 256} (omega arith)
+    (cons {a = w / 2 ^ 24 % 256} (omega arith) (cons {a = w / 2 ^ 16 % 256} (omega arith) (cons {a = w / 2 ^ 8 % 256} (omega arith) (cons {a = w % 256} (omega arith) nil)))))))
+
+eight-bits : (w : ℕ) → w < 2 ^ 64 → bytesBits (eight w) ≡ bitsOf 64 w
 unfolding bitsOf
-four-bits w h =
-    let e : joined 0 (four w) ≡ w = omega (arith, shr-shr w 8 8, shr-shr w 16 8) in
-    sym (joined-bits 0 0 (four w) (omega arith)) ∙ ap (bitsOf 32) e
+eight-bits w h =
+    let e : bytes.joined 0 (eight w) ≡ w =
+    omega (arith, shr-shr w 8 8, shr-shr w 16 8, shr-shr w 24 8, shr-shr w 32 8, shr-shr w 40 8, shr-shr w 48 8) in
+    sym (bytes.joined-bits 0 0 (eight w) (eight-bytes w h)) ∙ ap (bitsOf 64) e
 
--- ---- more bits
+eight-long : (out : List ℕ) (at w : ℕ) → length (eightIn out at w) ≡ length out
+unfolding eightIn
+eight-long out at w = go (leb (at + 8) (length out)) refl
+  where
+    go : (b : Bool) → leb (at + 8) (length out) ≡ b → length (cond b (take at out ++ (eight w ++ drop (at + 8) out)) out) ≡ length out
+    go true e =
+        let h : at + 8 ≤ length out = leb-true (at + 8) (length out) e in
+        length-append (take at out) (eight w ++ drop (at + 8) out) ∙ rw (length-take-le at out (omega arith), length-append (eight w) (drop (at + 8) out), length-drop (at + 8) out) (omega arith)
+    go false e = refl
 
-module _ (d : List ℕ) (p : Pen) (v n : ℕ) (ready : Ready (length d) p) (hn : n ≤ 32) (hv : v < 2 ^ n) (room : p .at * 8 + p .count + n ≤ length d * 8) where
-  -- the pending bits and the new ones, as the code joins them
-  abbrev pub both : ℕ
-  both = p .pending * 2 ^ n % 2 ^ 64 + v
+take-all : (s t : List ℕ) → take (length s) (s ++ t) ≡ s
+take-all [] t = refl
+take-all (a ∷ s) t = ap (λ (l : List ℕ). a ∷ l) (take-all s t)
 
-  both-is : both ≡ p .pending * 2 ^ n + v
-  both-is = ap (λ (x : ℕ). x + v) (shl-exact (p .count) n 64 (ready .low) (omega (arith, ready .few)))
+first-of : (k : ℕ) (s t : List ℕ) → length s ≡ k → take k (s ++ t) ≡ s
+first-of k s t e = ap (λ (n : ℕ). take n (s ++ t)) (sym e) ∙ take-all s t
 
-  both-low : p .pending * 2 ^ n + v < 2 ^ (p .count + n)
-  both-low = rw (pow-add 2 (p .count) n) (digits-lt (ready .low) hv)
+-- ---- numbers moved up
 
-  pub both-fits : both < 2 ^ 64
-  both-fits =
-      let h : p .count + n ≤ 64 = omega (arith, ready .few) in
-      let z : 2 ^ (p .count + n) ≤ 2 ^ 64 = pow-mono {i = p .count + n} {j = 64} h in
-      rw both-is (omega (arith, both-low))
+-- the upper bits of a number that is moved up by s
+up-is : (x j s : ℕ) → x * 2 ^ s % 2 ^ (j + s) ≡ x % 2 ^ j * 2 ^ s
+up-is x j s =
+    let z : (x * 2 ^ s + 0) % 2 ^ s ≡ 0 = low x s (pow-pos s) in
+    let y : x * 2 ^ s + 0 ≡ x * 2 ^ s = omega arith in
+    let u : x * 2 ^ s % 2 ^ s ≡ 0 = rw y at z in
+    mod-pow-add (x * 2 ^ s) j s ∙ rw (shl-shr x s, u) (omega arith)
 
-  both-bits : soFar d p ++ bitsOf n v ≡ bytesBits (take (p .at) d) ++ bitsOf (p .count + n) (p .pending * 2 ^ n + v)
-  unfolding soFar
-  both-bits = append-assoc (bytesBits (take (p .at) d)) (bitsOf (p .count) (p .pending)) (bitsOf n v) ∙ ap (_++_ (bytesBits (take (p .at) d))) (sym (bits-cat (p .count) n (p .pending) v hv))
+module _ (p : Pen) (v n : ℕ) (hn : n ≤ 56) (hv : v < 2 ^ n) where
+  abbrev had : ℕ
+  had = p .bits % 8
 
-  few-low : p .count + n < 32 → Ready (length d) (record { at = p .at; pending = both; count = p .count + n })
-  few-low h = record { few = h; low = rw both-is both-low; fits = ready .fits }
+  abbrev part : ℕ
+  part = had + n
 
-  -- fewer than 32: all stay pending
-  pub puts-few : p .count + n < 32 → Puts (bitsOf n v) d p d (record { at = p .at; pending = both; count = p .count + n })
-  unfolding soFar
-  puts-few h = record {
-    is = rw both-is (sym both-bits);
-    at = rw (length-bits n v) (omega arith);
-    count = rw (length-bits n v) (omega arith);
-    long = refl;
-    rest = refl;
-    ready = few-low h;
-  }
+  abbrev x : ℕ
+  x = joined p v n
 
-  module _ (r : ℕ) (er : p .count + n ≡ 32 + r) where
-    pub high-low : both / 2 ^ r < 2 ^ 32
-    high-low = let z : p .pending * 2 ^ n + v < 2 ^ (32 + r) = rw er at both-low in rw both-is (shr-lt 32 r z)
+  to-64 : 64 - n + n ≡ 64
+  to-64 = omega arith
 
-    rest-is : bitAnd both (1 * 2 ^ r % 2 ^ 64 - 1) ≡ both % 2 ^ r
-    rest-is = mask r both (omega (arith, ready .few))
+  x-is : x ≡ p .last % 2 ^ (64 - n) * 2 ^ n + v
+  x-is = ap (λ (k : ℕ). p .last * 2 ^ n % 2 ^ k + v) (sym to-64) ∙ ap (λ (k : ℕ). k + v) (up-is (p .last) (64 - n) n)
 
-    bits-split : bitsOf (p .count + n) both ≡ bitsOf 32 (both / 2 ^ r) ++ bitsOf r (both % 2 ^ r)
-    bits-split = ap₂ bitsOf er (sym (split both r)) ∙ bits-cat 32 r (both / 2 ^ r) (both % 2 ^ r) (mod-lt both (pow-pos r))
+  pub joined-low : x < 2 ^ 64
+  joined-low =
+      let a : p .last % 2 ^ (64 - n) * 2 ^ n + v < 2 ^ (64 - n) * 2 ^ n = digits-lt (mod-lt (p .last) (pow-pos (64 - n))) hv in
+      let b : 2 ^ (64 - n) * 2 ^ n ≡ 2 ^ 64 = sym (pow-add 2 (64 - n) n) ∙ ap (λ (k : ℕ). 2 ^ k) to-64 in
+      omega (arith, a, b, x-is)
 
-    -- 32 or more: four bytes are written, and the rest is pending
-    pub puts-four : (x : List ℕ) → x ≡ take (p .at) d ++ (four (both / 2 ^ r) ++ drop (p .at + 4) d)
-        → Puts (bitsOf n v) d p x (record { at = p .at + 4; pending = bitAnd both (1 * 2 ^ r % 2 ^ 64 - 1); count = r })
-    unfolding soFar
-    puts-four x ex =
-        let w = four (both / 2 ^ r) in
-        let front = take (p .at) d ++ w in
-        let lf : length front ≡ p .at + 4 = length-append (take (p .at) d) w ∙ rw (length-take-le (p .at) d (ready .fits)) (omega arith) in
-        let ef : x ≡ front ++ drop (p .at + 4) d = ex ∙ sym (append-assoc (take (p .at) d) w (drop (p .at + 4) d)) in
-        let et : take (p .at + 4) x ≡ front = rw ef (take-at front (drop (p .at + 4) d) (p .at + 4) lf) in
-        let ed : drop (p .at + 4) x ≡ drop (p .at + 4) d = rw ef (drop-at front (drop (p .at + 4) d) (p .at + 4) lf) in
-        let m = both % 2 ^ r in
-        let bf : bytesBits front ≡ bytesBits (take (p .at) d) ++ bitsOf 32 (both / 2 ^ r) = bytes-append (take (p .at) d) w ∙ ap (_++_ (bytesBits (take (p .at) d))) (four-bits (both / 2 ^ r) high-low) in
-        record {
-          is = rw (et, rest-is, bf) (append-assoc (bytesBits (take (p .at) d)) (bitsOf 32 (both / 2 ^ r)) (bitsOf r m)
-              ∙ ap (_++_ (bytesBits (take (p .at) d))) (sym bits-split ∙ ap (bitsOf (p .count + n)) both-is) ∙ sym both-bits);
-          at = rw (length-bits n v) (omega (arith, ready .few));
-          count = rw (length-bits n v) (omega (arith, ready .few));
-          long = ap length ef ∙ length-append front (drop (p .at + 4) d) ∙ rw (lf, length-drop) (omega (arith, ready .few));
-          rest = ed;
-          ready = record { few = omega (arith, ready .few); low = rw rest-is (mod-lt both (pow-pos r)); fits = omega (arith, ready .few) };
-        }
+  -- the last bits and the new ones
+  x-bits : bitsOf part x ≡ bitsOf had (p .last) ++ bitsOf n v
+  x-bits =
+      let h : had ≤ 64 - n = omega arith in
+      ap (bitsOf part) x-is ∙ bits-cat had n (p .last % 2 ^ (64 - n)) v hv ∙ ap (λ (l : List ℕ). l ++ bitsOf n v) (bits-mod had (64 - n) (p .last) h)
 
-pub drop-later : (x d : List ℕ) (m n : ℕ) → m ≤ n → drop m x ≡ drop m d → drop n x ≡ drop n d
-drop-later x d m n h e =
-    let z : n ≡ m + (n - m) = omega arith in
-    rw z (sym (drop-drop (n - m) m x) ∙ ap (drop (n - m)) e ∙ drop-drop (n - m) m d)
+  abbrev w : ℕ
+  w = topped part x
 
--- some bits and then more
-pub puts-then : {a b d x y : List ℕ} {p q r : Pen} → Puts a d p x q → Puts b x q y r → Puts (a ++ b) d p y r
-puts-then {a} {b} {d} {x} {y} {p} {q} {r} f g = record {
-  is = g .is ∙ ap (λ (l : List ℕ). l ++ b) (f .is) ∙ append-assoc (soFar d p) a b;
-  at = rw (length-append a b) (omega (arith, f .at, f .count, g .at));
-  count = rw (length-append a b) (omega (arith, f .count, g .count));
-  long = g .long ∙ f .long;
-  rest = g .rest ∙ drop-later x d (q .at) (r .at) (omega (arith, g .at)) (f .rest);
-  ready = rw (f .long) at (g .ready);
-}
+  w-low : w < 2 ^ 64
+  w-low = mod-lt (x * 2 ^ (63 - part) % 2 ^ 64 * 2 ^ 1) (pow-pos 64)
 
-pub ready-after : {bits d x : List ℕ} {p q : Pen} → Puts bits d p x q → Ready (length x) q
-ready-after f = rw (f .long) (f .ready)
+  -- they are the first of the 64
+  w-bits : bitsOf 64 w ≡ (bitsOf part x ++ bitsOf (63 - part) 0) ++ bitsOf 1 0
+  w-bits =
+      let y : ℕ = x * 2 ^ (63 - part) % 2 ^ 64 in
+      let a : y * 2 ^ 1 ≡ y * 2 ^ 1 + 0 = omega arith in
+      let b : x * 2 ^ (63 - part) ≡ x * 2 ^ (63 - part) + 0 = omega arith in
+      let c : 63 ≡ part + (63 - part) = omega arith in
+      bits-mod 64 64 (y * 2 ^ 1) (le-refl 64) ∙ ap (bitsOf 64) a ∙ bits-cat 63 1 y 0 (pow-pos 1)
+      ∙ ap (λ (l : List ℕ). l ++ bitsOf 1 0) (bits-mod 63 64 (x * 2 ^ (63 - part)) (omega arith) ∙ ap₂ bitsOf c b ∙ bits-cat part (63 - part) x 0 (pow-pos (63 - part)))
 
--- there is room for what is to follow
-pub room-after : {bits d x : List ℕ} {p q : Pen} (m : ℕ) → Puts bits d p x q → p .at * 8 + p .count + (length bits + m) ≤ length d * 8 → q .at * 8 + q .count + m ≤ length x * 8
-room-after m f h = omega (arith, f .at, f .count, f .long)
+  abbrev full : ℕ
+  full = part / 8
 
--- more than 32 bits as those above the lowest 32, and these
-pub halves : (v n : ℕ) → 32 ≤ n → bitsOf n v ≡ bitsOf (n - 32) (v / 4294967296) ++ bitsOf 32 (v % 4294967296)
-halves v n h =
-    let z : n ≡ n - 32 + 32 = omega arith in
-    ap₂ bitsOf z (sym (split v 32)) ∙ bits-cat (n - 32) 32 (v / 4294967296) (v % 4294967296) (mod-lt v (pow-pos 32))
+  abbrev vs : List ℕ
+  vs = take full (eight w)
 
-pub high-half : (v n : ℕ) → 32 ≤ n → v < 2 ^ n → v / 4294967296 < 2 ^ (n - 32)
-high-half v n h g =
-    let z : n ≡ n - 32 + 32 = omega arith in
-    shr-lt (n - 32) 32 (rw z at g)
+  vs-long : length vs ≡ full
+  vs-long = length-take-le full (eight w) (omega arith)
 
--- ---- the pending bits, a byte at a time
+  -- the bytes that are full, and the bits that are left
+  full-bits : bitsOf part x ≡ bytesBits vs ++ bitsOf (part % 8) x
+  full-bits =
+      let h : ℕ = part % 8 in
+      let e : part ≡ full * 8 + h = omega arith in
+      let a : bitsOf part x ≡ bitsOf (full * 8) (x / 2 ^ h) ++ bitsOf h (x % 2 ^ h) =
+      ap₂ bitsOf e (sym (split x h)) ∙ bits-cat (full * 8) h (x / 2 ^ h) (x % 2 ^ h) (mod-lt x (pow-pos h)) in
+      let k : full * 8 ≤ length (bitsOf (full * 8) (x / 2 ^ h)) = rw (length-bits (full * 8) (x / 2 ^ h)) (omega arith) in
+      let q : List ℕ = bitsOf h (x % 2 ^ h) ++ (bitsOf (63 - part) 0 ++ bitsOf 1 0) in
+      let f : bitsOf 64 w ≡ bitsOf (full * 8) (x / 2 ^ h) ++ q =
+      w-bits ∙ ap (λ (l : List ℕ). (l ++ bitsOf (63 - part) 0) ++ bitsOf 1 0) a
+      ∙ append-assoc (bitsOf (full * 8) (x / 2 ^ h) ++ bitsOf h (x % 2 ^ h)) (bitsOf (63 - part) 0) (bitsOf 1 0)
+      ∙ append-assoc (bitsOf (full * 8) (x / 2 ^ h)) (bitsOf h (x % 2 ^ h)) (bitsOf (63 - part) 0 ++ bitsOf 1 0) in
+      let t : take (full * 8) (bitsOf (full * 8) (x / 2 ^ h) ++ q) ≡ bitsOf (full * 8) (x / 2 ^ h) = first-of (full * 8) (bitsOf (full * 8) (x / 2 ^ h)) q (length-bits (full * 8) (x / 2 ^ h)) in
+      let s : bytesBits vs ≡ bitsOf (full * 8) (x / 2 ^ h) = sym (bytes-take full (eight w)) ∙ ap (take (full * 8)) (eight-bits w w-low ∙ f) ∙ t in
+      a ∙ ap₂ _++_ (sym s) (bits-mod h h x (le-refl h))
 
-pub byte-out : (xs : List ℕ) (at l v : ℕ) (bits : List ℕ) → 8 ≤ l → at < length xs → bytesBits (take at xs) ++ bitsOf l v ≡ bits
-    → bytesBits (take (at + 1) (set xs at (v / 2 ^ (l - 8) % 256))) ++ bitsOf (l - 8) v ≡ bits
-unfolding bytesBits
-byte-out xs at l v bits h g e =
-    let m = l - 8 in
-    let b = v / 2 ^ m % 256 in
-    let z : 8 + m ≡ l = omega arith in
-    let cut : bitsOf l v ≡ bitsOf 8 b ++ bitsOf m v =
-    ap₂ bitsOf (sym z) (sym (split v m)) ∙ bits-cat 8 m (v / 2 ^ m) (v % 2 ^ m) (mod-lt v (pow-pos m))
-    ∙ ap₂ _++_ (sym (bits-mod 8 8 (v / 2 ^ m) (le-refl 8))) (bits-mod m m v (le-refl m)) in
-    let one : bytesBits (b ∷ []) ≡ bitsOf 8 b = append-nil (bitsOf 8 b) in
-    rw (add-one at, take-suc-set xs at b g, bytes-append (take at xs) (b ∷ []), one) (append-assoc (bytesBits (take at xs)) (bitsOf 8 b) (bitsOf m v) ∙ ap (_++_ (bytesBits (take at xs))) (sym cut) ∙ e)
+  -- the array has the bytes for which it has room, with the new ones
+  module _ (out bs : List ℕ) (size : length bs ≡ p .bits / 8) (k : (i : ℕ) → i + 8 ≤ length out → i < p .bits / 8 → getD out i 0 ≡ getD bs i 0) where
+    abbrev at : ℕ
+    at = p .bits / 8
 
-pub all-out : (s bits : List ℕ) (l v : ℕ) → l ≡ 0 → s ++ bitsOf l v ≡ bits → s ≡ bits
-unfolding bitsOf
-all-out s bits l v z e = sym (append-nil s) ∙ rw z at e
+    new-kept : at + 8 ≤ length out → (i : ℕ) → i + 8 ≤ length out → i < at + full → getD (take at out ++ (eight w ++ drop (at + 8) out)) i 0 ≡ getD (bs ++ vs) i 0
+    new-kept room i h g = go (decLt i at)
+      where
+        long : length (take at out) ≡ at
+        long = length-take-le at out (omega arith)
 
-pub drop-past : (d xs : List ℕ) (at b : ℕ) → drop at xs ≡ drop at d → drop (at + 1) (set xs at b) ≡ drop (at + 1) d
-drop-past d xs at b e = drop-set-lt (at + 1) xs at b (omega arith) ∙ drop-later xs d at (at + 1) (omega arith) e
+        go : Dec (i < at) → getD (take at out ++ (eight w ++ drop (at + 8) out)) i 0 ≡ getD (bs ++ vs) i 0
+        go (yes y) =
+            let a : i < length (take at out) = rw long y in
+            let b : i < length bs = rw size y in
+            List·getD-append (take at out) (eight w ++ drop (at + 8) out) 0 i a ∙ getD-take at out i 0 y ∙ k i h y
+            ∙ sym (List·getD-append bs vs 0 i b)
+        go (no y) =
+            let j : ℕ = i - at in
+            let a : i ≡ length (take at out) + j = rw long (omega arith) in
+            let b : i ≡ length bs + j = rw size (omega arith) in
+            let c : j < 8 = omega arith in
+            let d : j < full = omega arith in
+            ap (λ (z : ℕ). getD (take at out ++ (eight w ++ drop (at + 8) out)) z 0) a
+            ∙ getD-append-add (take at out) (eight w ++ drop (at + 8) out) j 0
+            ∙ List·getD-append (eight w) (drop (at + 8) out) 0 j c
+            ∙ sym (getD-take full (eight w) j 0 d)
+            ∙ sym (ap (λ (z : ℕ). getD (bs ++ vs) z 0) b ∙ getD-append-add bs vs j 0)
+
+    put-kept : (i : ℕ) → i + 8 ≤ length out → i < at + full → getD (eightIn out at w) i 0 ≡ getD (bs ++ vs) i 0
+    unfolding eightIn
+    put-kept i h g = go (leb (at + 8) (length out)) refl
+      where
+        go : (b : Bool) → leb (at + 8) (length out) ≡ b → getD (cond b (take at out ++ (eight w ++ drop (at + 8) out)) out) i 0 ≡ getD (bs ++ vs) i 0
+        go true e = new-kept (leb-true (at + 8) (length out) e) i h g
+        go false e =
+            let y : i < at = omega (arith, leb-false (at + 8) (length out) e) in
+            let b : i < length bs = rw size y in
+            k i h y ∙ sym (List·getD-append bs vs 0 i b)
+
+  pub put-long : (out : List ℕ) → length (penIn out p v n) ≡ length out
+  unfolding penIn
+  put-long out = eight-long out (p .bits / 8) w
+
+  pub put-bits : penPut p v n .bits ≡ p .bits + n
+  unfolding penPut
+  put-bits = refl
+
+  pub wrote-more : (bits out : List ℕ) → Wrote bits out p → Wrote (bits ++ bitsOf n v) (penIn out p v n) (penPut p v n)
+  unfolding penIn penPut
+  wrote-more bits out o =
+      let e : (p .bits + n) / 8 ≡ p .bits / 8 + full = omega arith in
+      let f : (p .bits + n) % 8 ≡ part % 8 = omega arith in
+      record {
+        bytes = o .bytes ++ vs;
+        small = all-append (o .small) (all-take full (eight-small w w-low));
+        is = ap (λ (l : List ℕ). l ++ bitsOf n v) (o .is) ∙ append-assoc (bytesBits (o .bytes)) (bitsOf had (p .last)) (bitsOf n v)
+            ∙ ap (_++_ (bytesBits (o .bytes))) (sym x-bits ∙ full-bits) ∙ sym (append-assoc (bytesBits (o .bytes)) (bytesBits vs) (bitsOf (part % 8) x))
+            ∙ ap₂ (λ (l : List ℕ) (z : ℕ). l ++ bitsOf z x) (sym (bytes-append (o .bytes) vs)) (sym f);
+        size = length-append (o .bytes) vs ∙ rw (o .size, vs-long) (sym e);
+        kept = λ i h g. put-kept out (o .bytes) (o .size) (o .kept) i (rw (eight-long out (p .bits / 8) w) at h) (rw e at g);
+      }
+
+pub wrote-none : (out : List ℕ) → Wrote [] out start
+unfolding bytesBits bitsOf
+wrote-none out = record { bytes = []; small = nil; is = refl; size = refl; kept = λ i h g. absurd (omega arith) }
+
+-- an item's bits
+module _ (p : Pen) (i : Item) where
+  pub item-long : (out : List ℕ) → length (itemIn out p i) ≡ length out
+  unfolding itemIn
+  item-long out =
+      let s = says i (packedOf i) refl in
+      put-long (penPut p (packedOf i .first) (packedOf i .«first_bits»)) (packedOf i .behind) (packedOf i .«behind_bits») (omega (arith, s .behind-few)) (s .behind-low) (penIn out p (packedOf i .first) (packedOf i .«first_bits»))
+      ∙ put-long p (packedOf i .first) (packedOf i .«first_bits») (omega (arith, s .first-few)) (s .first-low) out
+
+  pub wrote-item : (bits out : List ℕ) → Wrote bits out p → Wrote (bits ++ itemBits i) (itemIn out p i) (itemPut p i)
+  unfolding itemIn itemPut
+  wrote-item bits out o =
+      let s = says i (packedOf i) refl in
+      let a : List ℕ = bitsOf (packedOf i .«first_bits») (packedOf i .first) in
+      let b : List ℕ = bitsOf (packedOf i .«behind_bits») (packedOf i .behind) in
+      subst (λ (l : List ℕ). Wrote l (itemIn out p i) (itemPut p i)) (append-assoc bits a b ∙ ap (_++_ bits) (sym (s .bits)))
+      (wrote-more (penPut p (packedOf i .first) (packedOf i .«first_bits»)) (packedOf i .behind) (packedOf i .«behind_bits») (omega (arith, s .behind-few)) (s .behind-low) (bits ++ a) (penIn out p (packedOf i .first) (packedOf i .«first_bits»))
+      (wrote-more p (packedOf i .first) (packedOf i .«first_bits») (omega (arith, s .first-few)) (s .first-low) bits out o))
 
 -- ---- the end
 
-abbrev Low : List ℕ → Type 0
-Low s = All (λ b. b < 2) s
+abbrev zeros : ℕ → List ℕ
+zeros k = replicate k 0
 
-bytes-low : (s : List ℕ) → Low (bytesBits s)
-unfolding bytesBits
-bytes-low [] = nil
-bytes-low (b ∷ s) = all-append (bits-low 8 b) (bytes-low s)
-
-so-far-low : (out : List ℕ) (p : Pen) → Low (soFar out p)
-unfolding soFar
-so-far-low out p = all-append (bytes-low (take (p .at) out)) (bits-low (p .count) (p .pending))
-
-all-bytes : (s : List ℕ) → ((i : ℕ) → getD s i 0 < 256) → All (λ b. b < 256) s
-all-bytes [] f = nil
-all-bytes (b ∷ s) f = cons {a = b} (f 0) (all-bytes s (λ i. f (suc i)))
-
-zero-bits : (k : ℕ) → bitsOf k 0 ≡ replicate k 0
+zero-bits : (k : ℕ) → bitsOf k 0 ≡ zeros k
 unfolding bitsOf
 zero-bits zero = refl
-zero-bits (suc k) = rw (zero-div (2 ^ k), zero-bits k)
+zero-bits (suc k) =
+    let z : 0 / 2 ^ k % 2 ≡ 0 = rw (zero-div (2 ^ k)) refl in
+    ap₂ (λ (u : ℕ) (l : List ℕ). u ∷ l) z (zero-bits k)
 
--- bytes whose bits are bs and fewer than eight zeros are those that bs pack into
-filled : (bs s : List ℕ) (m : ℕ) → Low bs → All (λ b. b < 256) s → m < 8 → bytesBits s ≡ bs ++ replicate m 0 → s ≡ packed bs
-filled bs s m a w h e =
-    let k = packs bs a in
-    let l1 : length s * 8 ≡ length bs + m = sym (length-bytes s) ∙ ap length e ∙ length-append bs (replicate m 0) ∙ simp length-replicate in
-    let l2 : length (packed bs) * 8 ≡ length bs + k .more = sym (length-bytes (packed bs)) ∙ ap length (k .bits) ∙ length-append bs (replicate (k .more) 0) ∙ simp length-replicate in
-    let d : m ≡ k .more = omega (arith, k .few) in
-    bytes-same s (packed bs) w (k .bytes) (e ∙ ap (λ (n : ℕ). bs ++ replicate n 0) d ∙ sym (k .bits))
+zeros-take : (m k : ℕ) → m ≤ k → take m (zeros k) ≡ zeros m
+zeros-take zero k h = refl
+zeros-take (suc m) zero h = absurd (omega arith)
+zeros-take (suc m) (suc k) h = ap (λ (l : List ℕ). 0 ∷ l) (zeros-take m k (omega arith))
 
--- the end mark and m zeros are put, and then all is bytes
-pub closes : (d x y : List ℕ) (p q : Pen) (m n : ℕ) → m < 8 → Puts (bitsOf (4 + m) 0) d p x q → bytesBits (take n y) ≡ soFar x q → drop n y ≡ drop n x
-    → n * 8 ≡ q .at * 8 + q .count → n ≤ length y → ((i : ℕ) → getD y i 0 < 256) → Closes d p y n
-closes d x y p q m n hm f eb ed en ln low =
-    let bs = soFar d p ++ bitsOf 4 0 in
-    let o : 0 ≡ 0 * 2 ^ m + 0 = omega arith in
-    let z : bitsOf (4 + m) 0 ≡ bitsOf 4 0 ++ replicate m 0 = ap (bitsOf (4 + m)) o ∙ bits-cat 4 m 0 0 (pow-pos m) ∙ ap (_++_ (bitsOf 4 0)) (zero-bits m) in
-    let e : bytesBits (take n y) ≡ bs ++ replicate m 0 = eb ∙ f .is ∙ ap (_++_ (soFar d p)) z ∙ sym (append-assoc (soFar d p) (bitsOf 4 0) (replicate m 0)) in
-    let t : take n y ≡ packed bs = filled bs (take n y) m (all-append (so-far-low d p) (bits-low 4 0)) (all-take n (all-bytes y low)) hm e in
-    record {
-      is = sym (take-append-drop n y) ∙ ap₂ _++_ t (ed ∙ drop-later x d (q .at) n (omega arith) (f .rest));
-      size = sym (length-take-le n y ln) ∙ ap length t;
-    }
+-- whole bytes of bits and eleven zeros are these bits and the end mark packed
+module _ (bits bs rest : List ℕ) (low : All (λ b. b < 2) bits) (small : Bytes bs) (e : bits ++ zeros 11 ≡ bytesBits bs ++ rest) (size : length bs ≡ (length bits + 11) / 8) where
+  abbrev marked : List ℕ
+  marked = bits ++ bitsOf 4 0
 
--- ---- a loop over items
+  pk : Packs marked
+  pk = packs marked (all-append low (bits-low 4 0))
 
-pub written-none : (d : List ℕ) (p : Pen) → p .at ≡ 0 → p .pending ≡ 0 → p .count ≡ 0 → Written d d p []
-unfolding soFar bytesBits bitsOf
-written-none d p ea ep ec = record {
-  is = rw (ea, ec);
-  size = omega arith;
-  long = refl;
-  rest = refl;
-  ready = record { few = omega arith; low = rw (ep, ec) (omega arith); fits = omega arith };
-}
+  pk-bits : bytesBits (packed marked) ≡ bits ++ zeros (4 + pk .more)
+  pk-bits =
+      pk .bits ∙ append-assoc bits (bitsOf 4 0) (zeros (pk .more))
+      ∙ ap (_++_ bits) (ap (λ (l : List ℕ). l ++ zeros (pk .more)) (zero-bits 4) ∙ replicate-append-replicate 4 (pk .more) 0)
 
-pub written-more : {d x y bits more : List ℕ} {p q : Pen} → Written d x p bits → Puts more x p y q → Written d y q (bits ++ more)
-written-more {d} {x} {y} {bits} {more} {p} {q} w f = record {
-  is = f .is ∙ ap (λ (l : List ℕ). l ++ more) (w .is);
-  size = rw (length-append bits more) (omega (arith, w .size, f .at, f .count));
-  long = f .long ∙ w .long;
-  rest = f .rest ∙ drop-later x d (p .at) (q .at) (omega (arith, f .at)) (w .rest);
-  ready = rw (w .long) at (f .ready);
-}
+  pk-long : length (packed marked) * 8 ≡ length bits + (4 + pk .more)
+  pk-long =
+      sym (length-bytes (packed marked)) ∙ ap (λ (l : List ℕ). length l) pk-bits ∙ length-append bits (zeros (4 + pk .more))
+      ∙ ap (λ (n : ℕ). length bits + n) (length-replicate (4 + pk .more) 0)
 
--- the log of the bits, and the room behind it as it was at the start
-pub written-closed : {d x y bits : List ℕ} {p : Pen} {n : ℕ} → Written d x p bits → Closes x p y n → p .at ≤ n → (y ≡ packed (bits ++ bitsOf 4 0) ++ drop n d) × (n ≡ length (packed (bits ++ bitsOf 4 0)))
-written-closed {d} {x} {y} {bits} {p} {n} w f h =
-    let e : packed (soFar x p ++ bitsOf 4 0) ≡ packed (bits ++ bitsOf 4 0) = ap (λ (l : List ℕ). packed (l ++ bitsOf 4 0)) (w .is) in
-    (f .is ∙ ap₂ _++_ e (drop-later x d (p .at) n h (w .rest)), f .size ∙ ap length e)
+  packed-size : length (packed marked) ≡ length bs
+  packed-size = omega (arith, pk-long, pk .few, size)
+
+  packed-is : bs ≡ packed marked
+  packed-is =
+      let a : length bs * 8 ≡ length (bytesBits bs) = sym (length-bytes bs) in
+      let b : length bs * 8 ≡ length bits + (4 + pk .more) = ap (λ (n : ℕ). n * 8) (sym packed-size) ∙ pk-long in
+      bytes-same bs (packed marked) small (pk .bytes)
+      (sym (first-of (length bs * 8) (bytesBits bs) rest (sym a)) ∙ ap (take (length bs * 8)) (sym e) ∙ ap (λ (n : ℕ). take n (bits ++ zeros 11)) b
+      ∙ take-append-add bits (zeros 11) (4 + pk .more) ∙ ap (_++_ bits) (zeros-take (4 + pk .more) 11 (omega (arith, pk .few))) ∙ sym pk-bits)
+
+module _ (is : List Item) (out : List ℕ) (p : Pen) (o : Wrote (flatMap itemBits is) out p) where
+  abbrev bits : List ℕ
+  bits = flatMap itemBits is
+
+  bits-long : length bits ≡ p .bits
+  bits-long =
+      ap (λ (n : List ℕ). length n) (o .is) ∙ length-append (bytesBits (o .bytes)) (bitsOf (p .bits % 8) (p .last))
+      ∙ rw (length-bytes (o .bytes), length-bits (p .bits % 8) (p .last), o .size) (omega arith)
+
+  ended : Wrote (bits ++ bitsOf 11 0) (closedIn out p) (penPut p 0 11)
+  unfolding closedIn
+  ended = wrote-more p 0 11 (omega arith) (pow-pos 11) bits out o
+
+  ended-size : length (ended .bytes) ≡ (p .bits + 11) / 8
+  ended-size = ended .size ∙ ap (λ (n : ℕ). n / 8) (put-bits p 0 11 (omega arith) (pow-pos 11))
+
+  ended-is : ended .bytes ≡ logOf is
+  unfolding logOf
+  ended-is =
+      packed-is bits (ended .bytes) (bitsOf (penPut p 0 11 .bits % 8) (penPut p 0 11 .last)) (items-low is) (ended .small) (ap (_++_ bits) (sym (zero-bits 11)) ∙ ended .is)
+      (ended-size ∙ rw bits-long refl)
+
+  pub closed-size : closedSize p ≡ length (logOf is)
+  unfolding closedSize
+  closed-size = sym ended-size ∙ ap (λ (l : List ℕ). length l) ended-is
+
+  pub closed-long : length (closedIn out p) ≡ length out
+  unfolding closedIn
+  closed-long = put-long p 0 11 (omega arith) (pow-pos 11) out
+
+  pub closed-log : length (logOf is) + 7 ≤ length out → take (length (logOf is)) (closedIn out p) ≡ logOf is
+  closed-log h =
+      let n : ℕ = length (logOf is) in
+      let a : length (take n (closedIn out p)) ≡ n = length-take-le n (closedIn out p) (omega (arith, closed-long)) in
+      let s : length (ended .bytes) ≡ n = ap (λ (l : List ℕ). length l) ended-is in
+      ext-getD 0 (take n (closedIn out p)) (logOf is) a
+      (λ i k.
+      let j : i < n = omega (arith, a) in
+      let b : i < penPut p 0 11 .bits / 8 = rw (ended .size) at (rw (sym s) at j) in
+      getD-take n (closedIn out p) i 0 j ∙ ended .kept i (omega (arith, closed-long)) b ∙ ap (λ (l : List ℕ). getD l i 0) ended-is)

@@ -218,6 +218,19 @@ fn starts(
     }
 }
 
+// What a word starts where nothing is held.
+pub fn begin(kind: Kind, bus: u32, label: u32, information: u32) -> Step
+    requires { ⌜ (bus < 16) × (label < 16) × (information < 65536) ⌝ }
+    ensures { λ r. ⌜ r ≡ begun (flat Nothing) 0 0 (reader.starts kind bus label information) ⌝ }
+{
+    let held = nothing();
+    match kind {
+        Kind::Unused => refused(held),
+        Kind::Mil1553 => starts_on_1553(held, 0, 0, bus, label, information),
+        Kind::Arinc429 => starts_on_429(held, 0, 0, bus, label, information),
+    }
+}
+
 // The bits of an untagged command, or of an untagged ARINC word.
 fn base_width(base: u64) -> u32
     ensures { λ r. ⌜ r ≡ baseWidth base ⌝ }
@@ -226,7 +239,7 @@ fn base_width(base: u64) -> u32
 }
 
 // The word that is awaited, but for a status after its response: a time word, or the low syllable.
-fn goes_on(held: Holding, bus: u32, label: u32, information: u32) -> Step
+pub fn goes_on(held: Holding, bus: u32, label: u32, information: u32) -> Step
     requires { ⌜ (bus < 16) × (label < 16) × (information < 65536) ⌝ }
     requires { ⌜ Sane held × (held .awaits ≡ bus * 16 + label) × (held .awaits ≡ 0 → ⊥) ⌝ }
     ensures { λ r. ⌜ ((kinds : List Kind) → r ≡ stepOf (heldOf held) (reader.feed kinds (heldOf held) bus label information)) ⌝ }
@@ -254,7 +267,7 @@ fn goes_on(held: Holding, bus: u32, label: u32, information: u32) -> Step
 }
 
 // A word that is not awaited, while an item is unfinished: only a response, which a status of either side follows, takes it.
-fn answers(held: Holding, bus: u32, label: u32, information: u32) -> Step
+pub fn answers(held: Holding, bus: u32, label: u32, information: u32) -> Step
     requires { ⌜ (bus < 16) × (label < 16) × (information < 65536) ⌝ }
     requires { ⌜ Sane held × (held .awaits ≡ bus * 16 + label → ⊥) × (held .awaits ≡ 0 → ⊥) × (held .awaits % 16 ≡ 7 → ⊥) ⌝ }
     ensures { λ r. ⌜ ((kinds : List Kind) → r ≡ stepOf (heldOf held) (reader.feed kinds (heldOf held) bus label information)) ⌝ }

@@ -1,6 +1,5 @@
 -- The laws of the readings.
 pub mod ReadFills
-pub mod ReadWriter
 pub mod ReadPass
 pub mod ReadSlots
 pub mod ReadGroups

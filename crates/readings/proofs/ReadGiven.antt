@@ -7,7 +7,7 @@ use mathlib.Core.Path.{_≡_, refl, sym, ap, ap₂, subst, _∙_}
 use mathlib.Core.List.{List, [], _∷_, _++_}
 use lib.ListN.{length, take, drop}
 use lib.Dec.{leb, eqb, ltb}
-use borrow.Author.Tests.{le-leb, lt-leb, eq-eqb, ne-eqb}
+use borrow.Author.Tests.{le-leb, lt-leb, leb-true, eq-eqb, ne-eqb}
 use Rattle.format.specs.Lists.{list}
 use Rattle.format.specs.Log.{logOf}
 use Rattle.format.specs.Plan.{groupWords, legal}
@@ -27,7 +27,7 @@ use Rattle.readings.specs.declared.reading.Outcome.{Outcome}
 use Rattle.readings.specs.ReadFills.{earliest}
 use Rattle.readings.specs.ReadGroups.{groupsOn}
 use Rattle.readings.specs.ReadEnd.{EndsAs}
-use Rattle.readings.specs.ReadGiven.{timesNeeded, Built, Enough, Given}
+use Rattle.readings.specs.ReadGiven.{timesNeeded, earlier, roomNumber, Built, Enough, Given}
 
 pub given-refused : {g : Reading} {r : Answer} {number place : ℕ} (log times : List ℕ) → g ≡ refuses number place → r ≡ refusal number place → Given g r log log times times
 given-refused {g} {r} log times e a = subst (λ (x : Reading). Given x r log log times times) (sym e) (a, refl, refl)
@@ -36,20 +36,67 @@ given-whole : (g : Reading) (r : Answer) (log log′ times times′ whole table 
     → log′ ≡ whole ++ drop (length whole) log → times′ ≡ table ++ drop (length table) times → Given g r log log′ times times′
 given-whole g r log log′ times times′ whole table e a b c = subst (λ (x : Reading). Given x r log log′ times times′) (sym e) (a, b, c)
 
--- "6, 7"
+-- "6, 7", by the number
+abbrev by-tests : Bool → Bool → ℕ
+by-tests x w = cond x (cond w 0 7) 6
+
+number-by : (u v w : Bool) → _≡_ {A = ℕ} (earlier (cond u 0 6) (earlier (cond v 0 6) (cond w 0 7))) (by-tests (u && v) w)
+number-by true true true = refl
+number-by true true false = refl
+number-by true false true = refl
+number-by true false false = refl
+number-by false true true = refl
+number-by false true false = refl
+number-by false false true = refl
+number-by false false false = refl
+
+six-by : (x w : Bool) (g h k : Reading) → by-tests x w ≡ 6 → cond x (cond w g h) k ≡ k
+six-by true true g h k e = absurd (omega arith)
+six-by true false g h k e = absurd (omega arith)
+six-by false w g h k e = refl
+
+seven-by : (x w : Bool) (g h k : Reading) → by-tests x w ≡ 7 → cond x (cond w g h) k ≡ h
+seven-by true true g h k e = absurd (omega arith)
+seven-by true false g h k e = refl
+seven-by false w g h k e = absurd (omega arith)
+
+neither-by : (u v w : Bool) → (by-tests (u && v) w ≡ 6 → ⊥) → (by-tests (u && v) w ≡ 7 → ⊥) → (u ≡ true) × (v ≡ true) × (w ≡ true)
+neither-by true true true a b = (refl, refl, refl)
+neither-by true true false a b = absurd (b refl)
+neither-by true false w a b = absurd (a refl)
+neither-by false v w a b = absurd (a refl)
+
+pub fit : (bytes logRoom need timeRoom : ℕ) → (roomNumber bytes logRoom need timeRoom ≡ 6 → ⊥) → (roomNumber bytes logRoom need timeRoom ≡ 7 → ⊥)
+    → (bytes ≤ 32768) × (bytes ≤ logRoom) × (need ≤ timeRoom)
+unfolding roomNumber
+fit bytes logRoom need timeRoom a b =
+    let e = number-by (leb bytes 32768) (leb bytes logRoom) (leb need timeRoom) in
+    let r = neither-by (leb bytes 32768) (leb bytes logRoom) (leb need timeRoom) (λ z. a (e ∙ z)) (λ z. b (e ∙ z)) in
+    (leb-true bytes 32768 (r .0), leb-true bytes logRoom (r .1), leb-true need timeRoom (r .2))
+
 module _ (p : Plan) (c : List ℕ) (n logRoom timeRoom : ℕ) (whole : List ℕ) where
-  pub log-above : 32768 < length whole → roomed p c n logRoom timeRoom whole ≡ refuses 6 (length whole)
-  log-above h = rw (lt-leb (length whole) 32768 h) refl
+  abbrev number : ℕ
+  number = roomNumber (length whole) logRoom (timesNeeded p n) timeRoom
 
-  pub log-beyond : length whole ≤ 32768 → logRoom < length whole → roomed p c n logRoom timeRoom whole ≡ refuses 6 (length whole)
-  log-beyond h k = rw (le-leb (length whole) 32768 h, lt-leb (length whole) logRoom k) refl
+  abbrev given : Reading
+  given = gives whole (list (λ g. groupTime p c (g * groupWords p)) 0 (timesNeeded p n))
 
-  pub times-beyond : length whole ≤ 32768 → length whole ≤ logRoom → timeRoom < timesNeeded p n → roomed p c n logRoom timeRoom whole ≡ refuses 7 (timesNeeded p n)
-  times-beyond h k l = rw (le-leb (length whole) 32768 h, le-leb (length whole) logRoom k, lt-leb (timesNeeded p n) timeRoom l) refl
+  abbrev fits : Bool
+  fits = leb (length whole) 32768 && leb (length whole) logRoom
 
-  pub both-fit : length whole ≤ 32768 → length whole ≤ logRoom → timesNeeded p n ≤ timeRoom
-      → roomed p c n logRoom timeRoom whole ≡ gives whole (list (λ g. groupTime p c (g * groupWords p)) 0 (timesNeeded p n))
-  both-fit h k l = rw (le-leb (length whole) 32768 h, le-leb (length whole) logRoom k, le-leb (timesNeeded p n) timeRoom l) refl
+  number-is : number ≡ by-tests fits (leb (timesNeeded p n) timeRoom)
+  unfolding roomNumber
+  number-is = number-by (leb (length whole) 32768) (leb (length whole) logRoom) (leb (timesNeeded p n) timeRoom)
+
+  pub log-beyond : number ≡ 6 → roomed p c n logRoom timeRoom whole ≡ refuses 6 (length whole)
+  log-beyond e = six-by fits (leb (timesNeeded p n) timeRoom) given (refuses 7 (timesNeeded p n)) (refuses 6 (length whole)) (sym number-is ∙ e)
+
+  pub times-beyond : number ≡ 7 → roomed p c n logRoom timeRoom whole ≡ refuses 7 (timesNeeded p n)
+  times-beyond e = seven-by fits (leb (timesNeeded p n) timeRoom) given (refuses 7 (timesNeeded p n)) (refuses 6 (length whole)) (sym number-is ∙ e)
+
+  both-given : length whole ≤ 32768 → length whole ≤ logRoom → timesNeeded p n ≤ timeRoom
+      → roomed p c n logRoom timeRoom whole ≡ given
+  both-given h k l = rw (le-leb (length whole) 32768 h, le-leb (length whole) logRoom k, le-leb (timesNeeded p n) timeRoom l) refl
 
 table-long : (p : Plan) (c : List ℕ) (k : ℕ) → length (list (λ g. groupTime p c (g * groupWords p)) 0 k) ≡ k
 table-long p c k = length-list (λ g. groupTime p c (g * groupWords p)) 0 k
@@ -63,7 +110,7 @@ times-few p n = go (p .«frame_time»)
 
 -- the log is copied and the times are written
 pub given-copied : (p : Plan) (c : List ℕ) (n : ℕ) (whole built : List ℕ) (bytes need : ℕ) (log log′ times times′ : List ℕ) → Built whole built bytes
-    → bytes ≤ 32768 → bytes ≤ length log → bytes ≤ length built → need ≡ timesNeeded p n → need ≤ length times
+    → bytes ≤ 32768 → bytes ≤ length log → bytes + 7 ≤ length built → need ≡ timesNeeded p n → need ≤ length times
     → log′ ≡ take bytes built ++ drop bytes log → times′ ≡ list (λ g. groupTime p c (g * groupWords p)) 0 need ++ drop need times
     → Given (roomed p c n (length log) (length times) whole) (success bytes need) log log′ times times′
 given-copied p c n whole built bytes need log log′ times times′ b small fits room e some el et =
@@ -73,7 +120,7 @@ given-copied p c n whole built bytes need log log′ times times′ b small fits
     let y : length whole ≤ length log = omega (arith, b .size) in
     let z : timesNeeded p n ≤ length times = omega (arith, e) in
     given-whole (roomed p c n (length log) (length times) whole) (success bytes need) log log′ times times′ whole table
-    (both-fit p c n (length log) (length times) whole x y z)
+    (both-given p c n (length log) (length times) whole x y z)
     (ap₂ success (b .size) (e ∙ sym t))
     (el ∙ ap₂ (λ (l : List ℕ) (k : ℕ). l ++ drop k log) (b .is room) (b .size))
     (et ∙ ap (λ (k : ℕ). list (λ g. groupTime p c (g * groupWords p)) 0 k ++ drop k times) e ∙ ap (λ (k : ℕ). table ++ drop k times) (sym t))

@@ -31,7 +31,7 @@ use Rattle.readings.specs.declared.reading.Pass.{Pass}
 use Rattle.readings.specs.declared.reading.Fills.{Fills}
 use Rattle.readings.specs.declared.reading.Walk.{Walk}
 use Rattle.readings.specs.ReadFills.{noFill, fillsIn, fillsOver}
-use Rattle.readings.specs.ReadWriter.{Ready, Wrote}
+use Rattle.pen.specs.Pen.{Wrote}
 use Rattle.readings.specs.ReadPass.{Sound, Brought, RanTo}
 use Rattle.readings.specs.ReadGroups.{startPass, groupsOn, Over, Through, Walked}
 
@@ -115,7 +115,7 @@ brought-more {x₀} {x} {y} {out₀} {out} {out′} {is} {js} a b = record {
   sound = b .sound;
   long = b .long ∙ a .long;
   wrote = λ bits w.
-      subst (λ (n : List ℕ). Wrote n out′ (y .writer)) (append-assoc bits (flatMap itemBits is) (flatMap itemBits js) ∙ ap (_++_ bits) (sym (flatMap-append itemBits is js)))
+      subst (λ (n : List ℕ). Wrote n out′ (y .pen)) (append-assoc bits (flatMap itemBits is) (flatMap itemBits js) ∙ ap (_++_ bits) (sym (flatMap-append itemBits is js)))
       (b .wrote (bits ++ flatMap itemBits is) (a .wrote bits w));
 }
 
@@ -127,9 +127,9 @@ module _ (ks : List Kind) (p : Plan) (c : List ℕ) (n : ℕ) (out₀ : List ℕ
     is = ap₂ (λ (k : ℕ) (h : Held). readGroups p ks c k 0 h 0) z (sym nothing-is-held) ∙ sym (before-none (readGroups p ks c (n - 0) 0 (heldOf (flat Nothing)) 0));
     fill = ap (λ (k : ℕ). fillsOver p (groupsOn p c 0 k) noFill) z;
     brought = record {
-      sound = record { good = refl; sane = nothing-is-sane; ready = record { few = omega arith; low = omega arith } };
+      sound = record { good = refl; sane = nothing-is-sane };
       long = refl;
-      wrote = λ bits w. subst (λ (l : List ℕ). Wrote l out₀ (startPass .writer)) (sym (append-nil bits)) w;
+      wrote = λ bits w. subst (λ (l : List ℕ). Wrote l out₀ (startPass .pen)) (sym (append-nil bits)) w;
     };
     few = omega arith;
   })
@@ -179,7 +179,7 @@ module _ (ks : List Kind) (p : Plan) (c : List ℕ) (n : ℕ) (out₀ : List ℕ
         sound-next e w ∙ ap (λ (y : Ran). before (a .items) (onward y (λ h q. readGroups p ks c (n - (g + 1)) (g + 1) h q))) (bad-at here r out′ f m z)
 
     more-of : (y : Ran) {r : Pass} {out′ : List ℕ} → RanTo x out y (fillsIn p 0 (groupSlots p c first) (x .fills)) r out′ → r .bad ≡ false
-        → r .writer .at ≤ 16 * (first + groupWords p)
+        → r .pen .bits ≤ 128 * (first + groupWords p)
         → readGroups p ks c n 0 Nothing 0 ≡ before (a .items) (onward y (λ h q. readGroups p ks c (n - (g + 1)) (g + 1) h q))
         → Over ks p c n out₀ (g + 1) r out′
     more-of (badAt q) m z l e = clash (sym z ∙ m .0)
@@ -193,7 +193,7 @@ module _ (ks : List Kind) (p : Plan) (c : List ℕ) (n : ℕ) (out₀ : List ℕ
     }
 
     pub over-more : {d : Found} {r : Pass} {out′ : List ℕ} → d ≡ faultOf (groupFault p c first) → d .number ≡ 0
-        → RanTo x out here (fillsIn p 0 (groupSlots p c first) (x .fills)) r out′ → r .bad ≡ false → r .writer .at ≤ 16 * (first + groupWords p)
+        → RanTo x out here (fillsIn p 0 (groupSlots p c first) (x .fills)) r out′ → r .bad ≡ false → r .pen .bits ≤ 128 * (first + groupWords p)
         → Over ks p c n out₀ (g + 1) r out′
     over-more e w m z l = more-of here m z l (sound-next e w)
 

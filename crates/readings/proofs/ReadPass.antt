@@ -21,72 +21,52 @@ use Rattle.reader.specs.Holding.{heldOf, Sane}
 use Rattle.reader.specs.Step.{stepOf}
 use Rattle.reader.specs.Meaning.{Means, Brings}
 use Rattle.reader.proofs.Meaning.{feed-means}
+use Rattle.taking.proofs.Items.{more-more}
+use Rattle.taking.proofs.Slots.{bus-low, label-low, info-low}
 use Rattle.readings.specs.declared.reading.Fills.{Fills}
-use Rattle.readings.specs.declared.reading.Writer.{Writer}
+use Rattle.pen.specs.declared.Pen.{Pen}
 use Rattle.readings.specs.declared.reading.Pass.{Pass}
 use Rattle.readings.specs.ReadFills.{onFill, onData, onSlot, fillsIn}
-use Rattle.readings.specs.ReadWriter.{longPut, longIn, Ready, Wrote}
-use Rattle.readings.specs.ReadPass.{Strings, fillPass, stepWriter, stepOut, stepPass, wordStep, slotPass, slotOut, Sound, Brought, RanTo, Along}
+use Rattle.pen.specs.Pen.{penPut, penIn, Wrote}
+use Rattle.pen.proofs.Writing.{put-bits, put-long, wrote-more}
+use Rattle.readings.specs.ReadPass.{Strings, fillPass, stepPen, stepOut, stepPass, wordStep, slotPass, slotOut, Sound, Brought, RanTo, Along}
 use Rattle.readings.proofs.ReadFills.{yes-or-no}
-use Rattle.readings.proofs.ReadWriter.{long-ready, long-at, long-in-length, wrote-long}
-
-pub more-more : (is js : List Item) (r : Ran) → more is (more js r) ≡ more (is ++ js) r
-more-more is js (badAt p) = refl
-more-more is js (ran ks h p) = ap (λ (l : List Item). ran l h p) (sym (append-assoc is js ks))
-
--- ---- a word's fields
-
-pub bus-low : (parity : Bool) (w : ℕ) → w < 2 ^ 24 → busOf parity w < 16
-unfolding busOf
-bus-low true w h = omega arith
-bus-low false w h = omega arith
-
-pub label-low : (w : ℕ) → labelOf w < 16
-unfolding labelOf
-label-low w = omega arith
-
-pub info-low : (w : ℕ) → infoOf w < 65536
-unfolding infoOf
-info-low w = omega arith
 
 -- ---- a step's two strings in the log
 
-module _ (is : List Item) (h : Held) (r : Step) (b : Brings is h r) (w : Writer) (ready : Ready w) where
-  first-short : r .«first_width» ≤ 64
+module _ (is : List Item) (h : Held) (r : Step) (b : Brings is h r) (w : Pen) where
+  first-short : r .«first_width» ≤ 56
   first-short = omega (arith, b .first-short)
 
-  second-short : r .«second_width» ≤ 64
+  second-short : r .«second_width» ≤ 56
   second-short = omega (arith, b .second-short)
 
-  half-ready : Ready (longPut w (r .first) (r .«first_width»))
-  half-ready = long-ready w (r .first) (r .«first_width») ready first-short (b .first-fits)
+  abbrev half : Pen
+  half = penPut w (r .first) (r .«first_width»)
 
-  pub step-ready : Ready (stepWriter w r)
-  step-ready = long-ready (longPut w (r .first) (r .«first_width»)) (r .second) (r .«second_width») half-ready second-short (b .second-fits)
-
-  pub step-at : stepWriter w r .at ≤ w .at + 16
-  step-at =
+  pub step-bits : stepPen w r .bits ≤ w .bits + 92
+  step-bits =
       omega (
         arith,
-        long-at w (r .first) (r .«first_width») ready first-short (b .first-fits),
-        long-at (longPut w (r .first) (r .«first_width»)) (r .second) (r .«second_width») half-ready second-short (b .second-fits),
+        b .first-short,
+        b .second-short,
+        put-bits w (r .first) (r .«first_width») first-short (b .first-fits),
+        put-bits half (r .second) (r .«second_width») second-short (b .second-fits),
       )
 
   pub step-long : (out : List ℕ) → length (stepOut out w r) ≡ length out
   step-long out =
-      long-in-length (longPut w (r .first) (r .«first_width»)) (r .second) (r .«second_width») half-ready second-short (b .second-fits) (longIn out w (r .first) (r .«first_width»))
-      ∙ long-in-length w (r .first) (r .«first_width») ready first-short (b .first-fits) out
+      put-long half (r .second) (r .«second_width») second-short (b .second-fits) (penIn out w (r .first) (r .«first_width»))
+      ∙ put-long w (r .first) (r .«first_width») first-short (b .first-fits) out
 
-  pub step-wrote : (bits out : List ℕ) → length out % 4 ≡ 0 → Wrote bits out w → Wrote (bits ++ flatMap itemBits is) (stepOut out w r) (stepWriter w r)
-  step-wrote bits out l x =
+  pub step-wrote : (bits out : List ℕ) → Wrote bits out w → Wrote (bits ++ flatMap itemBits is) (stepOut out w r) (stepPen w r)
+  step-wrote bits out x =
       let a : List ℕ = bitsOf (r .«first_width») (r .first) in
       let z : List ℕ = bitsOf (r .«second_width») (r .second) in
-      let m : length (longIn out w (r .first) (r .«first_width»)) % 4 ≡ 0 =
-      ap (λ (n : ℕ). n % 4) (long-in-length w (r .first) (r .«first_width») ready first-short (b .first-fits) out) ∙ l in
-      let y : Wrote ((bits ++ a) ++ z) (stepOut out w r) (stepWriter w r) =
-      wrote-long (longPut w (r .first) (r .«first_width»)) (r .second) (r .«second_width») half-ready second-short (b .second-fits) (bits ++ a) (longIn out w (r .first) (r .«first_width»)) m
-      (wrote-long w (r .first) (r .«first_width») ready first-short (b .first-fits) bits out l x) in
-      subst (λ (n : List ℕ). Wrote n (stepOut out w r) (stepWriter w r)) (append-assoc bits a z ∙ ap (_++_ bits) (b .bits)) y
+      let y : Wrote ((bits ++ a) ++ z) (stepOut out w r) (stepPen w r) =
+      wrote-more half (r .second) (r .«second_width») second-short (b .second-fits) (bits ++ a) (penIn out w (r .first) (r .«first_width»))
+      (wrote-more w (r .first) (r .«first_width») first-short (b .first-fits) bits out x) in
+      subst (λ (n : List ℕ). Wrote n (stepOut out w r) (stepPen w r)) (append-assoc bits a z ∙ ap (_++_ bits) (b .bits)) y
 
 -- a step that is not bad has strings that fit, and what it holds is sound
 pub fed-fits : (f : Fed) (r : Step) → Means f r → r .bad ≡ false → Strings r × Sane (r .held)
@@ -134,7 +114,7 @@ module _ (ks : List Kind) (p : Plan) (slots : List Slot) (x₀ : Pass) (out₀ :
     is = a .is ∙ ap (more (a .items)) (run-fill e);
     fill = a .fill ∙ rw e refl;
     brought = record {
-      sound = record { good = refl; sane = a .brought .sound .sane; ready = a .brought .sound .ready };
+      sound = record { good = refl; sane = a .brought .sound .sane };
       long = a .brought .long;
       wrote = a .brought .wrote;
     };
@@ -142,12 +122,11 @@ module _ (ks : List Kind) (p : Plan) (slots : List Slot) (x₀ : Pass) (out₀ :
   }
 
   along-fed : (f : Fed) → isFill (s .1) ≡ false → feed ks (heldOf (x .held)) (busOf (p .parity) (s .1)) (labelOf (s .1)) (infoOf (s .1)) ≡ f → (r : Step) → Means f r
-      → r .bad ≡ false → length out₀ % 4 ≡ 0 → Along ks p slots x₀ out₀ i (s ∷ rest) x out
-      → Along ks p slots x₀ out₀ (i + 1) rest (stepPass (s .0) x r) (stepOut out (x .writer) r)
+      → r .bad ≡ false → Along ks p slots x₀ out₀ i (s ∷ rest) x out
+      → Along ks p slots x₀ out₀ (i + 1) rest (stepPass (s .0) x r) (stepOut out (x .pen) r)
   unfolding fillsIn
-  along-fed bad e g r m z l a = clash (sym z ∙ m)
-  along-fed (fed is h) e g r m z l a =
-      let o : length out % 4 ≡ 0 = ap (λ (n : ℕ). n % 4) (a .brought .long) ∙ l in
+  along-fed bad e g r m z a = clash (sym z ∙ m)
+  along-fed (fed is h) e g r m z a =
       rw z
       (record {
         items = a .items ++ is;
@@ -155,14 +134,14 @@ module _ (ks : List Kind) (p : Plan) (slots : List Slot) (x₀ : Pass) (out₀ :
             ∙ ap (λ (k : Held). more (a .items ++ is) (run ks (p .parity) rest k (since k (x .since) (s .0)))) (sym (m .holds));
         fill = a .fill ∙ rw e refl;
         brought = record {
-          sound = record { good = refl; sane = m .sane; ready = step-ready is h r m (x .writer) (a .brought .sound .ready) };
-          long = step-long is h r m (x .writer) (a .brought .sound .ready) out ∙ a .brought .long;
+          sound = record { good = refl; sane = m .sane };
+          long = step-long is h r m (x .pen) out ∙ a .brought .long;
           wrote = λ bits y.
-              subst (λ (n : List ℕ). Wrote n (stepOut out (x .writer) r) (stepWriter (x .writer) r))
+              subst (λ (n : List ℕ). Wrote n (stepOut out (x .pen) r) (stepPen (x .pen) r))
               (append-assoc bits (flatMap itemBits (a .items)) (flatMap itemBits is) ∙ ap (_++_ bits) (sym (flatMap-append itemBits (a .items) is)))
-              (step-wrote is h r m (x .writer) (a .brought .sound .ready) (bits ++ flatMap itemBits (a .items)) out o (a .brought .wrote bits y));
+              (step-wrote is h r m (x .pen) (bits ++ flatMap itemBits (a .items)) out (a .brought .wrote bits y));
         };
-        few = omega (arith, a .few, step-at is h r m (x .writer) (a .brought .sound .ready));
+        few = omega (arith, a .few, step-bits is h r m (x .pen));
       })
 
   along-bad : (f : Fed) → isFill (s .1) ≡ false → feed ks (heldOf (x .held)) (busOf (p .parity) (s .1)) (labelOf (s .1)) (infoOf (s .1)) ≡ f → (r : Step) → Means f r
@@ -172,17 +151,17 @@ module _ (ks : List Kind) (p : Plan) (slots : List Slot) (x₀ : Pass) (out₀ :
   along-bad (fed is h) e g r m z a = clash (sym (m .good) ∙ z)
 
   -- what the slot does, as the code has it
-  pub along-step : s .1 < 2 ^ 24 → length out₀ % 4 ≡ 0 → Along ks p slots x₀ out₀ i (s ∷ rest) x out
+  pub along-step : s .1 < 2 ^ 24 → Along ks p slots x₀ out₀ i (s ∷ rest) x out
       → slotPass ks (p .parity) i (s .0) (s .1) x .bad ≡ false
       → Along ks p slots x₀ out₀ (i + 1) rest (slotPass ks (p .parity) i (s .0) (s .1) x) (slotOut ks (p .parity) (s .1) x out)
   unfolding slotPass slotOut
-  along-step low l a z =
+  along-step low a z =
       yes-or-no (isFill (s .1)) (λ e. rw e (along-fill e a))
       (λ e.
       let r : Step = wordStep ks (p .parity) (s .1) x in
       let y : stepPass (s .0) x r .bad ≡ false = rw e at z in
       yes-or-no (r .bad) (λ b. clash (sym (rw b at y)))
-      (λ b. rw e (rw b (rw b at (along-fed _ e refl r (word-means ks (p .parity) (s .1) x low (a .brought .sound .sane)) b l a)))))
+      (λ b. rw e (rw b (rw b at (along-fed _ e refl r (word-means ks (p .parity) (s .1) x low (a .brought .sound .sane)) b a)))))
 
   pub along-stop : s .1 < 2 ^ 24 → Along ks p slots x₀ out₀ i (s ∷ rest) x out → slotPass ks (p .parity) i (s .0) (s .1) x .bad ≡ true
       → (run ks (p .parity) slots (heldOf (x₀ .held)) (x₀ .since) ≡ badAt (s .0)) × (slotPass ks (p .parity) i (s .0) (s .1) x .since ≡ s .0)

@@ -28,7 +28,7 @@ use Rattle.format.specs.Laws.Accepted.Faultless.{accepted-parts}
 use Rattle.group.specs.Shape.{Shape}
 use Rattle.readings.specs.ReadGiven.{Enough}
 use Rattle.readings.proofs.ReadFills.{yes-or-no}
-use Rattle.readings.proofs.ReadSlots.{slots-few}
+use Rattle.taking.proofs.Slots.{slots-few}
 use Rattle.readings.proofs.ReadGiven.{whole-groups}
 
 item-short : (i : Item) → length (itemBits i) ≤ 26 * length (itemParts i)
@@ -101,7 +101,7 @@ module _ (p : Plan) (c : List ℕ) (bytes : (i : ℕ) → getD c i 0 < 256) wher
       (omega (arith, slots-few p s, slots-count s n (g + 1)))
 
   -- 628 words and their end mark fit 2,048 bytes
-  pub small-enough : (ks : List Kind) (room : ℕ) → Shape p → length c % (3 * groupWords p) ≡ 0 → length c ≤ 1884 → Enough p ks c 2048 room
+  pub small-enough : (ks : List Kind) (room : ℕ) → Shape p → length c % (3 * groupWords p) ≡ 0 → length c ≤ 1884 → Enough p ks c 2056 room
   small-enough ks room s z h = record {
     room = λ is e a b.
         let n : ℕ = length c / (3 * groupWords p) in
@@ -112,5 +112,5 @@ module _ (p : Plan) (c : List ℕ) (bytes : (i : ℕ) → getD c i 0 < 256) wher
   }
 
 -- and so does every log that a small room holds
-pub room-enough : (p : Plan) (ks : List Kind) (c : List ℕ) (room : ℕ) → room ≤ 2048 → Enough p ks c 2048 room
+pub room-enough : (p : Plan) (ks : List Kind) (c : List ℕ) (room : ℕ) → room ≤ 2048 → Enough p ks c 2056 room
 room-enough p ks c room h = record { room = λ is e a b. omega arith }

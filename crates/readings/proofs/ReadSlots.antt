@@ -4,10 +4,10 @@ use native.Mathlib.Nat.{mod-lt, div-lt-iff-lt-mul, mul-comm, mul-le-mul-right, m
 use native.Mathlib.Omega.{arith}
 use mathlib.Core.Bool.{Bool, true, false}
 use mathlib.Core.Path.{_≡_, refl, sym, ap, ap₂, subst, _∙_}
-use mathlib.Core.List.{List, [], _∷_, _++_, append-nil, flatMap}
+use mathlib.Core.List.{List, [], _∷_, _++_, append-assoc, append-nil, flatMap}
 use lib.ListN.{length}
 use Rattle.format.specs.Lists.{list}
-use Rattle.format.specs.Word.{wordAt}
+use Rattle.format.specs.Word.{wordAt, wordOf, isFill, busOf, labelOf, infoOf, fill}
 use Rattle.format.specs.Plan.{rows, lead, slots, placeOf, groupWords}
 use Rattle.format.specs.Group.{groupSlots}
 use Rattle.format.specs.Item.{itemBits}
@@ -19,102 +19,68 @@ use Rattle.format.specs.declared.Held.{Held}
 use Rattle.format.specs.declared.Plan.{Plan}
 use Rattle.group.specs.Shape.{Shape}
 use Rattle.group.specs.declared.reading.Position.{Position}
-use Rattle.group.specs.Position.{positionOf, slotAt, placeAt}
-use Rattle.group.proofs.ReadingPlaces.{slot-of-position, place-of-position}
+use Rattle.group.specs.Position.{positionOf}
 use Rattle.word.specs.Stored.{threeAt}
 use Rattle.word.proofs.Stored.{word-at-is-three}
 use Rattle.reader.specs.Holding.{heldOf, Sane}
+use Rattle.taking.specs.Slots.{wordIn, slotsOn, Ahead}
+use Rattle.taking.specs.declared.Taken.{Taken}
+use Rattle.taking.specs.Taken.{Filled, Took}
+use Rattle.taking.proofs.Slots.{slots-all, slots-next, slots-none}
+use Rattle.taking.proofs.Items.{held-none, more-more, more-none}
+use Rattle.format.specs.declared.Held.the-variants.{Nothing}
+use Rattle.format.specs.Laws.Tests.{clash}
+use Rattle.format.specs.Laws.Lists.{flatMap-append}
+use Rattle.readings.proofs.ReadFills.{yes-or-no}
+use lib.Dec.{eqb}
+use borrow.Author.Tests.{eqb-true}
 use Rattle.readings.specs.declared.reading.Pass.{Pass}
 use Rattle.readings.specs.declared.reading.Fills.{Fills}
-use Rattle.readings.specs.ReadFills.{fillsIn}
-use Rattle.readings.specs.ReadWriter.{Wrote}
-use Rattle.readings.specs.ReadPass.{slotPass, slotOut, Sound, Brought, RanTo, Along}
+use Rattle.readings.specs.ReadFills.{fillsIn, onData, quiet}
+use Rattle.pen.specs.Pen.{Wrote}
+use Rattle.readings.specs.ReadPass.{slotPass, slotOut, takenFrom, itemsPass, Sound, Brought, RanTo, Along}
 use Rattle.readings.proofs.ReadPass.{along-step, along-stop}
 
--- ---- where the slots are
+pub ahead-in : {p : Plan} {c : List ℕ} {g s : ℕ} {q : Position} (n : ℕ) → s + n ≤ slots p → Ahead p c g s 0 q → Ahead p c g s n q
+ahead-in n h a = record { is = a .is; room = h; within = a .within; small = a .small; shape = a .shape }
 
-bit-low : (b : Bool) → bit b ≤ 1
-bit-low true = omega arith
-bit-low false = omega arith
+-- fill that changes nothing
 
-rows-low : (p : Plan) → Shape p → rows p + 1 ≤ p .words
-unfolding rows
-rows-low p s = omega (arith, bit-low (p .crc), s .words-over)
+fill-is-fill : isFill fill ≡ true
+unfolding isFill labelOf infoOf fill wordOf
+fill-is-fill = refl
 
-pub slots-few : (p : Plan) → Shape p → slots p ≤ groupWords p
-unfolding slots
-slots-few p s =
-    let a : rows p ≤ p .words = omega (arith, rows-low p s) in
-    omega (arith, mul-le-mul-left (p .tracks) a)
+fill-bus : (parity : Bool) → busOf parity fill ≡ 0
+unfolding busOf fill wordOf
+fill-bus true = refl
+fill-bus false = refl
 
--- the slot i of a group is a dealt word above the last row
-row-low : (p : Plan) (i : ℕ) → Shape p → i < slots p → (lead p + i) / p .tracks < rows p
-unfolding slots
-row-low p i s h =
-    let a : lead p + i < p .tracks * rows p = omega arith in
-    let b : lead p + i < rows p * p .tracks = rw (mul-comm (rows p) (p .tracks)) a in
-    div-lt-iff-lt-mul (s .tracks-over) .1 b
+quiet-is : (f : Fills) (i w : ℕ) → quiet f i w ≡ true → (w ≡ fill) × (eqb (f .first) 0 ≡ false) × (eqb i 0 ≡ false)
+quiet-is f i w e =
+    yes-or-no (eqb w fill)
+    (λ a.
+    yes-or-no (eqb (f .first) 0) (λ b. clash (rw (a, b) at e))
+    (λ b. yes-or-no (eqb i 0) (λ d. clash (rw (a, b, d) at e)) (λ d. (eqb-true w fill a, b, d))))
+    (λ a. clash (rw a at e))
 
-pub slot-within : (p : Plan) (i : ℕ) → Shape p → i < slots p
-    → (positionOf p (lead p + i) .track < p .tracks) × (positionOf p (lead p + i) .row < p .words)
-slot-within p i s h = (mod-lt (lead p + i) (s .tracks-over), omega (arith, row-low p i s h, rows-low p s))
+quiet-pass : (ks : List Kind) (parity : Bool) (i place w : ℕ) (x : Pass) → x .bad ≡ false → quiet (x .fills) i w ≡ true → x ≡ slotPass ks parity i place w x
+unfolding slotPass
+quiet-pass ks parity i place w x good e =
+    let q = quiet-is (x .fills) i w e in
+    rw (q .0, fill-is-fill, fill-bus parity, q .1, q .2, ← good) refl
 
-pub slot-place : (p : Plan) (i : ℕ) → Shape p → i < slots p → placeOf p (lead p + i) + 1 ≤ groupWords p
-unfolding placeOf
-slot-place p i s h =
-    let t : ℕ = (lead p + i) % p .tracks in
-    let a : suc t ≤ p .tracks = mod-lt (lead p + i) (s .tracks-over) in
-    omega (arith, mul-le-mul-right (p .words) a, row-low p i s h, rows-low p s)
-
--- the position goes on from slot to slot
-pub first-is : (p : Plan) {at : Position} → at ≡ positionOf p (lead p) → at ≡ positionOf p (lead p + 0)
-first-is p e =
-    let z : lead p ≡ lead p + 0 = omega arith in
-    e ∙ ap (positionOf p) z
-
-pub next-is : (p : Plan) (i : ℕ) {at next : Position} → at ≡ positionOf p (lead p + i) → next ≡ positionOf p (slotAt p at + 1) → next ≡ positionOf p (lead p + (i + 1))
-next-is p i e n =
-    let z : lead p + i + 1 ≡ lead p + (i + 1) = omega arith in
-    n ∙ ap (λ (q : Position). positionOf p (slotAt p q + 1)) e ∙ ap (λ (s : ℕ). positionOf p (s + 1)) (slot-of-position p (lead p + i)) ∙ ap (positionOf p) z
-
-pub place-is : (p : Plan) (i : ℕ) {at : Position} {place : ℕ} → at ≡ positionOf p (lead p + i) → place ≡ placeAt p at → place ≡ placeOf p (lead p + i)
-place-is p i e n = n ∙ ap (placeAt p) e ∙ place-of-position p (lead p + i)
-
-pub word-is : (c : List ℕ) (place : ℕ) {word : ℕ} → word ≡ threeAt c (3 * place) → word ≡ wordAt c place
-word-is c place e = e ∙ sym (word-at-is-three c place)
+quiet-out : (ks : List Kind) (parity : Bool) (i w : ℕ) (x : Pass) (out : List ℕ) → quiet (x .fills) i w ≡ true → out ≡ slotOut ks parity w x out
+unfolding slotOut
+quiet-out ks parity i w x out e = let q = quiet-is (x .fills) i w e in rw (q .0, fill-is-fill) refl
 
 -- ---- the slots of a group
 
--- the slot of the dealt word s, and the slots of the group from the slot i on
 abbrev slot : Plan → List ℕ → ℕ → ℕ → Slot
 slot p c g s = (g + placeOf p s, wordAt c (g + placeOf p s))
 
-abbrev pub slotsOn : Plan → List ℕ → ℕ → ℕ → List Slot
-slotsOn p c g i = list (slot p c g) (lead p + i) (slots p - i)
-
-slots-all : (p : Plan) (c : List ℕ) (g : ℕ) → groupSlots p c g ≡ slotsOn p c g 0
-unfolding groupSlots
-slots-all p c g =
-    let a : lead p ≡ lead p + 0 = omega arith in
-    let b : slots p ≡ slots p - 0 = omega arith in
-    ap₂ (list (slot p c g)) a b
-
-slots-next : (p : Plan) (c : List ℕ) (g i : ℕ) → i < slots p → slotsOn p c g i ≡ slot p c g (lead p + i) ∷ slotsOn p c g (i + 1)
-unfolding list
-slots-next p c g i h =
-    let a : slots p - i ≡ suc (slots p - (i + 1)) = omega arith in
-    let b : lead p + i + 1 ≡ lead p + (i + 1) = omega arith in
-    rw (a, b) refl
-
-slots-none : (p : Plan) (c : List ℕ) (g i : ℕ) → slots p ≤ i → slotsOn p c g i ≡ []
-unfolding list
-slots-none p c g i h =
-    let a : slots p - i ≡ 0 = omega arith in
-    rw a refl
-
-more-none : (r : Ran) → more [] r ≡ r
-more-none (badAt q) = refl
-more-none (ran is h q) = refl
+data-step : (p : Plan) (i : ℕ) (s : Slot) (ss : List Slot) (f : Fills) → isFill (s .1) ≡ false → fillsIn p i (s ∷ ss) f ≡ fillsIn p (i + 1) ss (onData f)
+unfolding fillsIn
+data-step p i s ss f e = rw e refl
 
 run-none : (ks : List Kind) (parity : Bool) (is : List Item) (h : Held) (q : ℕ) → more is (run ks parity [] h q) ≡ ran is h q
 unfolding run
@@ -135,7 +101,7 @@ module _ (ks : List Kind) (p : Plan) (c : List ℕ) (g : ℕ) (x₀ : Pass) (out
     items = [];
     is = ap (λ (l : List Slot). run ks (p .parity) l (heldOf (x₀ .held)) (x₀ .since)) (slots-all p c g) ∙ sym (more-none (run ks (p .parity) (slotsOn p c g 0) (heldOf (x₀ .held)) (x₀ .since)));
     fill = ap (λ (l : List Slot). fillsIn p 0 l (x₀ .fills)) (slots-all p c g);
-    brought = record { sound = s; long = refl; wrote = λ bits y. subst (λ (l : List ℕ). Wrote l out₀ (x₀ .writer)) (sym (append-nil bits)) y };
+    brought = record { sound = s; long = refl; wrote = λ bits y. subst (λ (l : List ℕ). Wrote l out₀ (x₀ .pen)) (sym (append-nil bits)) y };
     few = omega arith;
   }
 
@@ -150,14 +116,14 @@ module _ (ks : List Kind) (p : Plan) (c : List ℕ) (g : ℕ) (x₀ : Pass) (out
   here-low : (i : ℕ) {place word : ℕ} → place ≡ g + placeOf p (lead p + i) → word ≡ wordAt c place → word < 2 ^ 24 → wordAt c (g + placeOf p (lead p + i)) < 2 ^ 24
   here-low i e w low = rw (w, e) at low
 
-  pub passed-more : (i : ℕ) {x r : Pass} {out out′ : List ℕ} {place word : ℕ} → i < slots p → length out₀ % 4 ≡ 0 → Passed i x out
+  pub passed-more : (i : ℕ) {x r : Pass} {out out′ : List ℕ} {place word : ℕ} → i < slots p → Passed i x out
       → place ≡ g + placeOf p (lead p + i) → word ≡ wordAt c place → word < 2 ^ 24
       → r ≡ slotPass ks (p .parity) i place word x → out′ ≡ slotOut ks (p .parity) word x out → r .bad ≡ false → Passed (i + 1) r out′
-  passed-more i {x} {r} {out} {out′} {place} {word} h l a e w low er eo z =
+  passed-more i {x} {r} {out} {out′} {place} {word} h a e w low er eo z =
       let q = here i x e w er in
       let o : out′ ≡ slotOut ks (p .parity) (wordAt c (g + placeOf p (lead p + i))) x out = eo ∙ rw (w, e) refl in
       rw (q, o)
-      (along-step ks p (groupSlots p c g) x₀ out₀ i (slot p c g (lead p + i)) (slotsOn p c g (i + 1)) x out (here-low i e w low) l (next i h a) (rw q at z))
+      (along-step ks p (groupSlots p c g) x₀ out₀ i (slot p c g (lead p + i)) (slotsOn p c g (i + 1)) x out (here-low i e w low) (next i h a) (rw q at z))
 
   pub passed-bad : (i : ℕ) {x r : Pass} {out : List ℕ} (out′ : List ℕ) {place word : ℕ} (f : Fills) → i < slots p → Passed i x out
       → place ≡ g + placeOf p (lead p + i) → word ≡ wordAt c place → word < 2 ^ 24
@@ -174,3 +140,47 @@ module _ (ks : List Kind) (p : Plan) (c : List ℕ) (g : ℕ) (x₀ : Pass) (out
       let b : Along ks p (groupSlots p c g) x₀ out₀ i [] x out = rw (slots-none p c g i h) at a in
       subst (λ (y : Ran). RanTo x₀ out₀ y (fillsIn p 0 (groupSlots p c g) (x₀ .fills)) x out) (sym (b .is ∙ run-none ks (p .parity) (b .items) (heldOf (x .held)) (x .since)))
       (b .brought, refl, refl, sym (b .fill ∙ fills-none p i (x .fills)))
+
+  -- data words all the way
+  fills-next : (i : ℕ) (f : Fills) → i < slots p → isFill (wordIn p c g i) ≡ false → fillsIn p i (slotsOn p c g i) f ≡ fillsIn p (i + 1) (slotsOn p c g (i + 1)) (onData f)
+  fills-next i f h e = ap (λ (l : List Slot). fillsIn p i l f) (slots-next p c g i h) ∙ one
+    where
+      one : fillsIn p i (slot p c g (lead p + i) ∷ slotsOn p c g (i + 1)) f ≡ fillsIn p (i + 1) (slotsOn p c g (i + 1)) (onData f)
+      one = data-step p i (slot p c g (lead p + i)) (slotsOn p c g (i + 1)) f e
+
+  fills-data : (n i : ℕ) (f : Fills) → i + n ≤ slots p → Filled ks p c g i (i + n) → (n ≡ 0 → ⊥) → fillsIn p i (slotsOn p c g i) f ≡ fillsIn p (i + n) (slotsOn p c g (i + n)) (onData f)
+  fills-data zero i f h d z = absurd (z refl)
+  fills-data (suc zero) i f h d z = fills-next i f (omega arith) (d .none i (omega arith) (omega arith))
+  fills-data (suc (suc n)) i f h d z =
+      let m : i + 1 + suc n ≡ i + suc (suc n) = omega arith in
+      let r : Filled ks p c g (i + 1) (i + 1 + suc n) = record { none = λ k a b. d .none k (omega arith) (omega arith) } in
+      fills-next i f (omega arith) (d .none i (omega arith) (omega arith)) ∙ fills-data (suc n) (i + 1) (onData f) (omega arith) r (λ y. absurd (omega arith))
+      ∙ ap (λ (k : ℕ). fillsIn p k (slotsOn p c g k) (onData f)) m
+
+  pub passed-items : (i : ℕ) {x : Pass} {out out′ : List ℕ} {at : Position} {t : Taken} → Passed i x out → i < t .slot → x .held .awaits ≡ 0
+      → Took ks p c g (takenFrom x i at) out t out′ → Passed (t .slot) (itemsPass x t) out′
+  passed-items i {x} {out} {out′} {at} {t} a l e k =
+      let h : heldOf (x .held) ≡ Nothing = held-none (x .held) e in
+      let z : i + (t .slot - i) ≡ t .slot = omega arith in
+      let d : Filled ks p c g i (i + (t .slot - i)) = subst (Filled ks p c g i) (sym z) (k .filled) in
+      record {
+        items = a .items ++ k .items;
+        is = a .is
+            ∙ ap (more (a .items)) (ap (λ (y : Held). run ks (p .parity) (slotsOn p c g i) y (x .since)) h ∙ k .is ∙ ap (λ (y : Held). more (k .items) (run ks (p .parity) (slotsOn p c g (t .slot)) y (t .last))) (sym h))
+            ∙ more-more (a .items) (k .items) (run ks (p .parity) (slotsOn p c g (t .slot)) (heldOf (x .held)) (t .last));
+        fill = a .fill ∙ fills-data (t .slot - i) i (x .fills) (omega (arith, k .room)) d (λ y. absurd (omega arith)) ∙ ap (λ (n : ℕ). fillsIn p n (slotsOn p c g n) (onData (x .fills))) z;
+        brought = record {
+          sound = record { good = refl; sane = a .brought .sound .sane };
+          long = k .long ∙ a .brought .long;
+          wrote = λ bits y.
+              subst (λ (n : List ℕ). Wrote n out′ (t .pen))
+              (append-assoc bits (flatMap itemBits (a .items)) (flatMap itemBits (k .items)) ∙ ap (_++_ bits) (sym (flatMap-append itemBits (a .items) (k .items))))
+              (k .wrote (bits ++ flatMap itemBits (a .items)) (a .brought .wrote bits y));
+        };
+        few = omega (arith, a .few, k .few, k .onward);
+      }
+
+  pub passed-quiet : (i : ℕ) {x : Pass} {out : List ℕ} {place word : ℕ} → i < slots p → Passed i x out
+      → place ≡ g + placeOf p (lead p + i) → word ≡ wordAt c place → word < 2 ^ 24 → quiet (x .fills) i word ≡ true → Passed (i + 1) x out
+  passed-quiet i {x} {out} {place} {word} h a e w low q =
+      passed-more i h a e w low (quiet-pass ks (p .parity) i place word x (a .brought .sound .good) q) (quiet-out ks (p .parity) i word x out q) (a .brought .sound .good)

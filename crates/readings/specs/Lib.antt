@@ -1,6 +1,5 @@
 -- What the contracts of the readings cite beside the definitions of `format`.
 pub mod ReadFills
-pub mod ReadWriter
 pub mod ReadPass
 pub mod ReadGroups
 pub mod ReadEnd

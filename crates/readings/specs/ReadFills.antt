@@ -3,7 +3,7 @@ use Prim.Native.Nat.{ℕ, zero, suc, _+_, _-_}
 use mathlib.Core.Bool.{Bool, true, false, cond, _||_, not}
 use mathlib.Core.List.{List, [], _∷_}
 use lib.Dec.{eqb}
-use Rattle.format.specs.Word.{isFill, busOf}
+use Rattle.format.specs.Word.{isFill, busOf, fill}
 use Rattle.format.specs.Reader.{Slot}
 use Rattle.format.specs.Group.{Fault, none, found}
 use Rattle.format.specs.declared.Plan.{Plan}
@@ -19,6 +19,10 @@ orPlace old place = cond (eqb old 0) (place + 1) old
 -- follows it, or neither its group nor a later one has one
 abbrev pub onFill : Fills → ℕ → Bool → Fills
 onFill f place odd = record { first = orPlace (f .first) place; misplaced = cond odd (orPlace (f .misplaced) place) (f .misplaced) }
+
+-- fill that changes nothing
+abbrev pub quiet : Fills → ℕ → ℕ → Bool
+quiet f i word = cond (eqb word fill) (cond (eqb (f .first) 0) false (not (eqb i 0))) false
 
 -- a data word misplaces the first fill of all, which is the earliest
 abbrev pub onData : Fills → Fills

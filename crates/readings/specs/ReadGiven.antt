@@ -1,9 +1,10 @@
 -- What a reading hands over: its answer, and the lent log and time table afterwards.
-use Prim.Native.Nat.{ℕ, _*_, _/_, _≤_}
+use Prim.Native.Nat.{ℕ, _+_, _*_, _/_, _≤_}
 use mathlib.Core.Bool.{cond}
 use mathlib.Core.Path.{_≡_}
 use mathlib.Core.List.{List}
 use lib.ListN.{length, take}
+use lib.Dec.{eqb, leb}
 use Rattle.format.specs.Log.{logOf}
 use Rattle.format.specs.Plan.{groupWords}
 use Rattle.format.specs.Read.{Reading, got, readGroups}
@@ -17,15 +18,25 @@ use Rattle.format.specs.declared.Plan.{Plan}
 abbrev pub timesNeeded : Plan → ℕ → ℕ
 timesNeeded p n = cond (p .«frame_time») n 0
 
+-- "6, 7": the number of the refusal for want of room, 0 for none
+abbrev pub shortOf : ℕ → ℕ → ℕ → ℕ
+shortOf number needed room = cond (leb needed room) 0 number
+
+abbrev pub earlier : ℕ → ℕ → ℕ
+earlier first then = cond (eqb first 0) then first
+
+unfoldable pub roomNumber : ℕ → ℕ → ℕ → ℕ → ℕ
+roomNumber bytes logRoom needed timeRoom = earlier (shortOf 6 bytes 32768) (earlier (shortOf 6 bytes logRoom) (shortOf 7 needed timeRoom))
+
 -- the log is so many bytes long, and stands in the array if there is room
 pub record Built (whole built : List ℕ) (bytes : ℕ) : Type 0 where
   pub size : bytes ≡ length whole
-  pub is : bytes ≤ length built → take bytes built ≡ whole
+  pub is : bytes + 7 ≤ length built → take bytes built ≡ whole
 
 -- every log that is not refused for its length has room in an array of so many bytes
 pub record Enough (p : Plan) (ks : List Kind) (c : List ℕ) (built logRoom : ℕ) : Type 0 where
   pub room : (is : List Item) → readGroups p ks c (length c / (3 * groupWords p)) 0 Nothing 0 ≡ got is → length (logOf is) ≤ 32768 → length (logOf is) ≤ logRoom
-      → length (logOf is) ≤ built
+      → length (logOf is) + 7 ≤ built
 
 -- number, place, both lengths and the whole of both lent buffers
 abbrev pub Given : Reading → Answer → List ℕ → List ℕ → List ℕ → List ℕ → Type 0

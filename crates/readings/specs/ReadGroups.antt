@@ -12,6 +12,7 @@ use Rattle.format.specs.declared.Kind.{Kind}
 use Rattle.format.specs.declared.Item.{Item}
 use Rattle.format.specs.declared.Held.the-variants.{Nothing}
 use Rattle.format.specs.declared.Plan.{Plan}
+use Rattle.pen.specs.Pen.{start}
 use Rattle.reader.specs.Holding.{flat, heldOf}
 use Rattle.readings.specs.declared.reading.Pass.{Pass}
 use Rattle.readings.specs.declared.reading.Walk.{Walk}
@@ -20,7 +21,7 @@ use Rattle.readings.specs.ReadPass.{Brought}
 
 -- before the first group
 abbrev pub startPass : Pass
-startPass = record { held = flat Nothing; since = 0; writer = record { at = 0; pending = 0; count = 0 }; fills = noFill; bad = false }
+startPass = record { held = flat Nothing; since = 0; pen = start; fills = noFill; bad = false }
 
 -- the slots of k groups from the group g on
 abbrev pub groupsOn : Plan → List ℕ → ℕ → ℕ → List (List Slot)
@@ -32,7 +33,7 @@ pub record Over (ks : List Kind) (p : Plan) (c : List ℕ) (n : ℕ) (out₀ : L
   pub is : readGroups p ks c n 0 Nothing 0 ≡ before items (readGroups p ks c (n - g) g (heldOf (x .held)) (x .since))
   pub fill : fillsOver p (groupsOn p c 0 n) noFill ≡ fillsOver p (groupsOn p c g (n - g)) (x .fills)
   pub brought : Brought startPass out₀ items x out
-  pub few : x .writer .at ≤ 16 * (g * groupWords p)
+  pub few : x .pen .bits ≤ 128 * (g * groupWords p)
 
 -- all groups were passed
 pub record Through (ks : List Kind) (p : Plan) (c : List ℕ) (n : ℕ) (out₀ : List ℕ) (x : Pass) (out : List ℕ) : Type 0 where
@@ -40,7 +41,7 @@ pub record Through (ks : List Kind) (p : Plan) (c : List ℕ) (n : ℕ) (out₀ 
   pub is : readGroups p ks c n 0 Nothing 0 ≡ before items (finish (heldOf (x .held)) (x .since))
   pub fill : fillsOver p (groupsOn p c 0 n) noFill ≡ x .fills
   pub brought : Brought startPass out₀ items x out
-  pub few : x .writer .at ≤ 16 * (n * groupWords p)
+  pub few : x .pen .bits ≤ 128 * (n * groupWords p)
 
 -- number 0: all groups were passed; else the reading stopped
 pub record Walked (ks : List Kind) (p : Plan) (c : List ℕ) (n : ℕ) (out₀ : List ℕ) (r : Walk) (out : List ℕ) : Type 0 where

@@ -15,11 +15,15 @@ use Rattle.format.specs.declared.Plan.{Plan}
 use Rattle.reader.specs.declared.Step.{Step}
 use Rattle.reader.specs.Holding.{heldOf, Sane}
 use Rattle.reader.specs.Step.{stepOf}
+use Rattle.format.specs.Plan.{slots}
+use Rattle.group.specs.declared.reading.Position.{Position}
+use Rattle.taking.specs.declared.Taken.{Taken}
+use Rattle.taking.specs.Taken.{Took}
 use Rattle.readings.specs.declared.reading.Fills.{Fills}
-use Rattle.readings.specs.declared.reading.Writer.{Writer}
+use Rattle.pen.specs.declared.Pen.{Pen}
 use Rattle.readings.specs.declared.reading.Pass.{Pass}
 use Rattle.readings.specs.ReadFills.{onFill, onData, fillsIn}
-use Rattle.readings.specs.ReadWriter.{longPut, longIn, Ready, Wrote}
+use Rattle.pen.specs.Pen.{penPut, penIn, Wrote}
 
 -- fill that is misplaced whatever follows it, in the slot i of its group
 abbrev pub oddFill : ℕ → ℕ → Bool
@@ -28,30 +32,30 @@ oddFill i bus = eqb i 0 || not (eqb bus 0)
 -- fill is looked at and dropped
 abbrev pub fillPass : Bool → ℕ → ℕ → ℕ → Pass → Pass
 fillPass parity i place word x =
-    record { held = x .held; since = x .since; writer = x .writer; fills = onFill (x .fills) place (oddFill i (busOf parity word)); bad = false }
+    record { held = x .held; since = x .since; pen = x .pen; fills = onFill (x .fills) place (oddFill i (busOf parity word)); bad = false }
 
 -- a step's two strings go to the log
-abbrev pub stepWriter : Writer → Step → Writer
-stepWriter w r = longPut (longPut w (r .first) (r .«first_width»)) (r .second) (r .«second_width»)
+abbrev pub stepPen : Pen → Step → Pen
+stepPen w r = penPut (penPut w (r .first) (r .«first_width»)) (r .second) (r .«second_width»)
 
-abbrev pub stepOut : List ℕ → Writer → Step → List ℕ
-stepOut out w r = longIn (longIn out w (r .first) (r .«first_width»)) (longPut w (r .first) (r .«first_width»)) (r .second) (r .«second_width»)
+abbrev pub stepOut : List ℕ → Pen → Step → List ℕ
+stepOut out w r = penIn (penIn out w (r .first) (r .«first_width»)) (penPut w (r .first) (r .«first_width»)) (r .second) (r .«second_width»)
 
 -- the two strings fit their widths
 pub record Strings (r : Step) : Type 0 where
   pub first-fits : r .first < 2 ^ (r .«first_width»)
   pub second-fits : r .second < 2 ^ (r .«second_width»)
-  pub first-short : r .«first_width» ≤ 64
-  pub second-short : r .«second_width» ≤ 64
+  pub first-short : r .«first_width» ≤ 56
+  pub second-short : r .«second_width» ≤ 56
 
 -- a bad word is told by its place
 abbrev pub stepPass : ℕ → Pass → Step → Pass
 stepPass place x r =
-    cond (r .bad) (record { held = x .held; since = place; writer = x .writer; fills = x .fills; bad = true })
-    (record { held = r .held; since = since (heldOf (r .held)) (x .since) place; writer = stepWriter (x .writer) r; fills = onData (x .fills); bad = false })
+    cond (r .bad) (record { held = x .held; since = place; pen = x .pen; fills = x .fills; bad = true })
+    (record { held = r .held; since = since (heldOf (r .held)) (x .since) place; pen = stepPen (x .pen) r; fills = onData (x .fills); bad = false })
 
 abbrev pub passOut : List ℕ → Pass → Step → List ℕ
-passOut out x r = cond (r .bad) out (stepOut out (x .writer) r)
+passOut out x r = cond (r .bad) out (stepOut out (x .pen) r)
 
 unfoldable pub wordStep : List Kind → Bool → ℕ → Pass → Step
 wordStep ks parity word x = stepOf (heldOf (x .held)) (feed ks (heldOf (x .held)) (busOf parity word) (labelOf word) (infoOf word))
@@ -64,17 +68,28 @@ unfoldable pub slotOut : List Kind → Bool → ℕ → Pass → List ℕ → Li
 slotOut ks parity word x out =
     cond (isFill word) out (passOut out x (wordStep ks parity word x))
 
+-- items that were taken whole, nothing being held
+abbrev pub takenFrom : Pass → ℕ → Position → Taken
+takenFrom x i at = record { slot = i; at = at; last = x .since; pen = x .pen }
+
+abbrev pub itemsPass : Pass → Taken → Pass
+itemsPass x t = record { held = x .held; since = t .last; pen = t .pen; fills = onData (x .fills); bad = false }
+
+pub record FromPass (ks : List Kind) (p : Plan) (c : List ℕ) (g : ℕ) (x : Pass) (i : ℕ) (at : Position) (out : List ℕ) (t : Taken) (out′ : List ℕ) : Type 0 where
+  pub some : i < t .slot → (x .held .awaits ≡ 0) × Took ks p c g (takenFrom x i at) out t out′
+  pub none : t .slot ≤ i → out′ ≡ out
+  pub room : t .slot ≤ slots p
+
 -- what is carried can go on
 pub record Sound (x : Pass) : Type 0 where
   pub good : x .bad ≡ false
   pub sane : Sane (x .held)
-  pub ready : Ready (x .writer)
 
 -- from the pass x₀ and the array out₀ the items `is` were finished, and x and `out` are what is carried now
 pub record Brought (x₀ : Pass) (out₀ : List ℕ) (is : List Item) (x : Pass) (out : List ℕ) : Type 0 where
   pub sound : Sound x
   pub long : length out ≡ length out₀
-  pub wrote : (bits : List ℕ) → Wrote bits out₀ (x₀ .writer) → Wrote (bits ++ flatMap itemBits is) out (x .writer)
+  pub wrote : (bits : List ℕ) → Wrote bits out₀ (x₀ .pen) → Wrote (bits ++ flatMap itemBits is) out (x .pen)
 
 -- a run over the slots of a group: told by the place of its bad word, or gone on with
 abbrev pub RanTo : Pass → List ℕ → Ran → Fills → Pass → List ℕ → Type 0
@@ -87,4 +102,4 @@ pub record Along (ks : List Kind) (p : Plan) (slots : List Slot) (x₀ : Pass) (
   pub is : run ks (p .parity) slots (heldOf (x₀ .held)) (x₀ .since) ≡ more items (run ks (p .parity) rest (heldOf (x .held)) (x .since))
   pub fill : fillsIn p 0 slots (x₀ .fills) ≡ fillsIn p i rest (x .fills)
   pub brought : Brought x₀ out₀ items x out
-  pub few : x .writer .at ≤ x₀ .writer .at + 16 * i
+  pub few : x .pen .bits ≤ x₀ .pen .bits + 128 * i

@@ -5,30 +5,33 @@ ghost use Prim.Native.Nat.{ℕ, _+_, _*_, _/_, _%_, _≤_, _<_, _^_};
 ghost use lib.ListN.{length, take, drop};
 ghost use mathlib.Core.List.{List, _++_};
 ghost use Rattle.format.specs.Answer.{refusal};
-ghost use Rattle.readings.specs.ReadGiven.{Built, Enough, Given, timesNeeded};
+ghost use Rattle.readings.specs.ReadGiven.{Built, Enough, Given, earlier, roomNumber, shortOf, timesNeeded};
 ghost use Rattle.format.specs.Lists.{list};
 ghost use Rattle.format.specs.Plan.{groupWords, slots};
 ghost use Rattle.format.specs.Group.{groupSlots, groupTime};
 ghost use Rattle.format.specs.Reader.{run};
 ghost use Rattle.group.specs.Shape.{Shape};
+ghost use Rattle.taking.specs.Slots.{Ahead};
 ghost use Rattle.reader.specs.Holding.{heldOf, Sane};
 ghost use Rattle.crc.specs.Running.{entries};
 ghost use Rattle.format.specs.Read.{reading, readGroups, roomed, settled};
 ghost use Rattle.format.specs.declared.Held.the-variants.{Nothing};
-ghost use Rattle.readings.specs.ReadEnd.{closedSize, closedIn, EndsAs};
+ghost use Rattle.readings.specs.ReadEnd.{EndsAs};
 ghost use Rattle.readings.specs.ReadGroups.{startPass, Walked};
-ghost use Rattle.readings.specs.ReadPass.{RanTo, Sound, Strings, oddFill, stepWriter, stepOut, stepPass, passOut, slotPass, slotOut};
-ghost use Rattle.readings.specs.ReadFills.{orPlace, onFill, onData, fillsIn};
-ghost use Rattle.readings.specs.ReadWriter.{Ready, fourIn, shortPut, shortIn, longPut, longIn};
+ghost use Rattle.readings.specs.ReadPass.{FromPass, RanTo, Sound, Strings, itemsPass, oddFill, stepPen, stepOut, stepPass, passOut, slotPass, slotOut};
+ghost use Rattle.readings.specs.ReadFills.{orPlace, onFill, onData, fillsIn, quiet};
 use format::Answer;
 use format::Kind;
 use format::Plan;
 use group::reading;
+use group::reading::Position;
+use pen::Pen;
 use plans::group_words;
 use plans::legal;
 use plans::slots;
 use reader::Holding;
 use reader::Step;
+use taking::Taken;
 
 // Where fill stood so far, each place one up, 0 for none: the first fill of all, and the earliest that is misplaced.
 struct Fills {
@@ -36,19 +39,12 @@ struct Fills {
     misplaced: usize,
 }
 
-// A log being built: `at` bytes are out, and `count` bits, fewer than 32, are pending.
-struct Writer {
-    at: usize,
-    pending: u64,
-    count: u32,
-}
-
 // What is carried from slot to slot: what is held and the place of its first word (of a bad word, if one came), the log so far
 // and the fill so far.
 struct Pass {
     held: Holding,
     since: u64,
-    writer: Writer,
+    pen: Pen,
     fills: Fills,
     bad: bool,
 }
@@ -104,88 +100,39 @@ fn on_data(fills: Fills) -> Fills
     }
 }
 
-// The four bytes of w, where there is room for all of them.
-fn put_four(out: &mut [u8], at: usize, w: u64)
-    requires { ⌜ (at < 4294967296) × (w < 4294967296) ⌝ }
-    ensures { λ _. ⌜ now (out .exit) ≡ fourIn (now (out .entry)) at w ⌝ }
-{
-    if at + 4 <= out.len() {
-        out[at] = (w / 16777216) as u8;
-        out[at + 1] = (w / 65536 % 256) as u8;
-        out[at + 2] = (w / 256 % 256) as u8;
-        out[at + 3] = (w % 256) as u8;
-    }
-}
-
-// Up to 32 bits more.
-fn put_short(writer: Writer, out: &mut [u8], value: u64, width: u32) -> Writer
-    requires { ⌜ Ready writer × (writer .at < 4294967296) × (width ≤ 32) × (value < 2 ^ width) ⌝ }
-    ensures { λ r. ⌜ (r ≡ shortPut writer value width) × (now (out .exit) ≡ shortIn (now (out .entry)) writer value width) ⌝ }
-{
-    let at = writer.at;
-    let total = writer.count + width;
-    let all = (writer.pending << width) + value;
-    if total < 32 {
-        return Writer {
-            at: at,
-            pending: all,
-            count: total,
-        };
-    }
-    let rest = total - 32;
-    put_four(out, at, all >> rest);
-    Writer {
-        at: at + 4,
-        pending: all & ((1u64 << rest) - 1),
-        count: rest,
-    }
-}
-
-// Up to 64 bits more.
-fn put(writer: Writer, out: &mut [u8], value: u64, width: u32) -> Writer
-    requires { ⌜ Ready writer × (writer .at < 4294967200) × (width ≤ 64) × (value < 2 ^ width) ⌝ }
-    ensures { λ r. ⌜ (r ≡ longPut writer value width) × (now (out .exit) ≡ longIn (now (out .entry)) writer value width) ⌝ }
-{
-    if width <= 32 {
-        return put_short(writer, out, value, width);
-    }
-    let half = put_short(writer, out, value / 4294967296, width - 32);
-    put_short(half, out, value % 4294967296, 32)
-}
-
 // The bits of the items that a word finished.
-fn put_step(writer: Writer, out: &mut [u8], step: Step) -> Writer
-    requires { ⌜ Ready writer × (writer .at < 4294967100) × Strings step ⌝ }
-    ensures { λ r. ⌜ (r ≡ stepWriter writer step) × (now (out .exit) ≡ stepOut (now (out .entry)) writer step) ⌝ }
+fn put_step(pen: Pen, out: &mut [u8], step: Step) -> Pen
+    requires { ⌜ (pen .bits < 2 ^ 60) × Strings step ⌝ }
+    ensures { λ r. ⌜ (r ≡ stepPen pen step) × (now (out .exit) ≡ stepOut (now (out .entry)) pen step) ⌝ }
 {
-    let half = put(writer, out, step.first, step.first_width);
-    put(half, out, step.second, step.second_width)
+    let half = pen.put(out, step.first, step.first_width);
+    half.put(out, step.second, step.second_width)
 }
 
 // A data word that was fed.
 fn on_step(pass: Pass, place: usize, step: Step, out: &mut [u8]) -> Pass
-    requires { ⌜ Ready (pass .writer) × (pass .writer .at < 4294967100) × (step .bad ≡ false → Strings step × Sane (step .held)) ⌝ }
+    requires { ⌜ (pass .pen .bits < 2 ^ 60) × (step .bad ≡ false → Strings step × Sane (step .held)) ⌝ }
     ensures { λ r. ⌜ (r ≡ stepPass place pass step) × (now (out .exit) ≡ passOut (now (out .entry)) pass step) ⌝ }
 {
     let fills = pass.fills;
     if step.bad {
         let held = pass.held;
-        let writer = pass.writer;
+        let pen = pass.pen;
         return Pass {
             held: held,
             since: place as u64,
-            writer: writer,
+            pen: pen,
             fills: fills,
             bad: true,
         };
     }
     let held = step.held;
-    let writer = put_step(pass.writer, out, step);
+    let pen = put_step(pass.pen, out, step);
     let since = reader::since(held, pass.since, place as u64);
     Pass {
         held: held,
         since: since,
-        writer: writer,
+        pen: pen,
         fills: on_data(fills),
         bad: false,
     }
@@ -208,18 +155,18 @@ fn on_slot(
     word: u32,
     out: &mut [u8],
 ) -> Pass
-    requires { ⌜ Sound pass × (pass .writer .at < 4294967000) × (place < 1048576) × (word < 2 ^ 24) ⌝ }
+    requires { ⌜ Sound pass × (pass .pen .bits < 2 ^ 60) × (place < 1048576) × (word < 2 ^ 24) ⌝ }
     ensures { λ r. ⌜ (r ≡ slotPass kinds parity i place word pass) × (now (out .exit) ≡ slotOut kinds parity word pass (now (out .entry))) ⌝ }
 {
     let bus = word::bus_of(parity, word);
     let held = pass.held;
     if word::is_fill(word) {
-        let writer = pass.writer;
+        let pen = pass.pen;
         let fills = on_fill(pass.fills, place, is_odd_fill(i, bus));
         return Pass {
             held: held,
             since: pass.since,
-            writer: writer,
+            pen: pen,
             fills: fills,
             bad: false,
         };
@@ -234,6 +181,63 @@ fn on_slot(
     on_step(pass, place, step, out)
 }
 
+// Fill that changes nothing: on bus 0, not the first of all, nor in the first slot of its group.
+fn is_quiet(fills: Fills, i: usize, word: u32) -> bool
+    ensures { λ r. ⌜ r ≡ quiet fills i word ⌝ }
+{
+    if word != word::fill() {
+        return false;
+    }
+    if fills.first == 0 {
+        return false;
+    }
+    i != 0
+}
+
+// Items taken whole from the slot i on, if nothing is held.
+fn items_from(
+    pass: Pass,
+    kinds: [Kind; 16],
+    plan: Plan,
+    count: usize,
+    capture: &[u8],
+    group: usize,
+    i: usize,
+    at: Position,
+    out: &mut [u8],
+) -> Taken
+    requires { ⌜ Ahead plan (now capture) group i 0 at × (count ≡ slots plan) × (pass .pen .bits < 2 ^ 59) ⌝ }
+    ensures { λ r. ⌜ FromPass kinds plan (now (capture .entry)) group pass i at (now (out .entry)) r (now (out .exit)) ⌝ }
+{
+    let held = pass.held;
+    let pen = pass.pen;
+    let from = Taken {
+        slot: i,
+        at: at,
+        last: pass.since as usize,
+        pen: pen,
+    };
+    if held.awaits == 0 {
+        return taking::take(kinds, plan, count, capture, group, from, out);
+    }
+    from
+}
+
+// Items that were taken.
+fn on_items(pass: Pass, taken: Taken) -> Pass
+    ensures { λ r. ⌜ r ≡ itemsPass pass taken ⌝ }
+{
+    let held = pass.held;
+    let pen = taken.pen;
+    Pass {
+        held: held,
+        since: taken.last as u64,
+        pen: pen,
+        fills: on_data(pass.fills),
+        bad: false,
+    }
+}
+
 // The data slots of the group whose first stored word is `group`, up to a bad word.
 fn on_group(
     pass: Pass,
@@ -244,18 +248,29 @@ fn on_group(
     group: usize,
     out: &mut [u8],
 ) -> Pass
-    requires { ⌜ Sound pass × (pass .writer .at ≤ 16 * group) × Shape plan × (count ≡ slots plan) ⌝ }
-    requires { ⌜ (3 * (group + groupWords plan) ≤ length (now capture)) × (length (now capture) ≤ 1048576) × (length (now out) % 4 ≡ 0) ⌝ }
+    requires { ⌜ Sound pass × (pass .pen .bits ≤ 128 * group) × Shape plan × (count ≡ slots plan) ⌝ }
+    requires { ⌜ (3 * (group + groupWords plan) ≤ length (now capture)) × (length (now capture) ≤ 1048576) ⌝ }
     ensures { λ r. ⌜ RanTo pass (now (out .entry)) (run kinds (plan .parity) (groupSlots plan (now (capture .entry)) group) (heldOf (pass .held)) (pass .since)) (fillsIn plan 0 (groupSlots plan (now (capture .entry)) group) (pass .fills)) r (now (out .exit)) ⌝ }
-    ensures { λ r. ⌜ (r .bad ≡ false → r .writer .at ≤ 16 * (group + groupWords plan)) ⌝ }
+    ensures { λ r. ⌜ (r .bad ≡ false → r .pen .bits ≤ 128 * (group + groupWords plan)) ⌝ }
 {
     let mut pass = pass;
-    let mut at = reading::first_slot(plan);
+    let mut at = reading::first_slot(plan, group);
     let mut i: usize = 0;
     while i < count {
-        let place = group + reading::place_at(plan, at);
-        let word = word::word_at(capture, 3 * place);
-        pass = on_slot(pass, kinds, plan.parity, i, place, word, out);
+        let word = word::word_at(capture, 3 * at.place);
+        if is_quiet(pass.fills, i, word) {
+            at = reading::next_slot(plan, at);
+            i += 1;
+            continue;
+        }
+        let taken = items_from(pass, kinds, plan, count, capture, group, i, at, out);
+        if i < taken.slot {
+            pass = on_items(pass, taken);
+            at = taken.at;
+            i = taken.slot;
+            continue;
+        }
+        pass = on_slot(pass, kinds, plan.parity, i, at.place, word, out);
         if pass.bad {
             return pass;
         }
@@ -271,11 +286,7 @@ fn start_pass() -> Pass
     Pass {
         held: reader::nothing(),
         since: 0,
-        writer: Writer {
-            at: 0,
-            pending: 0,
-            count: 0,
-        },
+        pen: Pen::start(),
         fills: Fills {
             first: 0,
             misplaced: 0,
@@ -294,7 +305,7 @@ fn over_groups(
     groups: usize,
     out: &mut [u8],
 ) -> Walk
-    requires { ⌜ Shape plan × (count ≡ slots plan) × (now tables ≡ entries) × (length (now out) % 4 ≡ 0) ⌝ }
+    requires { ⌜ Shape plan × (count ≡ slots plan) × (now tables ≡ entries) ⌝ }
     requires { ⌜ (length (now capture) ≡ groups * (3 * groupWords plan)) × (length (now capture) ≤ 1048576) ⌝ }
     ensures { λ r. ⌜ Walked kinds plan (now (capture .entry)) groups (now (out .entry)) r (now (out .exit)) ⌝ }
 {
@@ -330,16 +341,6 @@ fn over_groups(
     }
 }
 
-// The end mark and the zeros behind it; how many bytes the log has.
-fn close(writer: Writer, out: &mut [u8]) -> usize
-    requires { ⌜ Ready writer × (writer .at < 4294967100) ⌝ }
-    ensures { λ r. ⌜ (r ≡ closedSize writer) × (now (out .exit) ≡ closedIn (now (out .entry)) writer) ⌝ }
-{
-    let half = put_short(writer, out, 0, 32 - writer.count);
-    let _ = put_short(half, out, 0, 32);
-    writer.at + (writer.count as usize + 11) / 8
-}
-
 // The groups, then the cut item.
 fn read_groups(
     kinds: [Kind; 16],
@@ -350,7 +351,7 @@ fn read_groups(
     groups: usize,
     out: &mut [u8],
 ) -> Outcome
-    requires { ⌜ Shape plan × (count ≡ slots plan) × (now tables ≡ entries) × (length (now out) % 4 ≡ 0) ⌝ }
+    requires { ⌜ Shape plan × (count ≡ slots plan) × (now tables ≡ entries) ⌝ }
     requires { ⌜ (length (now capture) ≡ groups * (3 * groupWords plan)) × (length (now capture) ≤ 1048576) ⌝ }
     ensures { λ r. ⌜ EndsAs plan (now (capture .entry)) groups (readGroups plan kinds (now (capture .entry)) groups 0 Nothing 0) r (now (out .exit)) ⌝ }
 {
@@ -373,8 +374,8 @@ fn read_groups(
             misplaced: 0,
         };
     }
-    let writer = put_step(pass.writer, out, step);
-    let bytes = close(writer, out);
+    let pen = put_step(pass.pen, out, step);
+    let bytes = pen.close(out);
     Outcome {
         number: 0,
         place: 0,
@@ -429,6 +430,29 @@ fn times_of(plan: Plan, n: usize) -> usize
     if plan.frame_time { n } else { 0 }
 }
 
+// The number of a refusal where the room is less than what is needed, else 0.
+fn short_of(number: u32, needed: usize, room: usize) -> u32
+    ensures { λ r. ⌜ r ≡ shortOf number needed room ⌝ }
+{
+    if needed <= room { 0 } else { number }
+}
+
+fn earlier(first: u32, then: u32) -> u32
+    ensures { λ r. ⌜ r ≡ earlier first then ⌝ }
+{
+    if first == 0 { then } else { first }
+}
+
+// "6, 7": the number of the refusal for want of room, 0 for none.
+fn room_number(bytes: usize, log_room: usize, needed: usize, time_room: usize) -> u32
+    ensures { λ r. ⌜ r ≡ roomNumber bytes «log_room» needed «time_room» ⌝ }
+{
+    let long = short_of(6, bytes, 32768);
+    let log = short_of(6, bytes, log_room);
+    let times = short_of(7, needed, time_room);
+    earlier(long, earlier(log, times))
+}
+
 // "6, 7" last, and then the log and the times; `built` holds the log of so many bytes, if it has room for it.
 fn give(
     plan: Plan,
@@ -440,17 +464,15 @@ fn give(
     times: &mut [u64],
 ) -> Answer
     requires { ⌜ Shape plan × (3 * (n * groupWords plan) ≤ length (now capture)) × (length (now capture) ≤ 1048576) ⌝ }
-    requires { ⌜ (bytes ≤ 32768 → bytes ≤ length (now log) → bytes ≤ length (now built)) ⌝ }
+    requires { ⌜ (bytes ≤ 32768 → bytes ≤ length (now log) → bytes + 7 ≤ length (now built)) ⌝ }
     ensures { λ r. ⌜ ((whole : List ℕ) → Built whole (now (built .entry)) bytes → Given (roomed plan (now (capture .entry)) n (length (now (log .entry))) (length (now (times .entry))) whole) r (now (log .entry)) (now (log .exit)) (now (times .entry)) (now (times .exit))) ⌝ }
 {
-    if 32768 < bytes {
-        return refusal(6, bytes as u64);
-    }
-    if log.len() < bytes {
-        return refusal(6, bytes as u64);
-    }
     let need = times_of(plan, n);
-    if times.len() < need {
+    let number = room_number(bytes, log.len(), need, times.len());
+    if number == 6 {
+        return refusal(6, bytes as u64);
+    }
+    if number == 7 {
         return refusal(7, need as u64);
     }
     copy(log, built, bytes);
@@ -482,7 +504,7 @@ fn read_by(
     times: &mut [u64],
 ) -> Answer
     requires { ⌜ Shape plan × (length (now capture) ≤ 1048576) × (length (now capture) % (3 * groupWords plan) ≡ 0) ⌝ }
-    requires { ⌜ (length (now built) % 4 ≡ 0) × Enough plan kinds (now capture) (length (now built)) (length (now log)) ⌝ }
+    requires { ⌜ Enough plan kinds (now capture) (length (now built)) (length (now log)) ⌝ }
     ensures { λ r. ⌜ Given (settled plan (now (capture .entry)) (length (now (capture .entry)) / (3 * groupWords plan)) (length (now (log .entry))) (length (now (times .entry))) closed (readGroups plan kinds (now (capture .entry)) (length (now (capture .entry)) / (3 * groupWords plan)) 0 Nothing 0)) r (now (log .entry)) (now (log .exit)) (now (times .entry)) (now (times .exit)) ⌝ }
 {
     let n = capture.len() / (3 * group_words(plan));
@@ -508,10 +530,10 @@ fn read_small(
     times: &mut [u64],
 ) -> Answer
     requires { ⌜ Shape plan × (length (now capture) ≤ 1048576) × (length (now capture) % (3 * groupWords plan) ≡ 0) ⌝ }
-    requires { ⌜ Enough plan kinds (now capture) 2048 (length (now log)) ⌝ }
+    requires { ⌜ Enough plan kinds (now capture) 2056 (length (now log)) ⌝ }
     ensures { λ r. ⌜ Given (settled plan (now (capture .entry)) (length (now (capture .entry)) / (3 * groupWords plan)) (length (now (log .entry))) (length (now (times .entry))) closed (readGroups plan kinds (now (capture .entry)) (length (now (capture .entry)) / (3 * groupWords plan)) 0 Nothing 0)) r (now (log .entry)) (now (log .exit)) (now (times .entry)) (now (times .exit)) ⌝ }
 {
-    let mut built = [0u8; 2048];
+    let mut built = [0u8; 2056];
     read_by(closed, plan, kinds, capture, &mut built, log, times)
 }
 
@@ -526,7 +548,7 @@ fn read_large(
     requires { ⌜ Shape plan × (length (now capture) ≤ 1048576) × (length (now capture) % (3 * groupWords plan) ≡ 0) ⌝ }
     ensures { λ r. ⌜ Given (settled plan (now (capture .entry)) (length (now (capture .entry)) / (3 * groupWords plan)) (length (now (log .entry))) (length (now (times .entry))) closed (readGroups plan kinds (now (capture .entry)) (length (now (capture .entry)) / (3 * groupWords plan)) 0 Nothing 0)) r (now (log .entry)) (now (log .exit)) (now (times .entry)) (now (times .exit)) ⌝ }
 {
-    let mut built = [0u8; 32768];
+    let mut built = [0u8; 32776];
     read_by(closed, plan, kinds, capture, &mut built, log, times)
 }
 

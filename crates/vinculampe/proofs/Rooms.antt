@@ -25,15 +25,17 @@ use Rattle.vinculampe.specs.Numbers.{timeBytes}
 use Rattle.vinculampe.specs.Interface.{GivenBytes}
 use Rattle.vinculampe.proofs.Laws.{Legal, legal-is, and-true, length-list, times-few}
 
-groups-in : (p : Plan) (ks : List Kind) → Legal p ks → (n : ℕ) → n ≤ 1048576 → n / (3 * groupWords p) ≤ 2709
-groups-in p ks l n h = go (decLt (n / (3 * groupWords p)) 2710)
+-- a group has at least 387 bytes
+groups-in : (p : Plan) (ks : List Kind) → Legal p ks → (n : ℕ) → n / (3 * groupWords p) ≤ n / 387
+groups-in p ks l n = go (decLt (n / (3 * groupWords p)) (n / 387 + 1))
   where
-    go : Dec (n / (3 * groupWords p) < 2710) → n / (3 * groupWords p) ≤ 2709
+    go : Dec (n / (3 * groupWords p) < n / 387 + 1) → n / (3 * groupWords p) ≤ n / 387
     go (yes k) = omega arith
     go (no k) =
-        let m : 2710 ≤ n / (3 * groupWords p) = omega arith in
+        let m : n / 387 + 1 ≤ n / (3 * groupWords p) = omega arith in
         let g : 1 * p .words ≤ groupWords p = mul-le-mul-right (p .words) (l .tracks) in
-        absurd (omega (arith, l .words, g, div-mul-le-self n (3 * groupWords p), mul-le-mul-right (3 * groupWords p) m))
+        let e : 387 ≤ 3 * groupWords p = omega (arith, l .words, g) in
+        absurd (omega (arith, mul-le-mul-left (n / 387 + 1) e, div-mul-le-self n (3 * groupWords p), mul-le-mul-right (3 * groupWords p) m))
 
 -- the times given are no more than there is room for
 abbrev pub Few : ℕ → Reading → Type 0
@@ -50,23 +52,26 @@ module _ (closed : Bool) (p : Plan) (ks : List Kind) (c : List ℕ) (logRoom : �
   abbrev all : ℕ → Reading
   all T = settled p c (length c / size) logRoom T closed (readGroups p ks c (length c / size) 0 Nothing 0)
 
-  module _ (T U : ℕ) (t : 2709 ≤ T) (u : 2709 ≤ U) where
-    roomed-same : (n : ℕ) → n ≤ 2709 → (log : List ℕ) → roomed p c n logRoom T log ≡ roomed p c n logRoom U log
-    roomed-same n h log =
+  module _ (T U : ℕ) (t : length c ≤ 1048576 → length c / 387 ≤ T) (u : length c ≤ 1048576 → length c / 387 ≤ U) where
+    roomed-same : (n : ℕ) → n ≤ T → n ≤ U → (log : List ℕ) → roomed p c n logRoom T log ≡ roomed p c n logRoom U log
+    roomed-same n h k log =
         let few = times-few p n in
         rw (le-leb (timesNeeded p n) T (omega (arith, few)), le-leb (timesNeeded p n) U (omega (arith, few))) refl
 
-    settled-same : (n : ℕ) → n ≤ 2709 → (g : Got) → settled p c n logRoom T closed g ≡ settled p c n logRoom U closed g
-    settled-same n h (stopped k at) = refl
-    settled-same n h (got is) =
-        ap (unmisplaced (cond closed (misplaced p (list (λ g. groupSlots p c (g * groupWords p)) 0 n)) none)) (roomed-same n h (logOf is))
+    settled-same : (n : ℕ) → n ≤ T → n ≤ U → (g : Got) → settled p c n logRoom T closed g ≡ settled p c n logRoom U closed g
+    settled-same n h k (stopped r at) = refl
+    settled-same n h k (got is) =
+        ap (unmisplaced (cond closed (misplaced p (list (λ g. groupSlots p c (g * groupWords p)) 0 n)) none)) (roomed-same n h k (logOf is))
 
     pub room-enough : reading closed p ks c logRoom T ≡ reading closed p ks c logRoom U
     unfolding reading
     room-enough = go (legal p ks) refl
       where
         of : legal p ks ≡ true → (b : Bool) → whole ≡ b → cond b (all T) (refuses 8 (length c)) ≡ cond b (all U) (refuses 8 (length c))
-        of e true f = settled-same (length c / size) (groups-in p ks (legal-is p ks e) (length c) (leb-true (length c) 1048576 (and-true _ _ f .0))) (readGroups p ks c (length c / size) 0 Nothing 0)
+        of e true f =
+            let s : length c ≤ 1048576 = leb-true (length c) 1048576 (and-true _ _ f .0) in
+            let k = groups-in p ks (legal-is p ks e) (length c) in
+            settled-same (length c / size) (omega (arith, k, t s)) (omega (arith, k, u s)) (readGroups p ks c (length c / size) 0 Nothing 0)
         of e false f = refl
 
         go : (b : Bool) → legal p ks ≡ b → cond b (cond whole (all T) (refuses 8 (length c))) (refuses 1 0) ≡ cond b (cond whole (all U) (refuses 8 (length c))) (refuses 1 0)
@@ -99,16 +104,15 @@ module _ (closed : Bool) (p : Plan) (ks : List Kind) (c : List ℕ) (logRoom : �
       go false b = tt
 
 -- a row that has an entry for every time that there is room for, or for every group of a capture
-pub least-enough : (closed : Bool) (p : Plan) (ks : List Kind) (c : List ℕ) (logRoom T row k : ℕ) → (row < T → 2709 ≤ row) → k ≡ cond (leb T row) T row
+pub least-enough : (closed : Bool) (p : Plan) (ks : List Kind) (c : List ℕ) (logRoom T row k : ℕ) → (row < T → length c ≤ 1048576 → length c / 387 ≤ row) → k ≡ cond (leb T row) T row
     → reading closed p ks c logRoom T ≡ reading closed p ks c logRoom k
 least-enough closed p ks c logRoom T row k h e = go (leb T row) refl e
   where
     go : (b : Bool) → leb T row ≡ b → k ≡ cond b T row → reading closed p ks c logRoom T ≡ reading closed p ks c logRoom k
     go true f e = ap (reading closed p ks c logRoom) (sym e)
     go false f e =
-        let m : 2709 ≤ row = h (leb-false T row f) in
         let l : row < T = leb-false T row f in
-        room-enough closed p ks c logRoom T k (omega arith) (rw e m)
+        room-enough closed p ks c logRoom T k (λ s. omega (arith, h l s)) (λ s. rw e (h l s))
 
 pub least-both : (T row k : ℕ) → k ≡ cond (leb T row) T row → (k ≤ T) × (k ≤ row)
 least-both T row k e = go (leb T row) refl e

@@ -111,7 +111,7 @@ fn read_by(
     times: &mut [u8],
     row: &mut [u64],
 ) -> Answer
-    requires { ⌜ (length (now row) < length (now times) / 8 → 2709 ≤ length (now row)) ⌝ }
+    requires { ⌜ (length (now row) < length (now times) / 8 → length (now capture) ≤ 1048576 → length (now capture) / 387 ≤ length (now row)) ⌝ }
     ensures { λ r. ⌜ GivenBytes (reading closed plan kinds (now (capture .entry)) (length (now (log .entry))) (length (now (times .entry)) / 8)) r (now (log .entry)) (now (log .exit)) (now (times .entry)) (now (times .exit)) ⌝ }
 {
     let entries = least(times.len() / 8, row.len());
@@ -120,7 +120,7 @@ fn read_by(
     answer
 }
 
-// No large row is cleared for a small room; a capture has at most 2,709 groups.
+// No large row is cleared for a small room, or for a small capture: a group has at least 387 bytes, a capture at most 2,709 groups.
 fn read_bytes(
     closed: bool,
     plan: Plan,
@@ -132,6 +132,10 @@ fn read_bytes(
     ensures { λ r. ⌜ GivenBytes (reading closed plan kinds (now (capture .entry)) (length (now (log .entry))) (length (now (times .entry)) / 8)) r (now (log .entry)) (now (log .exit)) (now (times .entry)) (now (times .exit)) ⌝ }
 {
     if times.len() < 520 {
+        let mut row = [0u64; 64];
+        return read_by(closed, plan, kinds, capture, log, times, &mut row);
+    }
+    if capture.len() < 25155 {
         let mut row = [0u64; 64];
         return read_by(closed, plan, kinds, capture, log, times, &mut row);
     }

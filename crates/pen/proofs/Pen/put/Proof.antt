@@ -1,46 +1,71 @@
-use Prim.Native.Nat.{_-_, _/_}
-use Rattle.items.proofs.Bits.{length-bits}
-use Rattle.pen.proofs.Writing.{halves, high-half, puts-then, ready-after, room-after}
 use native.Mathlib.Omega.{arith}
+use Rattle.pen.specs.Pen.{penPut, penIn}
+use Rattle.pen.proofs.Writing.{joined-low}
+use mathlib.Core.Path.{refl}
 use borrow.Author.Needs.{needs}
 use Rattle.pen.proofs.Pen.put.Statement.{statement}
 use Rattle.pen.proofs.Pen.put.Tie as tie
+use Rattle.pen.proofs.Pen.put.Reads as reads
+use Rattle.pen.proofs.Pen.put.Lts as lts
+use Rattle.pen.proofs.put_eight.Reads as put-eight-reads
 
-put-short-requires : tie.Need-put-short-requires
-put-short-requires c κs = search needs
+-- src/lib.rt:47:21
+shl-last : tie.Need-shl-last
+shl-last c = search needs
 
+-- src/lib.rt:47:20
+add-last : tie.Need-add-last
+add-last c = omega (arith, joined-low (c .before .before .args .self) (c .before .before .args .value) (c .before .before .args .width) (c .before .before .pre .1) (c .before .before .pre .2))
+
+-- src/lib.rt:48:20
+cast-part : tie.Need-cast-part
+cast-part c = search needs
+
+-- src/lib.rt:48:20
+add-part : tie.Need-add-part
+add-part c = search needs
+
+-- src/lib.rt:49:44
+sub-put-eight : tie.Need-sub-put-eight
+sub-put-eight c = search needs
+
+-- src/lib.rt:49:44
+cast-put-eight : tie.Need-cast-put-eight
+cast-put-eight c = search needs
+
+-- src/lib.rt:49:35
+shl-put-eight : tie.Need-shl-put-eight
+shl-put-eight c = search needs
+
+-- src/lib.rt:49:9
+put-eight-requires : tie.Need-put-eight-requires
+put-eight-requires c κs = search needs
+
+-- src/lib.rt:51:19
+add-t16 : tie.Need-add-t16
+add-t16 c = search needs
+
+-- src/lib.rt:42:5
 same-length : tie.Need-same-length
 same-length c = search needs
 
+-- src/lib.rt:42:5
 returns : tie.Need-returns
-returns c = c .before .before .put-short .ensures
-
-sub-put-short : tie.Need-sub-put-short
-sub-put-short c = search needs
-
-put-short-requires-2 : tie.Need-put-short-requires-2
-put-short-requires-2 c κs = (c .before .before .before .pre .0, (omega arith, high-half (c .before .before .before .args .value) (c .before .before .before .args .width) (omega arith) (c .before .before .before .pre .1 .1), omega arith))
-
-put-short-requires-3 : tie.Need-put-short-requires-3
-put-short-requires-3 c κs =
-    let f = c .before .before .before .put-short2 .ensures in
-    (ready-after f, (omega arith, omega arith, room-after 32 f (rw (length-bits (c .before .before .before .before .before .before .before .args .width - 32) (c .before .before .before .before .before .before .before .args .value / 4294967296)) (omega arith))))
-
-same-length-2 : tie.Need-same-length-2
-same-length-2 c = search needs
-
-returns-2 : tie.Need-returns-2
-returns-2 c = rw (halves (c .before .before .before .before .before .before .before .before .before .before .args .value) (c .before .before .before .before .before .before .before .before .before .before .args .width) (omega arith)) (puts-then (c .before .before .before .before .before .before .put-short2 .ensures) (c .before .before .put-short3 .ensures))
+unfolding penPut penIn
+returns c = (refl, c .before .before .put-eight .ensures)
 
 pub put-spec : {M : Type 1} → statement M
 put-spec =
     tie.close
     (tie.spec
-    put-short-requires
+    shl-last
+    add-last
+    cast-part
+    add-part
+    sub-put-eight
+    cast-put-eight
+    shl-put-eight
+    put-eight-requires
+    add-t16
     same-length
-    returns
-    sub-put-short
-    put-short-requires-2
-    put-short-requires-3
-    same-length-2
-    returns-2)
+    returns)

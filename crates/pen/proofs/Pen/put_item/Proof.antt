@@ -1,34 +1,35 @@
-use Rattle.pen.proofs.Writing.{puts-then, ready-after, room-after}
-use Rattle.items.proofs.Bits.{length-bits}
-use Rattle.items.proofs.Packing.{says, width-says}
 use native.Mathlib.Omega.{arith}
+use Rattle.pen.specs.Pen.{itemPut, itemIn}
+use Rattle.items.proofs.Packing.{says}
+use Rattle.pen.proofs.Writing.{put-bits}
 use borrow.Author.Needs.{needs}
 use Rattle.pen.proofs.Pen.put_item.Statement.{statement}
 use Rattle.pen.proofs.Pen.put_item.Tie as tie
+use Rattle.pen.proofs.Pen.put_item.Reads as reads
+use Rattle.pen.proofs.Pen.put_item.Lts as lts
+use Rattle.items.proofs.item_bits.Reads as item-bits-reads
+use Rattle.pen.proofs.Pen.put.Reads as put-reads
 
+-- src/lib.rt:61:13
 item-bits-requires : tie.Need-item-bits-requires
 item-bits-requires c κs = search needs
 
+-- src/lib.rt:62:13
 put-requires : tie.Need-put-requires
-put-requires c κs =
-    let s = says (c .before .before .before .args .item) (c .before .item-bits .result) (c .before .item-bits .ensures) in
-    let w = width-says (c .before .before .before .args .item) (c .before .item-bits .result) (c .before .item-bits .ensures) in
-    (c .before .before .before .pre .0, (omega (arith, s .first-few), s .first-low, omega arith))
+put-requires c κs = let s = says (c .before .before .before .args .item) (c .before .item-bits .result) (c .before .item-bits .ensures) in (omega (arith, c .before .before .before .pre), omega (arith, s .first-few), s .first-low)
 
+-- src/lib.rt:63:9
 put-requires-2 : tie.Need-put-requires-2
-put-requires-2 c κs =
-    let s = says (c .before .before .before .before .before .before .before .args .item) (c .before .before .before .before .before .item-bits .result) (c .before .before .before .before .before .item-bits .ensures) in
-    let w = width-says (c .before .before .before .before .before .before .before .args .item) (c .before .before .before .before .before .item-bits .result) (c .before .before .before .before .before .item-bits .ensures) in
-    let f = c .before .before .before .put .ensures in
-    (ready-after f, (omega (arith, s .behind-few), s .behind-low, room-after _ f (rw (length-bits (c .before .before .before .before .before .item-bits .result .«first_bits») (c .before .before .before .before .before .item-bits .result .first)) (omega arith))))
+put-requires-2 c κs = let s = says (c .before .before .before .before .before .before .before .args .item) (c .before .before .before .before .before .item-bits .result) (c .before .before .before .before .before .item-bits .ensures) in (rw (c .before .before .before .put .ensures .0, put-bits (c .before .before .before .before .before .before .before .args .self) (c .before .before .before .before .before .item-bits .result .first) (c .before .before .before .before .before .item-bits .result .«first_bits») (omega (arith, s .first-few)) (s .first-low)) (omega (arith, s .first-few, c .before .before .before .before .before .before .before .pre)), omega (arith, s .behind-few), s .behind-low)
 
+-- src/lib.rt:57:5
 same-length : tie.Need-same-length
 same-length c = search needs
 
+-- src/lib.rt:57:5
 returns : tie.Need-returns
-returns c =
-    let s = says (c .before .before .before .before .before .before .before .before .before .before .args .item) (c .before .before .before .before .before .before .before .before .item-bits .result) (c .before .before .before .before .before .before .before .before .item-bits .ensures) in
-    rw (s .bits) (puts-then (c .before .before .before .before .before .before .put .ensures) (c .before .before .put2 .ensures))
+unfolding itemPut itemIn
+returns c = (rw (← (c .before .before .before .before .before .before .before .before .item-bits .ensures), ← (c .before .before .before .before .before .before .put .ensures .0)) (c .before .before .put2 .ensures .0), rw (← (c .before .before .before .before .before .before .before .before .item-bits .ensures), ← (c .before .before .before .before .before .before .put .ensures .0), ← (c .before .before .before .before .before .before .put .ensures .1)) (c .before .before .put2 .ensures .1))
 
 pub put-item-spec : {M : Type 1} → statement M
 put-item-spec =

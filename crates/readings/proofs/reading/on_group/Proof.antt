@@ -1,14 +1,14 @@
-use Rattle.readings.proofs.ReadSlots.{first-is, next-is, place-is, word-is}
-use Rattle.format.specs.Laws.Tests.{clash}
-use Rattle.format.specs.Plan.{slots, placeOf, groupWords}
-use lib.ListN.{length}
-use Prim.Native.Nat.{ℕ, _<_}
-use Prim.Native.Nat.{_+_, _*_, _-_, _≤_}
-use mathlib.Core.Path.{_≡_, refl, sym, ap, _∙_}
+use Prim.Native.Nat.{ℕ, _+_, _*_, _-_, _≤_}
+use mathlib.Core.Path.{_≡_, refl, sym, ap, subst, _∙_}
+use mathlib.Core.List.{List}
 use native.Mathlib.Omega.{arith}
-use Rattle.format.specs.Plan.{lead}
 use Rattle.group.specs.Position.{positionOf}
-use Rattle.readings.proofs.ReadSlots.{Passed, passed-none, passed-more, passed-bad, passed-all, slots-few, slot-within, slot-place}
+use Rattle.format.specs.Laws.Tests.{clash}
+use Rattle.format.specs.Plan.{lead, slots}
+use Rattle.word.proofs.Stored.{word-at-is-three}
+use Rattle.taking.proofs.Slots.{ahead-next, ahead-small, dealt, place-here, word-room, slots-few}
+use Rattle.taking.specs.Slots.{Ahead}
+use Rattle.readings.proofs.ReadSlots.{ahead-in, Passed, passed-none, passed-more, passed-bad, passed-all, passed-items, passed-quiet}
 use borrow.Author.Needs.{needs}
 use Rattle.readings.proofs.reading.on_group.Statement.{statement}
 use Rattle.readings.proofs.reading.on_group.Tie as tie
@@ -16,87 +16,105 @@ use Rattle.readings.proofs.reading.on_group.Reads as reads
 use Rattle.readings.proofs.reading.on_group.Lts as lts
 use Rattle.group.proofs.reading.first_slot.Reads as first-slot-reads
 use Rattle.group.proofs.reading.next_slot.Reads as next-slot-reads
-use Rattle.group.proofs.reading.place_at.Reads as place-at-reads
+use Rattle.readings.proofs.reading.is_quiet.Reads as is-quiet-reads
+use Rattle.readings.proofs.reading.items_from.Reads as items-from-reads
+use Rattle.readings.proofs.reading.on_items.Reads as on-items-reads
 use Rattle.readings.proofs.reading.on_slot.Reads as on-slot-reads
 use Rattle.word.proofs.word_at.Reads as word-at-reads
 
 abbrev Inv-loop : tie.InvT-loop
-Inv-loop kinds plan count capture group out₀ pass₀ at₀ i₀ out pass at i = (i ≤ count) × (at ≡ positionOf plan (lead plan + i)) × Passed kinds plan capture group pass₀ out₀ i pass out
+Inv-loop kinds plan count capture group out₀ pass₀ at₀ i₀ out pass at i = (i ≤ count) × Ahead plan capture group i 0 at × Passed kinds plan capture group pass₀ out₀ i pass out
 
 abbrev μ-loop : tie.MeasureT-loop
 μ-loop kinds plan count capture group out₀ pass₀ at₀ i₀ out pass at i = count - i
 
--- src/read.rt:166:9
-inside : (c : tie.In-loop Inv-loop μ-loop) → c .before .loop .i < slots (c .before .before .before .before .before .args .plan)
-inside c = omega (arith, c .before .before .before .before .before .pre .0 .3)
-
-placed : (c : tie.After-place-at Inv-loop μ-loop) → c .place-at .result ≡ placeOf (c .before .before .before .before .before .before .args .plan) (lead (c .before .before .before .before .before .before .args .plan) + c .before .before .loop .i)
-placed c = place-is _ _ (c .before .before .loop .inv .1) (c .place-at .ensures)
-
-room : (c : tie.After-place-at Inv-loop μ-loop) → 3 * (c .before .before .before .before .before .before .args .group + c .place-at .result) + 3 ≤ length (c .before .before .before .before .before .before .args .capture .now)
-room c = omega (arith, placed c, slot-place _ _ (c .before .before .before .before .before .before .pre .0 .2) (inside (c .before)), c .before .before .before .before .before .before .pre .1 .0)
-
-few : (c : tie.In-loop Inv-loop μ-loop) → c .before .loop .pass .writer .at + 16 ≤ 16 * (c .before .before .before .before .before .args .group + groupWords (c .before .before .before .before .before .args .plan))
-few c = omega (arith, inside c, slots-few _ (c .before .before .before .before .before .pre .0 .2), c .before .loop .inv .2 .few, c .before .before .before .before .before .pre .0 .1)
-
+-- src/reading.rt:257:9
 first-slot-requires : tie.Need-first-slot-requires Inv-loop μ-loop
-first-slot-requires c κs = c .before .before .pre .0 .2
+first-slot-requires c κs = (c .before .before .pre .0 .2, omega (arith, c .before .before .pre .1 .0, c .before .before .pre .1 .1))
 
--- src/read.rt:168:5
+-- src/reading.rt:259:5
 loop-holds : tie.Need-loop-holds Inv-loop μ-loop
-loop-holds c = (omega arith, first-is _ (c .first-slot .ensures), passed-none _ _ _ _ _ _ (c .before .before .before .pre .0 .0))
+loop-holds c = let z : lead (c .before .before .before .args .plan) ≡ lead (c .before .before .before .args .plan) + 0 = omega arith in (omega arith, record { is = c .first-slot .ensures ∙ ap (positionOf (c .before .before .before .args .plan) (c .before .before .before .args .group)) z; room = omega arith; within = c .before .before .before .pre .1 .0; small = c .before .before .before .pre .1 .1; shape = c .before .before .before .pre .0 .2 }, passed-none _ _ _ _ _ _ (c .before .before .before .pre .0 .0))
 
--- src/read.rt:169:29
-place-at-requires : tie.Need-place-at-requires Inv-loop μ-loop
-place-at-requires c κs = let s = c .before .before .before .before .before .pre .0 .2 in let w = slot-within _ _ s (inside c) in (s, rw (c .before .loop .inv .1) (w .0), rw (c .before .loop .inv .1) (w .1))
-
--- src/read.rt:169:21
-add-place : tie.Need-add-place Inv-loop μ-loop
-add-place c = omega (arith, room c, c .before .before .before .before .before .before .pre .1 .1)
-
--- src/read.rt:170:43
+-- src/reading.rt:260:43
 mul-word-at : tie.Need-mul-word-at Inv-loop μ-loop
-mul-word-at c = omega (arith, room c, c .before .before .before .before .before .before .pre .1 .1)
+mul-word-at c = omega (arith, word-room (ahead-in 1 (omega (arith, c .before .loop-test .taken, c .before .before .before .before .before .before .pre .0 .3)) (c .before .before .loop .inv .1)) (omega arith), c .before .before .before .before .before .before .pre .1 .1)
 
--- src/read.rt:170:13
+-- src/reading.rt:260:13
 word-at-requires : tie.Need-word-at-requires Inv-loop μ-loop
-word-at-requires c κs = room c
+word-at-requires c κs = omega (arith, word-room (ahead-in 1 (omega (arith, c .before .loop-test .taken, c .before .before .before .before .before .before .pre .0 .3)) (c .before .before .loop .inv .1)) (omega arith))
 
--- src/read.rt:171:9
-on-slot-requires : tie.Need-on-slot-requires Inv-loop μ-loop
-on-slot-requires c κs = (c .before .before .before .before .loop .inv .2 .brought .sound, omega (arith, few (c .before .before .before), c .before .before .before .before .before .before .before .before .pre .1 .0, c .before .before .before .before .before .before .before .before .pre .1 .1), omega (arith, room (c .before .before), c .before .before .before .before .before .before .before .before .pre .1 .1), c .before .word-at .ensures .1)
+-- src/reading.rt:261:12
+is-quiet-requires : tie.Need-is-quiet-requires Inv-loop μ-loop
+is-quiet-requires c κs = search needs
 
--- src/read.rt:173:13
-same-length : tie.Need-same-length Inv-loop μ-loop
-same-length c = search needs
-
--- src/read.rt:173:13
-returns : tie.Need-returns Inv-loop μ-loop
-returns c = (passed-bad (c .before .before .before .before .before .before .before .before .before .before .before .before .args .kinds) (c .before .before .before .before .before .before .before .before .before .before .before .before .args .plan) (c .before .before .before .before .before .before .before .before .before .before .before .before .args .capture .now) (c .before .before .before .before .before .before .before .before .before .before .before .before .args .group) (c .before .before .before .before .before .before .before .before .before .before .before .before .args .pass) (c .before .before .before .before .before .before .before .before .before .before .before .before .args .out .now) (c .before .before .before .before .before .before .before .before .loop .i) _ _ (inside (c .before .before .before .before .before .before .before)) (c .before .before .before .before .before .before .before .before .loop .inv .2) (ap (λ (x : ℕ). c .before .before .before .before .before .before .before .before .before .before .before .before .args .group + x) (placed (c .before .before .before .before .before .before))) (word-is (c .before .before .before .before .before .before .before .before .before .before .before .before .args .capture .now) (c .before .before .before .before .before .before .before .before .before .before .before .before .args .group + c .before .before .before .before .before .before .place-at .result) (c .before .before .before .before .before .word-at .ensures .0)) (c .before .before .before .before .before .word-at .ensures .1) (c .before .before .before .on-slot .ensures .0) (c .if1 .taken), λ z. clash (sym z ∙ c .if1 .taken))
-
--- src/read.rt:175:9
+-- src/reading.rt:262:13
 next-slot-requires : tie.Need-next-slot-requires Inv-loop μ-loop
-next-slot-requires c κs = let s = c .before .before .before .before .before .before .before .before .before .before .before .before .pre .0 .2 in let w = slot-within _ _ s (inside (c .before .before .before .before .before .before .before)) in (s, rw (c .before .before .before .before .before .before .before .before .loop .inv .1) (w .0), rw (c .before .before .before .before .before .before .before .before .loop .inv .1) (w .1))
+next-slot-requires c κs = (c .before .before .before .before .before .before .before .before .before .pre .0 .2, dealt (ahead-in 1 (omega (arith, c .before .before .before .before .loop-test .taken, c .before .before .before .before .before .before .before .before .before .pre .0 .3)) (c .before .before .before .before .before .loop .inv .1)) (omega arith))
 
--- src/read.rt:176:9
+-- src/reading.rt:263:13
 add-i : tie.Need-add-i Inv-loop μ-loop
-add-i c = omega (arith, inside (c .before .before .before .before .before .before .before .before), slots-few _ (c .before .before .before .before .before .before .before .before .before .before .before .before .before .pre .0 .2), c .before .before .before .before .before .before .before .before .before .before .before .before .before .pre .1 .0, c .before .before .before .before .before .before .before .before .before .before .before .before .before .pre .1 .1)
+add-i c = omega (arith, ahead-small (ahead-in 1 (omega (arith, c .before .before .before .before .before .loop-test .taken, c .before .before .before .before .before .before .before .before .before .before .pre .0 .3)) (c .before .before .before .before .before .before .loop .inv .1)))
 
--- src/read.rt:168:5
+-- src/reading.rt:259:5
 loop-less : tie.Need-loop-less Inv-loop μ-loop
-loop-less c = search needs
+loop-less c = omega (arith, c .before .before .before .before .before .loop-test .taken)
 
--- src/read.rt:168:5
+-- src/reading.rt:259:5
 loop-again : tie.Need-loop-again Inv-loop μ-loop
-loop-again c = (omega arith, next-is _ _ (c .before .before .before .before .before .before .before .before .before .loop .inv .1) (c .next-slot .ensures), passed-more (c .before .before .before .before .before .before .before .before .before .before .before .before .before .args .kinds) (c .before .before .before .before .before .before .before .before .before .before .before .before .before .args .plan) (c .before .before .before .before .before .before .before .before .before .before .before .before .before .args .capture .now) (c .before .before .before .before .before .before .before .before .before .before .before .before .before .args .group) (c .before .before .before .before .before .before .before .before .before .before .before .before .before .args .pass) (c .before .before .before .before .before .before .before .before .before .before .before .before .before .args .out .now) (c .before .before .before .before .before .before .before .before .before .loop .i) (inside (c .before .before .before .before .before .before .before .before)) (c .before .before .before .before .before .before .before .before .before .before .before .before .before .pre .1 .2) (c .before .before .before .before .before .before .before .before .before .loop .inv .2) (ap (λ (x : ℕ). c .before .before .before .before .before .before .before .before .before .before .before .before .before .args .group + x) (placed (c .before .before .before .before .before .before .before))) (word-is (c .before .before .before .before .before .before .before .before .before .before .before .before .before .args .capture .now) (c .before .before .before .before .before .before .before .before .before .before .before .before .before .args .group + c .before .before .before .before .before .before .before .place-at .result) (c .before .before .before .before .before .before .word-at .ensures .0)) (c .before .before .before .before .before .before .word-at .ensures .1) (c .before .before .before .before .on-slot .ensures .0) (c .before .before .before .before .on-slot .ensures .1) (c .before .if1 .left))
+loop-again c = (omega (arith, c .before .before .before .before .before .loop-test .taken), ahead-next (ahead-in 1 (omega (arith, c .before .before .before .before .before .loop-test .taken, c .before .before .before .before .before .before .before .before .before .before .pre .0 .3)) (c .before .before .before .before .before .before .loop .inv .1)) (omega arith) 0 (omega arith) (c .next-slot .ensures), passed-quiet (c .before .before .before .before .before .before .before .before .before .before .args .kinds) (c .before .before .before .before .before .before .before .before .before .before .args .plan) (c .before .before .before .before .before .before .before .before .before .before .args .capture .now) (c .before .before .before .before .before .before .before .before .before .before .args .group) (c .before .before .before .before .before .before .before .before .before .before .args .pass) (c .before .before .before .before .before .before .before .before .before .before .args .out .now) (c .before .before .before .before .before .before .loop .i) (omega (arith, c .before .before .before .before .before .loop-test .taken, c .before .before .before .before .before .before .before .before .before .before .pre .0 .3)) (c .before .before .before .before .before .before .loop .inv .2) (place-here (ahead-in 1 (omega (arith, c .before .before .before .before .before .loop-test .taken, c .before .before .before .before .before .before .before .before .before .before .pre .0 .3)) (c .before .before .before .before .before .before .loop .inv .1)) (omega arith)) (c .before .before .before .word-at .ensures .0 ∙ sym (word-at-is-three (c .before .before .before .before .before .before .before .before .before .before .args .capture .now) (c .before .before .before .before .before .before .loop .at .place))) (c .before .before .before .word-at .ensures .1) (sym (c .before .before .is-quiet .ensures) ∙ c .before .if1 .taken))
 
--- src/read.rt:159:1
+-- src/reading.rt:266:13
+items-from-requires : tie.Need-items-from-requires Inv-loop μ-loop
+items-from-requires c κs = (c .before .before .before .before .before .before .loop .inv .1, c .before .before .before .before .before .before .before .before .before .before .pre .0 .3, omega (arith, c .before .before .before .before .before .before .loop .inv .2 .few, c .before .before .before .before .before .before .before .before .before .before .pre .0 .1, slots-few _ (c .before .before .before .before .before .before .before .before .before .before .pre .0 .2), c .before .before .before .before .before .before .before .before .before .before .pre .0 .3, c .before .before .before .before .before .before .loop .inv .0, c .before .before .before .before .before .before .before .before .before .before .pre .1 .0, c .before .before .before .before .before .before .before .before .before .before .pre .1 .1))
+
+-- src/reading.rt:268:13
+on-items-requires : tie.Need-on-items-requires Inv-loop μ-loop
+on-items-requires c κs = search needs
+
+-- src/reading.rt:259:5
+loop-less-2 : tie.Need-loop-less-2 Inv-loop μ-loop
+loop-less-2 c = omega (arith, c .before .before .if2 .taken, c .before .before .before .before .before .before .items-from .ensures .room, c .before .before .before .before .before .before .before .before .before .before .before .before .before .before .before .before .before .pre .0 .3)
+
+-- src/reading.rt:259:5
+loop-again-2 : tie.Need-loop-again-2 Inv-loop μ-loop
+loop-again-2 c = let f = c .before .before .before .before .before .before .items-from .ensures .some (c .before .before .if2 .taken) in (omega (arith, c .before .before .before .before .before .before .items-from .ensures .room, c .before .before .before .before .before .before .before .before .before .before .before .before .before .before .before .before .before .pre .0 .3), record { is = f .1 .at; room = omega (arith, c .before .before .before .before .before .before .items-from .ensures .room); within = c .before .before .before .before .before .before .before .before .before .before .before .before .before .before .before .before .before .pre .1 .0; small = c .before .before .before .before .before .before .before .before .before .before .before .before .before .before .before .before .before .pre .1 .1; shape = c .before .before .before .before .before .before .before .before .before .before .before .before .before .before .before .before .before .pre .0 .2 }, rw (c .before .on-items .ensures) (passed-items (c .before .before .before .before .before .before .before .before .before .before .before .before .before .before .before .before .before .args .kinds) (c .before .before .before .before .before .before .before .before .before .before .before .before .before .before .before .before .before .args .plan) (c .before .before .before .before .before .before .before .before .before .before .before .before .before .before .before .before .before .args .capture .now) (c .before .before .before .before .before .before .before .before .before .before .before .before .before .before .before .before .before .args .group) (c .before .before .before .before .before .before .before .before .before .before .before .before .before .before .before .before .before .args .pass) (c .before .before .before .before .before .before .before .before .before .before .before .before .before .before .before .before .before .args .out .now) (c .before .before .before .before .before .before .before .before .before .before .before .before .before .loop .i) (c .before .before .before .before .before .before .before .before .before .before .before .before .before .loop .inv .2) (c .before .before .if2 .taken) (f .0) (f .1)))
+
+-- src/reading.rt:273:9
+on-slot-requires : tie.Need-on-slot-requires Inv-loop μ-loop
+on-slot-requires c κs = (c .before .before .before .before .before .before .before .before .before .before .before .before .loop .inv .2 .brought .sound, omega (arith, c .before .before .before .before .before .before .before .before .before .before .before .before .loop .inv .2 .few, c .before .before .before .before .before .before .before .before .before .before .before .before .before .before .before .before .pre .0 .1, slots-few _ (c .before .before .before .before .before .before .before .before .before .before .before .before .before .before .before .before .pre .0 .2), c .before .before .before .before .before .before .before .before .before .before .before .before .before .before .before .before .pre .0 .3, c .before .before .before .before .before .before .before .before .before .before .before .before .loop .inv .0, c .before .before .before .before .before .before .before .before .before .before .before .before .before .before .before .before .pre .1 .0, c .before .before .before .before .before .before .before .before .before .before .before .before .before .before .before .before .pre .1 .1), omega (arith, word-room (ahead-in 1 (omega (arith, c .before .before .before .before .before .before .before .before .before .before .before .loop-test .taken, c .before .before .before .before .before .before .before .before .before .before .before .before .before .before .before .before .pre .0 .3)) (c .before .before .before .before .before .before .before .before .before .before .before .before .loop .inv .1)) (omega arith), c .before .before .before .before .before .before .before .before .before .before .before .before .before .before .before .before .pre .1 .1), c .before .before .before .before .before .before .before .before .before .word-at .ensures .1)
+
+-- src/reading.rt:275:13
+same-length : tie.Need-same-length Inv-loop μ-loop
+same-length c = c .before .before .out2 .given ∙ c .before .before .before .before .before .before .before .before .out .given ∙ c .before .before .before .before .before .before .before .before .before .before .before .before .before .before .before .before .loop .inv .2 .brought .long
+
+-- src/reading.rt:275:13
+returns : tie.Need-returns Inv-loop μ-loop
+returns c = (passed-bad (c .before .before .before .before .before .before .before .before .before .before .before .before .before .before .before .before .before .before .before .before .args .kinds) (c .before .before .before .before .before .before .before .before .before .before .before .before .before .before .before .before .before .before .before .before .args .plan) (c .before .before .before .before .before .before .before .before .before .before .before .before .before .before .before .before .before .before .before .before .args .capture .now) (c .before .before .before .before .before .before .before .before .before .before .before .before .before .before .before .before .before .before .before .before .args .group) (c .before .before .before .before .before .before .before .before .before .before .before .before .before .before .before .before .before .before .before .before .args .pass) (c .before .before .before .before .before .before .before .before .before .before .before .before .before .before .before .before .before .before .before .before .args .out .now) (c .before .before .before .before .before .before .before .before .before .before .before .before .before .before .before .before .loop .i) _ _ (omega (arith, c .before .before .before .before .before .before .before .before .before .before .before .before .before .before .before .loop-test .taken, c .before .before .before .before .before .before .before .before .before .before .before .before .before .before .before .before .before .before .before .before .pre .0 .3)) (subst (λ (o : List ℕ). Passed (c .before .before .before .before .before .before .before .before .before .before .before .before .before .before .before .before .before .before .before .before .args .kinds) (c .before .before .before .before .before .before .before .before .before .before .before .before .before .before .before .before .before .before .before .before .args .plan) (c .before .before .before .before .before .before .before .before .before .before .before .before .before .before .before .before .before .before .before .before .args .capture .now) (c .before .before .before .before .before .before .before .before .before .before .before .before .before .before .before .before .before .before .before .before .args .group) (c .before .before .before .before .before .before .before .before .before .before .before .before .before .before .before .before .before .before .before .before .args .pass) (c .before .before .before .before .before .before .before .before .before .before .before .before .before .before .before .before .before .before .before .before .args .out .now) (c .before .before .before .before .before .before .before .before .before .before .before .before .before .before .before .before .loop .i) (c .before .before .before .before .before .before .before .before .before .before .before .before .before .before .before .before .loop .pass) o) (sym (c .before .before .before .before .before .before .before .before .before .items-from .ensures .none (c .before .before .before .before .before .if2 .left))) (c .before .before .before .before .before .before .before .before .before .before .before .before .before .before .before .before .loop .inv .2)) (place-here (ahead-in 1 (omega (arith, c .before .before .before .before .before .before .before .before .before .before .before .before .before .before .before .loop-test .taken, c .before .before .before .before .before .before .before .before .before .before .before .before .before .before .before .before .before .before .before .before .pre .0 .3)) (c .before .before .before .before .before .before .before .before .before .before .before .before .before .before .before .before .loop .inv .1)) (omega arith)) (c .before .before .before .before .before .before .before .before .before .before .before .before .before .word-at .ensures .0 ∙ sym (word-at-is-three (c .before .before .before .before .before .before .before .before .before .before .before .before .before .before .before .before .before .before .before .before .args .capture .now) (c .before .before .before .before .before .before .before .before .before .before .before .before .before .before .before .before .loop .at .place))) (c .before .before .before .before .before .before .before .before .before .before .before .before .before .word-at .ensures .1) (c .before .before .before .on-slot .ensures .0) (c .if3 .taken), λ z. clash (sym z ∙ c .if3 .taken))
+
+-- src/reading.rt:277:9
+next-slot-requires-2 : tie.Need-next-slot-requires-2 Inv-loop μ-loop
+next-slot-requires-2 c κs = (c .before .before .before .before .before .before .before .before .before .before .before .before .before .before .before .before .before .before .before .before .pre .0 .2, dealt (ahead-in 1 (omega (arith, c .before .before .before .before .before .before .before .before .before .before .before .before .before .before .before .loop-test .taken, c .before .before .before .before .before .before .before .before .before .before .before .before .before .before .before .before .before .before .before .before .pre .0 .3)) (c .before .before .before .before .before .before .before .before .before .before .before .before .before .before .before .before .loop .inv .1)) (omega arith))
+
+-- src/reading.rt:278:9
+add-i-2 : tie.Need-add-i-2 Inv-loop μ-loop
+add-i-2 c = omega (arith, ahead-small (ahead-in 1 (omega (arith, c .before .before .before .before .before .before .before .before .before .before .before .before .before .before .before .before .loop-test .taken, c .before .before .before .before .before .before .before .before .before .before .before .before .before .before .before .before .before .before .before .before .before .pre .0 .3)) (c .before .before .before .before .before .before .before .before .before .before .before .before .before .before .before .before .before .loop .inv .1)))
+
+-- src/reading.rt:259:5
+loop-less-3 : tie.Need-loop-less-3 Inv-loop μ-loop
+loop-less-3 c = omega (arith, c .before .before .before .before .before .before .before .before .before .before .before .before .before .before .before .before .loop-test .taken)
+
+-- src/reading.rt:259:5
+loop-again-3 : tie.Need-loop-again-3 Inv-loop μ-loop
+loop-again-3 c = (omega (arith, c .before .before .before .before .before .before .before .before .before .before .before .before .before .before .before .before .loop-test .taken), ahead-next (ahead-in 1 (omega (arith, c .before .before .before .before .before .before .before .before .before .before .before .before .before .before .before .before .loop-test .taken, c .before .before .before .before .before .before .before .before .before .before .before .before .before .before .before .before .before .before .before .before .before .pre .0 .3)) (c .before .before .before .before .before .before .before .before .before .before .before .before .before .before .before .before .before .loop .inv .1)) (omega arith) 0 (omega arith) (c .next-slot2 .ensures), passed-more (c .before .before .before .before .before .before .before .before .before .before .before .before .before .before .before .before .before .before .before .before .before .args .kinds) (c .before .before .before .before .before .before .before .before .before .before .before .before .before .before .before .before .before .before .before .before .before .args .plan) (c .before .before .before .before .before .before .before .before .before .before .before .before .before .before .before .before .before .before .before .before .before .args .capture .now) (c .before .before .before .before .before .before .before .before .before .before .before .before .before .before .before .before .before .before .before .before .before .args .group) (c .before .before .before .before .before .before .before .before .before .before .before .before .before .before .before .before .before .before .before .before .before .args .pass) (c .before .before .before .before .before .before .before .before .before .before .before .before .before .before .before .before .before .before .before .before .before .args .out .now) (c .before .before .before .before .before .before .before .before .before .before .before .before .before .before .before .before .before .loop .i) (omega (arith, c .before .before .before .before .before .before .before .before .before .before .before .before .before .before .before .before .loop-test .taken, c .before .before .before .before .before .before .before .before .before .before .before .before .before .before .before .before .before .before .before .before .before .pre .0 .3)) (subst (λ (o : List ℕ). Passed (c .before .before .before .before .before .before .before .before .before .before .before .before .before .before .before .before .before .before .before .before .before .args .kinds) (c .before .before .before .before .before .before .before .before .before .before .before .before .before .before .before .before .before .before .before .before .before .args .plan) (c .before .before .before .before .before .before .before .before .before .before .before .before .before .before .before .before .before .before .before .before .before .args .capture .now) (c .before .before .before .before .before .before .before .before .before .before .before .before .before .before .before .before .before .before .before .before .before .args .group) (c .before .before .before .before .before .before .before .before .before .before .before .before .before .before .before .before .before .before .before .before .before .args .pass) (c .before .before .before .before .before .before .before .before .before .before .before .before .before .before .before .before .before .before .before .before .before .args .out .now) (c .before .before .before .before .before .before .before .before .before .before .before .before .before .before .before .before .before .loop .i) (c .before .before .before .before .before .before .before .before .before .before .before .before .before .before .before .before .before .loop .pass) o) (sym (c .before .before .before .before .before .before .before .before .before .before .items-from .ensures .none (c .before .before .before .before .before .before .if2 .left))) (c .before .before .before .before .before .before .before .before .before .before .before .before .before .before .before .before .before .loop .inv .2)) (place-here (ahead-in 1 (omega (arith, c .before .before .before .before .before .before .before .before .before .before .before .before .before .before .before .before .loop-test .taken, c .before .before .before .before .before .before .before .before .before .before .before .before .before .before .before .before .before .before .before .before .before .pre .0 .3)) (c .before .before .before .before .before .before .before .before .before .before .before .before .before .before .before .before .before .loop .inv .1)) (omega arith)) (c .before .before .before .before .before .before .before .before .before .before .before .before .before .before .word-at .ensures .0 ∙ sym (word-at-is-three (c .before .before .before .before .before .before .before .before .before .before .before .before .before .before .before .before .before .before .before .before .before .args .capture .now) (c .before .before .before .before .before .before .before .before .before .before .before .before .before .before .before .before .before .loop .at .place))) (c .before .before .before .before .before .before .before .before .before .before .before .before .before .before .word-at .ensures .1) (c .before .before .before .before .on-slot .ensures .0) (c .before .before .before .before .on-slot .ensures .1) (c .before .if3 .left))
+
+-- src/reading.rt:242:1
 same-length-2 : tie.Need-same-length-2 Inv-loop μ-loop
-same-length-2 c = search needs
+same-length-2 c = c .before .loop .inv .2 .brought .long
 
--- src/read.rt:159:1
+-- src/reading.rt:242:1
 returns-2 : tie.Need-returns-2 Inv-loop μ-loop
-returns-2 c = (passed-all _ _ _ _ _ _ (c .before .loop .i) (omega (arith, c .before .before .before .before .before .pre .0 .3)) (c .before .loop .inv .2), λ z. omega (arith, slots-few _ (c .before .before .before .before .before .pre .0 .2), c .before .loop .inv .2 .few, c .before .before .before .before .before .pre .0 .1, c .before .before .before .before .before .pre .0 .3))
+returns-2 c = (passed-all _ _ _ _ _ _ (c .before .loop .i) (omega (arith, c .before .before .before .before .before .pre .0 .3, c .loop-test .left)) (c .before .loop .inv .2), λ z. omega (arith, c .before .loop .inv .2 .few, c .before .before .before .before .before .pre .0 .1, slots-few _ (c .before .before .before .before .before .pre .0 .2), c .before .before .before .before .before .pre .0 .3, c .before .loop .inv .0, c .before .before .before .before .before .pre .1 .0, c .before .before .before .before .before .pre .1 .1))
 
 pub on-group-spec : {M : Type 1} → statement M
 on-group-spec =
@@ -106,16 +124,23 @@ on-group-spec =
     μ-loop
     first-slot-requires
     loop-holds
-    place-at-requires
-    add-place
     mul-word-at
     word-at-requires
-    on-slot-requires
-    same-length
-    returns
+    is-quiet-requires
     next-slot-requires
     add-i
     loop-less
     loop-again
+    items-from-requires
+    on-items-requires
+    loop-less-2
+    loop-again-2
+    on-slot-requires
+    same-length
+    returns
+    next-slot-requires-2
+    add-i-2
+    loop-less-3
+    loop-again-3
     same-length-2
     returns-2)

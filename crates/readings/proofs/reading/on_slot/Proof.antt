@@ -1,4 +1,5 @@
-use Rattle.readings.proofs.ReadPass.{bus-low, label-low, info-low, word-step, word-fits}
+use Rattle.taking.proofs.Slots.{bus-low, label-low, info-low}
+use Rattle.readings.proofs.ReadPass.{word-step, word-fits}
 use Rattle.readings.specs.ReadPass.{slotPass, slotOut}
 use native.Mathlib.Omega.{arith}
 use mathlib.Core.Path.{refl, sym, _∙_}
@@ -51,7 +52,7 @@ feed-requires c κs = ((rw (c .before .before .before .before .before .bus-of .e
 
 -- src/read.rt:150:5
 on-step-requires : tie.Need-on-step-requires
-on-step-requires c κs = (c .before .before .before .before .before .before .before .before .before .pre .0 .ready, omega arith, word-fits _ _ _ (c .before .before .before .before .before .before .before .before .before .args .pass) (c .before .before .before .before .before .before .before .before .before .pre .3) (c .before .before .before .before .before .before .before .before .before .pre .0 .sane) (word-step (c .before .before .before .before .before .before .before .before .before .args .kinds) (c .before .before .before .before .before .before .before .before .before .args .parity) (c .before .before .before .before .before .before .before .before .before .args .word) (c .before .before .before .before .before .before .before .before .before .args .pass) (c .before .before .before .before .before .before .before .bus-of .ensures) (c .before .before .before .label-of .ensures) (c .before .before .information-of .ensures) (c .before .feed .ensures)))
+on-step-requires c κs = (omega arith, word-fits _ _ _ (c .before .before .before .before .before .before .before .before .before .args .pass) (c .before .before .before .before .before .before .before .before .before .pre .3) (c .before .before .before .before .before .before .before .before .before .pre .0 .sane) (word-step (c .before .before .before .before .before .before .before .before .before .args .kinds) (c .before .before .before .before .before .before .before .before .before .args .parity) (c .before .before .before .before .before .before .before .before .before .args .word) (c .before .before .before .before .before .before .before .before .before .args .pass) (c .before .before .before .before .before .before .before .bus-of .ensures) (c .before .before .before .label-of .ensures) (c .before .before .information-of .ensures) (c .before .feed .ensures)))
 
 -- src/read.rt:138:1
 same-length : tie.Need-same-length

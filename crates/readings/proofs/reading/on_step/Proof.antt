@@ -14,11 +14,11 @@ returns c = (rw (c .before .before .if1 .taken) refl, rw (c .before .before .if1
 
 -- src/read.rt:125:9
 put-step-requires : tie.Need-put-step-requires
-put-step-requires c κs = (c .before .before .before .before .before .pre .0, c .before .before .before .before .before .pre .1, c .before .before .before .before .before .pre .2 (c .before .before .if1 .left) .0)
+put-step-requires c κs = (c .before .before .before .before .before .pre .0, c .before .before .before .before .before .pre .1 (c .before .before .if1 .left) .0)
 
 -- src/read.rt:126:9
 since-requires : tie.Need-since-requires
-since-requires c κs = c .before .before .before .before .before .before .before .before .pre .2 (c .before .before .before .before .before .if1 .left) .1
+since-requires c κs = c .before .before .before .before .before .before .before .before .pre .1 (c .before .before .before .before .before .if1 .left) .1
 
 -- src/read.rt:127:61
 on-data-requires : tie.Need-on-data-requires

@@ -50,7 +50,7 @@ returns c = record { through = λ z. absurd (c .if1 .taken z); stops = λ z. ove
 
 -- src/read.rt:217:9
 on-group-requires : tie.Need-on-group-requires Inv-loop μ-loop
-on-group-requires c κs = ((c .before .before .before .before .before .loop .inv .2 .brought .sound, rw (c .before .before .before .before .before .loop .inv .1) (c .before .before .before .before .before .loop .inv .2 .few), c .before .before .before .before .before .before .before .before .before .before .pre .0 .0, c .before .before .before .before .before .before .before .before .before .before .pre .0 .1), (room (c .before .before .before .before), c .before .before .before .before .before .before .before .before .before .before .pre .1 .1, rw (c .before .before .before .before .before .loop .inv .2 .brought .long) (c .before .before .before .before .before .before .before .before .before .before .pre .0 .3)))
+on-group-requires c κs = ((c .before .before .before .before .before .loop .inv .2 .brought .sound, rw (c .before .before .before .before .before .loop .inv .1) (c .before .before .before .before .before .loop .inv .2 .few), c .before .before .before .before .before .before .before .before .before .before .pre .0 .0, c .before .before .before .before .before .before .before .before .before .before .pre .0 .1), (room (c .before .before .before .before), c .before .before .before .before .before .before .before .before .before .before .pre .1 .1))
 
 -- src/read.rt:219:13
 same-length-2 : tie.Need-same-length-2 Inv-loop μ-loop

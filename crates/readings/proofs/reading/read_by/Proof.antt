@@ -42,7 +42,7 @@ slots-requires c κs = search needs
 
 -- src/reading.rt:350:9
 read-groups-requires : tie.Need-read-groups-requires
-read-groups-requires c κs = let e = c .before .before .before .before .group-words .ensures .0 in ((c .before .before .before .before .before .before .before .before .before .pre .0 .0, c .before .before .slots .ensures .0, c .before .before .before .tables .ensures, c .before .before .before .before .before .before .before .before .before .pre .1 .0), (rw e (whole-groups (c .before .before .before .before .before .before .before .before .before .args .plan) (length (c .before .before .before .before .before .before .before .before .before .args .capture .now)) (c .before .before .before .before .before .before .before .before .before .pre .0 .2)), c .before .before .before .before .before .before .before .before .before .pre .0 .1))
+read-groups-requires c κs = let e = c .before .before .before .before .group-words .ensures .0 in ((c .before .before .before .before .before .before .before .before .before .pre .0 .0, c .before .before .slots .ensures .0, c .before .before .before .tables .ensures), (rw e (whole-groups (c .before .before .before .before .before .before .before .before .before .args .plan) (length (c .before .before .before .before .before .before .before .before .before .args .capture .now)) (c .before .before .before .before .before .before .before .before .before .pre .0 .2)), c .before .before .before .before .before .before .before .before .before .pre .0 .1))
 
 -- src/reading.rt:352:9
 refusal-requires : tie.Need-refusal-requires
@@ -78,7 +78,7 @@ returns-2 c = given-refused (c .before .before .before .before .before .before .
 
 -- src/reading.rt:358:5
 give-requires : tie.Need-give-requires
-give-requires c κs = let l = (log-of (c .before .before .before .before .before .before .before .before .before .before .before .before .before .before .before .before .before .before .before .args .plan) (c .before .before .before .before .before .before .before .before .before .before .before .before .before .before .before .before .before .before .before .args .capture .now) (length (c .before .before .before .before .before .before .before .before .before .before .before .before .before .before .before .before .before .before .before .args .capture .now) / (3 * groupWords (c .before .before .before .before .before .before .before .before .before .before .before .before .before .before .before .before .before .before .before .args .plan))) (readGroups (c .before .before .before .before .before .before .before .before .before .before .before .before .before .before .before .before .before .before .before .args .plan) (c .before .before .before .before .before .before .before .before .before .before .before .before .before .before .before .before .before .before .before .args .kinds) (c .before .before .before .before .before .before .before .before .before .before .before .before .before .before .before .before .before .before .before .args .capture .now) (length (c .before .before .before .before .before .before .before .before .before .before .before .before .before .before .before .before .before .before .before .args .capture .now) / (3 * groupWords (c .before .before .before .before .before .before .before .before .before .before .before .before .before .before .before .before .before .before .before .args .plan))) 0 Nothing 0) (c .before .before .before .before .before .before .before .before .before .read-groups .result) (c .before .before .before .before .before .before .before .before .before .read-groups .last .1 .1 .1 .1 .1 .1 .0) (rw (c .before .before .before .before .before .before .before .before .before .before .before .before .before .before .group-words .ensures .0) at (c .before .before .before .before .before .before .before .before .before .read-groups .ensures)) (c .before .before .before .before .before .if1 .left)) in let e = c .before .before .before .before .before .before .before .before .before .before .before .before .before .before .group-words .ensures .0 in ((c .before .before .before .before .before .before .before .before .before .before .before .before .before .before .before .before .before .before .before .pre .0 .0, rw e (omega (arith, whole-groups (c .before .before .before .before .before .before .before .before .before .before .before .before .before .before .before .before .before .before .before .args .plan) (length (c .before .before .before .before .before .before .before .before .before .before .before .before .before .before .before .before .before .before .before .args .capture .now)) (c .before .before .before .before .before .before .before .before .before .before .before .before .before .before .before .before .before .before .before .pre .0 .2))), c .before .before .before .before .before .before .before .before .before .before .before .before .before .before .before .before .before .before .before .pre .0 .1), λ h k. let w = c .before .before .before .before .before .before .before .before .before .before .before .before .before .before .before .before .before .before .before .pre .1 .1 .room (l .items) (l .is) (omega (arith, l .built .size, h)) (omega (arith, l .built .size, k)) in let s : length (c .before .before .before .before .before .before .before .before .before .read-groups .last .1 .1 .1 .1 .1 .1 .0) ≡ length (c .before .before .before .before .before .before .before .before .before .before .before .before .before .before .before .before .before .before .before .args .built .now) = c .before .before .before .before .before .before .before .before .built .given in omega (arith, w, s, l .built .size))
+give-requires c κs = let l = (log-of (c .before .before .before .before .before .before .before .before .before .before .before .before .before .before .before .before .before .before .before .args .plan) (c .before .before .before .before .before .before .before .before .before .before .before .before .before .before .before .before .before .before .before .args .capture .now) (length (c .before .before .before .before .before .before .before .before .before .before .before .before .before .before .before .before .before .before .before .args .capture .now) / (3 * groupWords (c .before .before .before .before .before .before .before .before .before .before .before .before .before .before .before .before .before .before .before .args .plan))) (readGroups (c .before .before .before .before .before .before .before .before .before .before .before .before .before .before .before .before .before .before .before .args .plan) (c .before .before .before .before .before .before .before .before .before .before .before .before .before .before .before .before .before .before .before .args .kinds) (c .before .before .before .before .before .before .before .before .before .before .before .before .before .before .before .before .before .before .before .args .capture .now) (length (c .before .before .before .before .before .before .before .before .before .before .before .before .before .before .before .before .before .before .before .args .capture .now) / (3 * groupWords (c .before .before .before .before .before .before .before .before .before .before .before .before .before .before .before .before .before .before .before .args .plan))) 0 Nothing 0) (c .before .before .before .before .before .before .before .before .before .read-groups .result) (c .before .before .before .before .before .before .before .before .before .read-groups .last .1 .1 .1 .1 .1 .1 .0) (rw (c .before .before .before .before .before .before .before .before .before .before .before .before .before .before .group-words .ensures .0) at (c .before .before .before .before .before .before .before .before .before .read-groups .ensures)) (c .before .before .before .before .before .if1 .left)) in let e = c .before .before .before .before .before .before .before .before .before .before .before .before .before .before .group-words .ensures .0 in ((c .before .before .before .before .before .before .before .before .before .before .before .before .before .before .before .before .before .before .before .pre .0 .0, rw e (omega (arith, whole-groups (c .before .before .before .before .before .before .before .before .before .before .before .before .before .before .before .before .before .before .before .args .plan) (length (c .before .before .before .before .before .before .before .before .before .before .before .before .before .before .before .before .before .before .before .args .capture .now)) (c .before .before .before .before .before .before .before .before .before .before .before .before .before .before .before .before .before .before .before .pre .0 .2))), c .before .before .before .before .before .before .before .before .before .before .before .before .before .before .before .before .before .before .before .pre .0 .1), λ h k. let w = c .before .before .before .before .before .before .before .before .before .before .before .before .before .before .before .before .before .before .before .pre .1 .room (l .items) (l .is) (omega (arith, l .built .size, h)) (omega (arith, l .built .size, k)) in let s : length (c .before .before .before .before .before .before .before .before .before .read-groups .last .1 .1 .1 .1 .1 .1 .0) ≡ length (c .before .before .before .before .before .before .before .before .before .before .before .before .before .before .before .before .before .before .before .args .built .now) = c .before .before .before .before .before .before .before .before .built .given in omega (arith, w, s, l .built .size))
 
 -- src/reading.rt:343:1
 same-length-3 : tie.Need-same-length-3

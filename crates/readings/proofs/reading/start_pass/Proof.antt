@@ -4,15 +4,20 @@ use Rattle.readings.proofs.reading.start_pass.Statement.{statement}
 use Rattle.readings.proofs.reading.start_pass.Tie as tie
 use Rattle.readings.proofs.reading.start_pass.Reads as reads
 use Rattle.readings.proofs.reading.start_pass.Lts as lts
+use Rattle.pen.proofs.Pen.start.Reads as start-reads
 use Rattle.reader.proofs.nothing.Reads as nothing-reads
 
--- src/read.rt:194:15
+-- src/reading.rt:216:15
 nothing-requires : tie.Need-nothing-requires
 nothing-requires c κs = search needs
 
--- src/read.rt:190:1
+-- src/reading.rt:218:14
+start-requires : tie.Need-start-requires
+start-requires c κs = search needs
+
+-- src/reading.rt:212:1
 returns : tie.Need-returns
-returns c = rw (c .nothing .ensures) refl
+returns c = rw (c .before .nothing .ensures, c .start .ensures) refl
 
 pub start-pass-spec : {M : Type 1} → statement M
-start-pass-spec = tie.close (tie.spec nothing-requires returns)
+start-pass-spec = tie.close (tie.spec nothing-requires start-requires returns)

@@ -1,0 +1,18 @@
+use mathlib.Core.Path.{refl}
+use borrow.Author.Tests.{eq-eqb, ne-eqb}
+use borrow.Author.Needs.{needs}
+use Rattle.readings.proofs.reading.earlier.Statement.{statement}
+use Rattle.readings.proofs.reading.earlier.Tie as tie
+use Rattle.readings.proofs.reading.earlier.Reads as reads
+use Rattle.readings.proofs.reading.earlier.Lts as lts
+
+-- src/reading.rt:369:1
+returns : tie.Need-returns
+returns c = rw (eq-eqb _ _ (c .if1 .taken)) refl
+
+-- src/reading.rt:369:1
+returns-2 : tie.Need-returns-2
+returns-2 c = rw (ne-eqb _ _ (c .if1 .left)) refl
+
+pub earlier-spec : {M : Type 1} → statement M
+earlier-spec = tie.close (tie.spec returns returns-2)

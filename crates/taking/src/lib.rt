@@ -1,0 +1,340 @@
+// Items taken whole from the data slots of a group: a short way over slots where nothing is held, for words that stand next to
+// each other. It stops before whatever it does not take, which is left to the reader, word by word.
+ghost use mathlib.Core.Path.{_≡_};
+ghost use Prim.Native.Nat.{ℕ, _+_, _*_, _-_, _%_, _≤_, _<_, _^_};
+ghost use lib.ListN.{length};
+ghost use mathlib.Core.List.{List};
+ghost use Rattle.format.specs.declared.Kind.{Kind};
+ghost use Rattle.format.specs.Word.{busOf, infoOf};
+ghost use Rattle.format.specs.Plan.{kindOn, slots};
+ghost use Rattle.taking.specs.Slots.{Ahead, placeIn, topOf, wordIn};
+ghost use Rattle.reader.specs.Holding.{Sane};
+ghost use Rattle.taking.specs.Taken.{Puts, Takes, Took, Went};
+use format::Kind;
+use format::Plan;
+use group::reading;
+use group::reading::Position;
+use pen::Pen;
+use reader::Holding;
+use reader::Step;
+
+// How far items were taken: the slot behind them and where it stands, the place of the last word taken, and the log so far.
+pub struct Taken {
+    pub slot: usize,
+    pub at: Position,
+    pub last: usize,
+    pub pen: Pen,
+}
+
+// An item: its two strings of log bits, how many slots it has, where the slot behind it stands, and the place of its last
+// word; no slots if none was taken.
+pub struct Whole {
+    pub step: Step,
+    pub slots: usize,
+    pub at: Position,
+    pub last: usize,
+}
+
+// What may have a tag, as far as the tag: how many slots it has, and where the slot behind them stands; no slots if there is
+// no such thing.
+pub struct Begun {
+    pub held: Holding,
+    pub slots: usize,
+    pub at: Position,
+    pub last: usize,
+}
+
+fn none(at: Position) -> Whole
+    ensures { λ r. ⌜ r .slots ≡ 0 ⌝ }
+{
+    Whole {
+        step: reader::finish(reader::nothing()),
+        slots: 0,
+        at: at,
+        last: 0,
+    }
+}
+
+// Bus x 16 + label.
+fn top_of(parity: bool, word: u32) -> u32
+    requires { ⌜ word < 2 ^ 24 ⌝ }
+    ensures { λ r. ⌜ (r ≡ topOf parity word) × (r < 256) ⌝ }
+{
+    let top = word / 0x10000;
+    if parity { top % 128 } else { top }
+}
+
+// The word in the slot that stands there.
+fn word_of(plan: Plan, capture: &[u8], group: usize, slot: usize, at: Position) -> u32
+    requires { ⌜ Ahead plan (now capture) group slot 1 at ⌝ }
+    ensures { λ r. ⌜ (r ≡ wordIn plan (now (capture .entry)) group slot) × (r < 2 ^ 24) ⌝ }
+{
+    word::word_at(capture, 3 * at.place)
+}
+
+// The three words of a tag; the first, in the slot `slot`, is the one that is awaited.
+fn with_tag(
+    plan: Plan,
+    capture: &[u8],
+    held: Holding,
+    top: u32,
+    high: u32,
+    group: usize,
+    slot: usize,
+    slots: usize,
+    at: Position,
+) -> Whole
+    requires { ⌜ Ahead plan (now capture) group slot 3 at × Sane held × (slots ≤ 2) ⌝ }
+    requires { ⌜ (top ≡ topOf (plan .parity) (wordIn plan (now capture) group slot)) × (high ≡ infoOf (wordIn plan (now capture) group slot)) ⌝ }
+    requires { ⌜ (held .awaits ≡ top) × (top % 16 ≡ 7) × (top < 256) × (wordIn plan (now capture) group slot < 2 ^ 24) ⌝ }
+    ensures { λ r. ⌜ (r .slots ≤ 5) × ((kinds : List Kind) (from : ℕ) → from + slots ≡ slot → ((q : ℕ) → Went kinds plan (now (capture .entry)) group from q slot held) → Takes kinds plan (now (capture .entry)) group from r) ⌝ }
+{
+    let bus = top / 16;
+    let first = reader::goes_on(held, bus, 7, high);
+    let at_low = reading::next_slot(plan, at);
+    let low_slot = slot + 1;
+    let low = word_of(plan, capture, group, low_slot, at_low);
+    if top_of(plan.parity, low) + 1 != top {
+        return none(at);
+    }
+    let second = reader::goes_on(first.held, bus, 6, low % 65536);
+    let at_micro = reading::next_slot(plan, at_low);
+    let micro_slot = low_slot + 1;
+    let micro = word_of(plan, capture, group, micro_slot, at_micro);
+    if top_of(plan.parity, micro) + 2 != top {
+        return none(at);
+    }
+    let third = reader::goes_on(second.held, bus, 5, micro % 65536);
+    if third.bad {
+        return none(at);
+    }
+    if third.held.awaits != 0 {
+        return none(at);
+    }
+    Whole {
+        step: third,
+        slots: slots + 3,
+        at: reading::next_slot(plan, at_micro),
+        last: at_micro.place,
+    }
+}
+
+// What may have a tag, and the slot `slot` behind it: with its tag, or without one if another word stands there.
+fn tail(plan: Plan, capture: &[u8], begun: Begun, group: usize, slot: usize) -> Whole
+    requires { ⌜ Ahead plan (now capture) group slot 3 (begun .at) × Sane (begun .held) × (begun .slots ≤ 2) ⌝ }
+    ensures { λ r. ⌜ (r .slots ≤ 5) × ((kinds : List Kind) (from : ℕ) → from + begun .slots ≡ slot → ((q : ℕ) → Went kinds plan (now (capture .entry)) group from q slot (begun .held)) → Takes kinds plan (now (capture .entry)) group from r) ⌝ }
+{
+    let held = begun.held;
+    let at = begun.at;
+    let word = word_of(plan, capture, group, slot, at);
+    let top = top_of(plan.parity, word);
+    if top == held.awaits {
+        if top % 16 == 7 {
+            return with_tag(
+                plan,
+                capture,
+                held,
+                top,
+                word % 65536,
+                group,
+                slot,
+                begun.slots,
+                at,
+            );
+        }
+        return none(at);
+    }
+    if word::is_fill(word) {
+        return none(at);
+    }
+    let step = reader::finish(held);
+    if step.bad {
+        return none(at);
+    }
+    Whole {
+        step: step,
+        slots: begun.slots,
+        at: at,
+        last: begun.last,
+    }
+}
+
+// A command, or an ARINC word: the high syllable is held, and the low one stands in the slot `slot`.
+fn begun_with(
+    plan: Plan,
+    capture: &[u8],
+    held: Holding,
+    group: usize,
+    slot: usize,
+    at: Position,
+    last: usize,
+) -> Begun
+    requires { ⌜ Ahead plan (now capture) group slot 4 at × Sane held × (held .awaits ≡ 0 → ⊥) ⌝ }
+    ensures { λ r. ⌜ (r .slots ≤ 2) × ((r .slots ≡ 0 → ⊥) → Sane (r .held) × Ahead plan (now (capture .entry)) group (slot + r .slots - 1) 3 (r .at)) ⌝ }
+    ensures { λ r. ⌜ ((kinds : List Kind) (from : ℕ) → from + 1 ≡ slot → ((q : ℕ) → Went kinds plan (now (capture .entry)) group from q slot held) → (r .slots ≡ 0 → ⊥) → (q : ℕ) → Went kinds plan (now (capture .entry)) group from q (from + r .slots) (r .held)) ⌝ }
+{
+    if held.awaits % 16 == 7 {
+        return Begun {
+            held: held,
+            slots: 1,
+            at: at,
+            last: last,
+        };
+    }
+    let word = word_of(plan, capture, group, slot, at);
+    let top = top_of(plan.parity, word);
+    if top == held.awaits {
+        if 8 <= top % 16 {
+            let half = reader::goes_on(held, top / 16, top % 16, word % 65536);
+            let kept = half.held;
+            return Begun {
+                held: kept,
+                slots: 2,
+                at: reading::next_slot(plan, at),
+                last: at.place,
+            };
+        }
+    }
+    Begun {
+        held: held,
+        slots: 0,
+        at: at,
+        last: last,
+    }
+}
+
+// A response time is held, and its status stands in the slot `slot`.
+fn answered(
+    plan: Plan,
+    capture: &[u8],
+    held: Holding,
+    group: usize,
+    slot: usize,
+    at: Position,
+) -> Whole
+    requires { ⌜ Ahead plan (now capture) group slot 1 at × Sane held × (held .awaits ≡ 0 → ⊥) ⌝ }
+    ensures { λ r. ⌜ (r .slots ≤ 5) × ((kinds : List Kind) (from : ℕ) → from + 1 ≡ slot → ((q : ℕ) → Went kinds plan (now (capture .entry)) group from q slot held) → Takes kinds plan (now (capture .entry)) group from r) ⌝ }
+{
+    let word = word_of(plan, capture, group, slot, at);
+    let top = top_of(plan.parity, word);
+    if top == held.awaits {
+        return none(at);
+    }
+    if held.awaits % 16 == 7 {
+        return none(at);
+    }
+    if top % 16 < 8 {
+        return none(at);
+    }
+    let step = reader::answers(held, top / 16, top % 16, word % 65536);
+    if step.bad {
+        return none(at);
+    }
+    if step.held.awaits != 0 {
+        return none(at);
+    }
+    Whole {
+        step: step,
+        slots: 2,
+        at: reading::next_slot(plan, at),
+        last: at.place,
+    }
+}
+
+// The item whose first word stands in the slot `slot`, where nothing is held.
+fn item_at(
+    kind: Kind,
+    plan: Plan,
+    capture: &[u8],
+    group: usize,
+    slot: usize,
+    at: Position,
+    word: u32,
+    top: u32,
+) -> Whole
+    requires { ⌜ Ahead plan (now capture) group slot 5 at × (word ≡ wordIn plan (now capture) group slot) × (word < 2 ^ 24) ⌝ }
+    requires { ⌜ (top ≡ topOf (plan .parity) word) × (top < 256) ⌝ }
+    ensures { λ r. ⌜ (r .slots ≤ 5) × ((kinds : List Kind) → kindOn kinds (busOf (plan .parity) word) ≡ kind → Takes kinds plan (now (capture .entry)) group slot r) ⌝ }
+{
+    let step = reader::begin(kind, top / 16, top % 16, word % 65536);
+    if step.bad {
+        return none(at);
+    }
+    let held = step.held;
+    let next = reading::next_slot(plan, at);
+    if held.awaits == 0 {
+        return Whole {
+            step: step,
+            slots: 1,
+            at: next,
+            last: at.place,
+        };
+    }
+    if 256 <= held.awaits {
+        return answered(plan, capture, held, group, slot + 1, next);
+    }
+    let begun = begun_with(plan, capture, held, group, slot + 1, next, at.place);
+    if begun.slots == 0 {
+        return none(at);
+    }
+    tail(plan, capture, begun, group, slot + begun.slots)
+}
+
+// A string that may be empty.
+fn put_some(pen: Pen, out: &mut [u8], value: u64, width: u32) -> Pen
+    requires { ⌜ (pen .bits < 2 ^ 61) × (width ≤ 56) × (value < 2 ^ width) ⌝ }
+    ensures { λ r. ⌜ Puts value width (now (out .entry)) pen (now (out .exit)) r ⌝ }
+{
+    if width == 0 {
+        return pen;
+    }
+    pen.put(out, value, width)
+}
+
+// The items from the slot of `from` on, where nothing is held, as far as they are taken.
+pub fn take(
+    kinds: [Kind; 16],
+    plan: Plan,
+    count: usize,
+    capture: &[u8],
+    group: usize,
+    from: Taken,
+    out: &mut [u8],
+) -> Taken
+    requires { ⌜ Ahead plan (now capture) group (from .slot) 0 (from .at) × (count ≡ slots plan) × (from .pen .bits < 2 ^ 59) ⌝ }
+    ensures { λ r. ⌜ Took kinds plan (now (capture .entry)) group from (now (out .entry)) r (now (out .exit)) ⌝ }
+{
+    let mut slot = from.slot;
+    let mut at = from.at;
+    let mut last = from.last;
+    let mut pen = from.pen;
+    while slot + 5 <= count {
+        let word = word_of(plan, capture, group, slot, at);
+        let top = top_of(plan.parity, word);
+        let whole = item_at(
+            kinds[(top / 16) as usize],
+            plan,
+            capture,
+            group,
+            slot,
+            at,
+            word,
+            top,
+        );
+        if whole.slots == 0 {
+            break;
+        }
+        let step = whole.step;
+        let half = put_some(pen, out, step.first, step.first_width);
+        pen = put_some(half, out, step.second, step.second_width);
+        slot += whole.slots;
+        at = whole.at;
+        last = whole.last;
+    }
+    Taken {
+        slot: slot,
+        at: at,
+        last: last,
+        pen: pen,
+    }
+}
