@@ -10,7 +10,7 @@ use lib.ListN.{length}
 use borrow.Author.Tests.{eq-eqb, ne-eqb}
 use Rattle.format.specs.Compose.{Composed, refused, composeParsed, composed, groupsFor}
 use Rattle.format.specs.Item.{itemWords}
-use Rattle.format.specs.Lists.{Bytes}
+use Rattle.format.specs.Lists.{Bytes, list}
 use Rattle.format.specs.Log.{Parsed, items, fault, logOf, onPlan, parsed}
 use Rattle.format.specs.Plan.{lead, legal, rows, slots}
 use Rattle.format.specs.declared.Item.{Item}
@@ -75,3 +75,11 @@ module _ (p : Plan) (ks : List Kind) (log : List ℕ) (w : Bytes log) where
 pub eights : (p : Plan) (ks : List Kind) (log times : List ℕ) (room : ℕ) → length times % 8 ≡ 0 → composedBytes p ks log times room ≡ composed p ks log (timesFrom times) room
 unfolding composedBytes
 eights p ks log times room z = rw (eq-eqb (length times % 8) 0 z)
+
+-- a call without times
+pub no-times : (p : Plan) (ks : List Kind) (log times : List ℕ) (room : ℕ) → length times ≡ 0 → composedBytes p ks log times room ≡ composed p ks log [] room
+unfolding list
+no-times p ks log times room z =
+    let e : length times % 8 ≡ 0 = omega arith in
+    let n : length times / 8 ≡ 0 = omega arith in
+    eights p ks log times room e ∙ rw n

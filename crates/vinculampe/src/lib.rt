@@ -38,7 +38,7 @@ fn unnamed() -> Answer
 }
 
 // No log needs more than 126 times, so a full row is a wrong number of them whatever the log.
-fn compose_bytes(plan: Plan, kinds: [Kind; 16], log: &[u8], times: &[u8], out: &mut [u8]) -> Answer
+fn compose_timed(plan: Plan, kinds: [Kind; 16], log: &[u8], times: &[u8], out: &mut [u8]) -> Answer
     ensures { λ r. ⌜ (r ≡ composeAnswer (composedBytes plan kinds (now (log .entry)) (now (times .entry)) (length (now (out .entry)))))
         × (now (out .exit) ≡ outAfter (composedBytes plan kinds (now (log .entry)) (now (times .entry)) (length (now (out .entry)))) (now (out .entry))) ⌝ }
 {
@@ -52,6 +52,18 @@ fn compose_bytes(plan: Plan, kinds: [Kind; 16], log: &[u8], times: &[u8], out: &
     let number = times.len() / 8;
     times_from(times, &mut row);
     compose(plan, kinds, log, &row[..number], out)
+}
+
+// A call without times, as every plan without frame time has, clears no row for them.
+fn compose_bytes(plan: Plan, kinds: [Kind; 16], log: &[u8], times: &[u8], out: &mut [u8]) -> Answer
+    ensures { λ r. ⌜ (r ≡ composeAnswer (composedBytes plan kinds (now (log .entry)) (now (times .entry)) (length (now (out .entry)))))
+        × (now (out .exit) ≡ outAfter (composedBytes plan kinds (now (log .entry)) (now (times .entry)) (length (now (out .entry)))) (now (out .entry))) ⌝ }
+{
+    if times.len() == 0 {
+        let none = [0u64; 1];
+        return compose(plan, kinds, log, &none[..0], out);
+    }
+    compose_timed(plan, kinds, log, times, out)
 }
 
 #[no_mangle]
