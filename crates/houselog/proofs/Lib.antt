@@ -1,4 +1,3 @@
 pub mod Eight
-pub mod Splice
 pub mod Items
 pub mod Parsing

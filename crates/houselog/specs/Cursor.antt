@@ -1,11 +1,10 @@
--- Fields of a log at a bit: what is read there, and what is put there.
-use Prim.Native.Nat.{ℕ, _+_, _-_, _*_, _/_, _%_, _^_, _≤_}
-use mathlib.Core.Bool.{Bool, true, false, cond}
+-- Fields of a log at a bit: what is read there.
+use Prim.Native.Nat.{ℕ, _+_, _-_, _/_, _%_, _^_, _≤_}
+use mathlib.Core.Bool.{cond}
 use mathlib.Core.Path.{_≡_}
-use mathlib.Core.List.{List, [], _∷_, _++_}
-use lib.ListN.{length, take, drop, getD, set}
+use mathlib.Core.List.{List, [], _∷_}
+use lib.ListN.{length, getD}
 use lib.Dec.{leb}
-use Rattle.format.specs.Bits.{bitsOf}
 use Rattle.format.specs.Log.{field}
 use Rattle.houselog.specs.declared.Took.{Took}
 use Rattle.houselog.specs.declared.Took.the-variants.{Field, Cut}
@@ -14,21 +13,9 @@ use Rattle.houselog.specs.declared.Took.the-variants.{Field, Cut}
 abbrev pub tookOf : List ℕ → ℕ → ℕ → Took
 tookOf s p w = cond (leb (p + w) (length s)) (Field (field s p w) (record { at = p + w })) Cut
 
--- the w low bits of v in the place of those from p on
-abbrev pub putOf : List ℕ → ℕ → ℕ → ℕ → List ℕ
-putOf s p w v = take p s ++ (bitsOf w v ++ drop (p + w) s)
-
 -- the eight bytes from i on, zeros past the end
 abbrev pub eight : List ℕ → ℕ → List ℕ
 eight s i = getD s i 0 ∷ getD s (i + 1) 0 ∷ getD s (i + 2) 0 ∷ getD s (i + 3) 0 ∷ getD s (i + 4) 0 ∷ getD s (i + 5) 0 ∷ getD s (i + 6) 0 ∷ getD s (i + 7) 0 ∷ []
-
--- eight bytes stored from i on, as far as there is room
-abbrev pub setEight : List ℕ → ℕ → ℕ → ℕ → ℕ → ℕ → ℕ → ℕ → ℕ → ℕ → List ℕ
-setEight s i a b c d e f g h = set (set (set (set (set (set (set (set s i a) (i + 1) b) (i + 2) c) (i + 3) d) (i + 4) e) (i + 5) f) (i + 6) g) (i + 7) h
-
--- the number w with the n bits above its r lowest replaced by v
-unfoldable pub renewed : ℕ → ℕ → ℕ → ℕ → ℕ
-renewed w v n r = (w / 2 ^ r / 2 ^ n * 2 ^ n + v) * 2 ^ r + w % 2 ^ r
 
 -- the highest of the 64 bits of w are those of s from p on: every field within 57 bits can be read from w
 abbrev pub Window : List ℕ → ℕ → ℕ → Type 0

@@ -1,10 +1,10 @@
-// The field at a cursor, in a window of eight bytes: read, and put.
+// The field at a cursor, in a window of eight bytes.
 ghost use mathlib.Core.Path.{_≡_};
 ghost use Prim.Native.Nat.{_+_, _*_, _/_, _%_, _≤_, _<_, _^_};
-ghost use lib.ListN.{length, getD, set};
+ghost use lib.ListN.{length, getD};
 ghost use mathlib.Core.List.{[], _∷_};
 ghost use Rattle.format.specs.Bits.{bitsOf, bytesBits};
-ghost use Rattle.houselog.specs.Cursor.{tookOf, putOf, eight, renewed, setEight, Window, Ending};
+ghost use Rattle.houselog.specs.Cursor.{tookOf, eight, Window, Ending};
 use crate::Cursor;
 use crate::Took;
 
@@ -66,39 +66,6 @@ fn eight_at(s: &[u8], i: usize) -> u64
     )
 }
 
-// w with the n bits above its r lowest replaced by v.
-fn renew(w: u64, v: u64, n: u32, r: u32) -> u64
-    requires { ⌜ (1 ≤ n) × (n + r ≤ 64) × (r ≤ 63) × (n ≤ 57) × (v < 2 ^ n) ⌝ }
-    ensures { λ f. ⌜ f ≡ renewed w v n r ⌝ }
-{
-    let old = (w >> r) & ((1u64 << n) - 1);
-    w - (old << r) + (v << r)
-}
-
-// The byte at i is v from now on, where there is one.
-fn put_byte(s: &mut [u8], i: usize, v: u8)
-    ensures { λ _. ⌜ now (s .exit) ≡ set (now (s .entry)) i v ⌝ }
-{
-    if i < s.len() {
-        s[i] = v;
-    }
-}
-
-// The eight bytes of w from i on, as far as there is room.
-fn put_eight(s: &mut [u8], i: usize, w: u64)
-    requires { ⌜ i ≤ 4294967296 ⌝ }
-    ensures { λ _. ⌜ now (s .exit) ≡ setEight (now (s .entry)) i (w / 72057594037927936) (w / 281474976710656 % 256) (w / 1099511627776 % 256) (w / 4294967296 % 256) (w / 16777216 % 256) (w / 65536 % 256) (w / 256 % 256) (w % 256) ⌝ }
-{
-    put_byte(s, i, (w / 72057594037927936) as u8);
-    put_byte(s, i + 1, (w / 281474976710656 % 256) as u8);
-    put_byte(s, i + 2, (w / 1099511627776 % 256) as u8);
-    put_byte(s, i + 3, (w / 4294967296 % 256) as u8);
-    put_byte(s, i + 4, (w / 16777216 % 256) as u8);
-    put_byte(s, i + 5, (w / 65536 % 256) as u8);
-    put_byte(s, i + 6, (w / 256 % 256) as u8);
-    put_byte(s, i + 7, (w % 256) as u8);
-}
-
 impl Cursor {
     // The bits from here on, highest first, as far as eight bytes hold them: 57 bits or more.
     pub fn window(self, log: &[u8]) -> u64
@@ -137,20 +104,6 @@ impl Cursor {
             next: Cursor {
                 at: at + width as usize,
             },
-        }
-    }
-
-    // The field here is `value` from now on, and every other bit is as it was.
-    pub fn put(self, log: &mut [u8], value: u64, width: u32) -> Cursor
-        requires { ⌜ (1 ≤ width) × (width ≤ 57) × (length (now log) ≤ 4294967296) × (self .at + width ≤ length (now log) * 8) × (value < 2 ^ width) ⌝ }
-        ensures { λ r. ⌜ (bytesBits (now (log .exit)) ≡ putOf (bytesBits (now (log .entry))) (self .at) width value) × (r .at ≡ self .at + width) ⌝ }
-    {
-        let at = self.at;
-        let i = at / 8;
-        let w = eight_at(log, i);
-        put_eight(log, i, renew(w, value, width, 64 - (at % 8) as u32 - width));
-        Cursor {
-            at: at + width as usize,
         }
     }
 }

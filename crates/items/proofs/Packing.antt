@@ -95,6 +95,3 @@ packed-by i x y h g = rw (h, g)
 -- a result that is the item's numbers says the item
 pub says : (i : Item) (p : Packed) → p ≡ packedOf i → Says i p
 says i p e = rw e (packed-says i)
-
-pub width-says : (i : Item) (p : Packed) → p ≡ packedOf i → p .«first_bits» + p .«behind_bits» ≡ length (itemBits i)
-width-says i p e = rw (says i p e .bits, length-append, length-bits, length-bits)

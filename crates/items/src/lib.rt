@@ -1,14 +1,13 @@
-// One item by itself: its bus, its words, its faults, and its bits in the log.
+// One item by itself: its words, its faults, and its bits in the log.
 
 mod faults;
 mod numbers;
 
 pub use faults::fault_of;
 pub use numbers::item_bits;
-pub use numbers::item_width;
 ghost use mathlib.Core.Path.{_≡_};
 ghost use lib.ListN.{length};
-ghost use Rattle.format.specs.Item.{busOfItem, itemWords};
+ghost use Rattle.format.specs.Item.{itemWords};
 use format::Item;
 use format::Response;
 use format::Tag;
@@ -19,21 +18,6 @@ pub struct Packed {
     pub first_bits: u32,
     pub behind: u64,
     pub behind_bits: u32,
-}
-
-pub fn bus_of(item: Item) -> u8
-    ensures { λ r. ⌜ r ≡ busOfItem item ⌝ }
-{
-    match item {
-        Item::Command { bus, .. } => bus,
-        Item::Status { bus, .. } => bus,
-        Item::Data { bus, .. } => bus,
-        Item::BusError { bus, .. } => bus,
-        Item::Arinc { bus, .. } => bus,
-        Item::Notice { bus, .. } => bus,
-        Item::User { bus, .. } => bus,
-        Item::Overflow { bus, .. } => bus,
-    }
 }
 
 // How many words an item has.

@@ -1,9 +1,7 @@
 // An item's bits in the log as two numbers.
 ghost use mathlib.Core.Path.{_≡_};
 ghost use Prim.Native.Nat.{_+_, _*_, _%_, _<_};
-ghost use lib.ListN.{length};
 ghost use Rattle.format.specs.Bits.{bit};
-ghost use Rattle.format.specs.Item.{itemBits};
 ghost use Rattle.items.specs.Packed.{packedOf};
 use crate::Packed;
 use format::Item;
@@ -181,12 +179,4 @@ pub fn item_bits(item: Item) -> Packed
         Item::User { bus, three, word } => user_bits(bus, three, word),
         Item::Overflow { bus, word } => overflow_bits(bus, word),
     }
-}
-
-// How many bits an item takes in the log: a log of items takes theirs and four, in whole bytes.
-pub fn item_width(item: Item) -> u32
-    ensures { λ r. ⌜ r ≡ length (itemBits item) ⌝ }
-{
-    let p = item_bits(item);
-    p.first_bits + p.behind_bits
 }
