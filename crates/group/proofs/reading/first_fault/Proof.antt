@@ -47,7 +47,7 @@ sync-requires : tie.Need-sync-requires Inv-loop μ-loop Inv-scan μ-scan
 sync-requires c κs = search needs
 
 next-check-requires : tie.Need-next-check-requires Inv-loop μ-loop Inv-scan μ-scan
-next-check-requires c κs = (c .before .before .before .before .before .before .before .pre .3, omega arith, c .before .before .stored-word .ensures .1)
+next-check-requires c κs = (c .before .before .before .before .before .before .before .pre .3, search needs, search needs)
 
 first-checked-requires : tie.Need-first-checked-requires Inv-loop μ-loop Inv-scan μ-scan
 first-checked-requires c κs = search needs
@@ -74,7 +74,7 @@ add-t24 : tie.Need-add-t24 Inv-loop μ-loop Inv-scan μ-scan
 add-t24 c = omega (arith, room (c .before .before .before .before .before .before .before .before .before .before .before) (c .before .before .before .before .loop .position) (c .before .before .before .loop-test .taken))
 
 next-check-requires-2 : tie.Need-next-check-requires-2 Inv-loop μ-loop Inv-scan μ-scan
-next-check-requires-2 c κs = (c .before .before .before .before .before .before .before .before .before .before .before .before .before .before .before .pre .3, c .before .before .before .before .loop .inv .3, c .before .before .stored-word2 .ensures .1)
+next-check-requires-2 c κs = (c .before .before .before .before .before .before .before .before .before .before .before .before .before .before .before .pre .3, search needs, search needs)
 
 add-position : tie.Need-add-position Inv-loop μ-loop Inv-scan μ-scan
 add-position c = search needs

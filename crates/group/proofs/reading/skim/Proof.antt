@@ -38,7 +38,7 @@ are-odd-requires : tie.Need-are-odd-requires Inv-loop μ-loop
 are-odd-requires c κs = search needs
 
 next-two-requires : tie.Need-next-two-requires Inv-loop μ-loop
-next-two-requires c κs = (c .before .before .before .before .before .before .before .before .pre .3, c .before .before .before .before .before .before .before .before .pre .4, c .before .before .before .before .before .before .loop .inv .low, c .before .before .before .stored-word .ensures .1, c .before .before .stored-word2 .ensures .1)
+next-two-requires c κs = (c .before .before .before .before .before .before .before .before .pre .3, c .before .before .before .before .before .before .before .before .pre .4, c .before .before .before .before .before .before .loop .inv .low, search needs, search needs)
 
 add-position : tie.Need-add-position Inv-loop μ-loop
 add-position c = omega (arith, c .before .before .before .before .before .before .before .loop .inv .within, c .before .before .before .before .before .before .before .before .before .pre .1, c .before .before .before .before .before .before .before .before .before .pre .2)
