@@ -117,6 +117,3 @@ log-counted p ks log e w n words t = go (parsed (onPlan ks) log) refl t
 -- a row that begins with these words has them all
 pub row-holds : (w : ℕ) (row ws : List ℕ) → take w row ≡ ws → w ≡ length ws → w ≤ length row
 row-holds w row ws h e = omega (arith, length-take w row, ap length h, e)
-
-pub not-both : {b : Bool} → b ≡ true → b ≡ false → ⊥
-not-both {b} h g = let z : _≡_ {A = ℕ} 0 1 = ap (λ (x : Bool). cond x 0 1) (sym h ∙ g) in absurd (omega arith)

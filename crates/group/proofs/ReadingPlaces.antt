@@ -94,6 +94,10 @@ time-room p at s n place h room l e =
     let m : 128 * 1 ≤ (p .words - 1) * p .tracks = mul-le-mul o i in
     dealt-room p at s n place i room (omega arith) e
 
--- the word j of the track t is within the capture
+-- the track t is within the capture
+pub track-room : (p : Plan) (at t n : ℕ) → 3 * (at + groupWords p) ≤ n → t < p .tracks → 3 * (at + t * p .words + p .words) ≤ n
+track-room p at t n room h = omega (arith, mul-le-mul-right (p .words) h)
+
+-- and each word j of it
 pub word-room : (p : Plan) (at t j n : ℕ) → 3 * (at + groupWords p) ≤ n → t < p .tracks → j < p .words → 3 * (at + t * p .words + j + 1) ≤ n
-word-room p at t j n room h l = omega (arith, mul-le-mul-right (p .words) h)
+word-room p at t j n room h l = omega (arith, track-room p at t n room h)

@@ -2,3 +2,4 @@
 pub mod Shape
 pub mod Position
 pub mod Faults
+pub mod Reach

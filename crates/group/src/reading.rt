@@ -1,17 +1,18 @@
 // One group as read: its first fault, its time, and where its dealt words stand.
 
 ghost use mathlib.Core.Path.{_≡_};
-ghost use mathlib.Core.Bool.{cond, not, _&&_, _||_};
+ghost use mathlib.Core.Bool.{true, cond, not, _&&_, _||_};
 ghost use Prim.Native.Nat.{ℕ, _+_, _*_, _≤_, _<_, _^_};
 ghost use lib.ListN.{length};
 ghost use lib.Dec.{eqb};
 ghost use Rattle.format.specs.Word.{wordOf, wordAt, isOdd, sent};
 ghost use Rattle.format.specs.Plan.{lead, groupWords, placeOf};
 ghost use Rattle.format.specs.Group.{none, unless, groupFault, timeFault, timeInfo, groupTime};
-ghost use Rattle.crc.specs.Running.{entries, nextCheck};
+ghost use Rattle.crc.specs.Running.{entries, farEntries, nextCheck};
 ghost use Rattle.group.specs.Shape.{Shape};
 ghost use Rattle.group.specs.Position.{Dealt, positionOf};
 ghost use Rattle.group.specs.Faults.{faultOf, firstChecked, earlierFault, isTimeWord, numberUnless, dueNumber, earlierNumber, wordNumber};
+ghost use Rattle.group.specs.Reach.{Clean};
 use format::Plan;
 use format::Time;
 
@@ -25,6 +26,12 @@ pub struct Fault {
 pub struct Position {
     pub track: usize,
     pub place: usize,
+}
+
+// How far a frame is checked: the position reached, and the check of the words before it.
+struct Reached {
+    position: usize,
+    check: u32,
 }
 
 // The first data slot of the group whose first stored word is `at`.
@@ -205,13 +212,36 @@ fn word_number(parity: bool, crc: bool, last: bool, check: u32, word: u32) -> u3
 }
 
 fn next_check(tables: &[u32; 768], crc: bool, check: u32, word: u32) -> u32
-    requires { ⌜ (now tables ≡ entries) × (check < 2 ^ 16) × (word < 2 ^ 24) ⌝ }
+    requires { ⌜ (crc ≡ true → now tables ≡ entries) × (check < 2 ^ 16) × (word < 2 ^ 24) ⌝ }
     ensures { λ r. ⌜ (r ≡ cond crc (nextCheck check word) check) × (r < 2 ^ 16) ⌝ }
 {
     if crc {
         crc::step(tables, check, word)
     } else {
         check
+    }
+}
+
+fn next_two(tables: &[u32; 768], far: &[u32; 768], crc: bool, check: u32, one: u32, two: u32) -> u32
+    requires { ⌜ (crc ≡ true → now tables ≡ entries) × (crc ≡ true → now far ≡ farEntries) × (check < 2 ^ 16) × (one < 2 ^ 24) × (two < 2 ^ 24) ⌝ }
+    ensures { λ r. ⌜ (r ≡ cond crc (nextCheck (nextCheck check one) two) check) × (r < 2 ^ 16) ⌝ }
+{
+    if crc {
+        crc::step_two(tables, far, check, one, two)
+    } else {
+        check
+    }
+}
+
+// Neither of two words has a fault of parity.
+fn are_odd(parity: bool, one: u32, two: u32) -> bool
+    requires { ⌜ (one < 2 ^ 24) × (two < 2 ^ 24) ⌝ }
+    ensures { λ r. ⌜ r ≡ (not parity || isOdd one && isOdd two) ⌝ }
+{
+    if parity {
+        word::is_odd(one) && word::is_odd(two)
+    } else {
+        true
     }
 }
 
@@ -225,9 +255,42 @@ fn first_checked(plan: Plan) -> usize
     if plan.crc { 1 } else { plan.words }
 }
 
+// Goes on two words a step, for `crc::step_two`: up to a word that has a fault, or near the frame's last word.
+fn skim(
+    capture: &[u8],
+    tables: &[u32; 768],
+    far: &[u32; 768],
+    plan: Plan,
+    first: usize,
+    from: Reached,
+) -> Reached
+    requires { ⌜ Clean plan (now capture) first from × (3 * (first + plan .words) ≤ length (now capture)) × (length (now capture) ≤ 1048576) × (plan .crc ≡ true → now tables ≡ entries) × (plan .crc ≡ true → now far ≡ farEntries) ⌝ }
+    ensures { λ r. ⌜ Clean plan (now (capture .entry)) first r ⌝ }
+{
+    let mut position = from.position;
+    let mut check = from.check;
+    while position + 2 < plan.words {
+        let one = stored_word(capture, first + position);
+        let two = stored_word(capture, first + position + 1);
+        if are_odd(plan.parity, one, two) {
+            check = next_two(tables, far, plan.crc, check, one, two);
+            position += 2;
+        } else {
+            return Reached { position, check };
+        }
+    }
+    Reached { position, check }
+}
+
 // "each word as stored (9 for a frame's first word, 10 for any other, 11 after 10 for a CRC word), then 12"
-pub fn first_fault(capture: &[u8], tables: &[u32; 768], plan: Plan, at: usize) -> Fault
-    requires { ⌜ Shape plan × (3 * (at + groupWords plan) ≤ length (now capture)) × (length (now capture) ≤ 1048576) × (now tables ≡ entries) ⌝ }
+pub fn first_fault(
+    capture: &[u8],
+    tables: &[u32; 768],
+    far: &[u32; 768],
+    plan: Plan,
+    at: usize,
+) -> Fault
+    requires { ⌜ Shape plan × (3 * (at + groupWords plan) ≤ length (now capture)) × (length (now capture) ≤ 1048576) × (plan .crc ≡ true → now tables ≡ entries) × (plan .crc ≡ true → now far ≡ farEntries) ⌝ }
     ensures { λ r. ⌜ r ≡ faultOf (groupFault plan (now (capture .entry)) at) ⌝ }
 {
     let words = plan.words;
@@ -244,8 +307,14 @@ pub fn first_fault(capture: &[u8], tables: &[u32; 768], plan: Plan, at: usize) -
                 place: first,
             };
         }
-        let mut check = next_check(tables, plan.crc, 0, sync);
-        let mut position = first_checked(plan);
+        let synced = next_check(tables, plan.crc, 0, sync);
+        let start = Reached {
+            position: first_checked(plan),
+            check: synced,
+        };
+        let skimmed = skim(capture, tables, far, plan, first, start);
+        let mut check = skimmed.check;
+        let mut position = skimmed.position;
         while position < words {
             let word = stored_word(capture, first + position);
             let number = word_number(plan.parity, plan.crc, position + 1 == words, check, word);

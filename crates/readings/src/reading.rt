@@ -13,7 +13,7 @@ ghost use Rattle.format.specs.Reader.{run};
 ghost use Rattle.group.specs.Shape.{Shape};
 ghost use Rattle.taking.specs.Slots.{Ahead};
 ghost use Rattle.reader.specs.Holding.{heldOf, Sane};
-ghost use Rattle.crc.specs.Running.{entries};
+ghost use Rattle.crc.specs.Running.{entries, farEntries};
 ghost use Rattle.format.specs.Read.{reading, readGroups, roomed, settled};
 ghost use Rattle.format.specs.declared.Held.the-variants.{Nothing};
 ghost use Rattle.readings.specs.ReadEnd.{EndsAs};
@@ -302,10 +302,11 @@ fn over_groups(
     count: usize,
     capture: &[u8],
     tables: &[u32; 768],
+    far: &[u32; 768],
     groups: usize,
     out: &mut [u8],
 ) -> Walk
-    requires { ⌜ Shape plan × (count ≡ slots plan) × (now tables ≡ entries) ⌝ }
+    requires { ⌜ Shape plan × (count ≡ slots plan) × (plan .crc ≡ true → now tables ≡ entries) × (plan .crc ≡ true → now far ≡ farEntries) ⌝ }
     requires { ⌜ (length (now capture) ≡ groups * (3 * groupWords plan)) × (length (now capture) ≤ 1048576) ⌝ }
     ensures { λ r. ⌜ Walked kinds plan (now (capture .entry)) groups (now (out .entry)) r (now (out .exit)) ⌝ }
 {
@@ -315,7 +316,7 @@ fn over_groups(
     let mut g: usize = 0;
     let mut group: usize = 0;
     while g < groups {
-        let fault = reading::first_fault(capture, tables, plan, group);
+        let fault = reading::first_fault(capture, tables, far, plan, group);
         if fault.number != 0 {
             return Walk {
                 pass: start,
@@ -341,21 +342,42 @@ fn over_groups(
     }
 }
 
+// The tables are made for a plan with CRC only.
+fn walk_groups(
+    kinds: [Kind; 16],
+    plan: Plan,
+    count: usize,
+    capture: &[u8],
+    groups: usize,
+    out: &mut [u8],
+) -> Walk
+    requires { ⌜ Shape plan × (count ≡ slots plan) ⌝ }
+    requires { ⌜ (length (now capture) ≡ groups * (3 * groupWords plan)) × (length (now capture) ≤ 1048576) ⌝ }
+    ensures { λ r. ⌜ Walked kinds plan (now (capture .entry)) groups (now (out .entry)) r (now (out .exit)) ⌝ }
+{
+    if plan.crc {
+        let tables = crc::tables();
+        let far = crc::far_tables();
+        return over_groups(kinds, plan, count, capture, &tables, &far, groups, out);
+    }
+    let none = [0u32; 768];
+    over_groups(kinds, plan, count, capture, &none, &none, groups, out)
+}
+
 // The groups, then the cut item.
 fn read_groups(
     kinds: [Kind; 16],
     plan: Plan,
     count: usize,
     capture: &[u8],
-    tables: &[u32; 768],
     groups: usize,
     out: &mut [u8],
 ) -> Outcome
-    requires { ⌜ Shape plan × (count ≡ slots plan) × (now tables ≡ entries) ⌝ }
+    requires { ⌜ Shape plan × (count ≡ slots plan) ⌝ }
     requires { ⌜ (length (now capture) ≡ groups * (3 * groupWords plan)) × (length (now capture) ≤ 1048576) ⌝ }
     ensures { λ r. ⌜ EndsAs plan (now (capture .entry)) groups (readGroups plan kinds (now (capture .entry)) groups 0 Nothing 0) r (now (out .exit)) ⌝ }
 {
-    let walk = over_groups(kinds, plan, count, capture, tables, groups, out);
+    let walk = walk_groups(kinds, plan, count, capture, groups, out);
     if walk.number != 0 {
         return Outcome {
             number: walk.number,
@@ -508,8 +530,7 @@ fn read_by(
     ensures { λ r. ⌜ Given (settled plan (now (capture .entry)) (length (now (capture .entry)) / (3 * groupWords plan)) (length (now (log .entry))) (length (now (times .entry))) closed (readGroups plan kinds (now (capture .entry)) (length (now (capture .entry)) / (3 * groupWords plan)) 0 Nothing 0)) r (now (log .entry)) (now (log .exit)) (now (times .entry)) (now (times .exit)) ⌝ }
 {
     let n = capture.len() / (3 * group_words(plan));
-    let tables = crc::tables();
-    let end = read_groups(kinds, plan, slots(plan), capture, &tables, n, built);
+    let end = read_groups(kinds, plan, slots(plan), capture, n, built);
     if end.number != 0 {
         return refusal(end.number, end.place);
     }

@@ -1,4 +1,4 @@
-use Rattle.composing.proofs.ComposeAnswer.{not-both}
+use Rattle.group.proofs.ReadingSearch.{not-both}
 use borrow.Author.Needs.{needs}
 use Rattle.composing.proofs.composing.write_groups.Statement.{statement}
 use Rattle.composing.proofs.composing.write_groups.Tie as tie

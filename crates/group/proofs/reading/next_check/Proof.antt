@@ -3,7 +3,7 @@ use Rattle.group.proofs.reading.next_check.Statement.{statement}
 use Rattle.group.proofs.reading.next_check.Tie as tie
 
 step-requires : tie.Need-step-requires
-step-requires c κs = search needs
+step-requires c κs = (c .before .pre .0 (c .if1 .taken), c .before .pre .1, c .before .pre .2)
 
 returns : tie.Need-returns
 returns c = rw (c .before .if1 .taken) (c .step .ensures)

@@ -16,10 +16,10 @@ use Rattle.readings.proofs.reading.on_group.Reads as on-group-reads
 use Rattle.readings.proofs.reading.start_pass.Reads as start-pass-reads
 
 abbrev Inv-loop : tie.InvT-loop
-Inv-loop kinds plan count capture tables groups out₀ size start pass₀ g₀ group₀ out pass g group = (g ≤ groups) × (group ≡ g * groupWords plan) × Over kinds plan capture groups out₀ g pass out
+Inv-loop kinds plan count capture tables far groups out₀ size start pass₀ g₀ group₀ out pass g group = (g ≤ groups) × (group ≡ g * groupWords plan) × Over kinds plan capture groups out₀ g pass out
 
 abbrev μ-loop : tie.MeasureT-loop
-μ-loop kinds plan count capture tables groups out₀ size start pass₀ g₀ group₀ out pass g group = groups - g
+μ-loop kinds plan count capture tables far groups out₀ size start pass₀ g₀ group₀ out pass g group = groups - g
 
 -- src/read.rt:208:16
 room : (c : tie.In-loop Inv-loop μ-loop) → 3 * (c .before .loop .group + groupWords (c .before .before .before .before .before .before .args .plan)) ≤ length (c .before .before .before .before .before .before .args .capture .now)
@@ -38,7 +38,7 @@ loop-holds c = (omega arith, omega arith, over-none _ _ _ _ _ (c .start-pass .en
 
 -- src/read.rt:213:13
 first-fault-requires : tie.Need-first-fault-requires Inv-loop μ-loop
-first-fault-requires c κs = (c .before .before .before .before .before .before .pre .0 .0, room c, c .before .before .before .before .before .before .pre .1 .1, c .before .before .before .before .before .before .pre .0 .2)
+first-fault-requires c κs = (c .before .before .before .before .before .before .pre .0 .0, room c, c .before .before .before .before .before .before .pre .1 .1, c .before .before .before .before .before .before .pre .0 .2, c .before .before .before .before .before .before .pre .0 .3)
 
 -- src/read.rt:215:13
 same-length : tie.Need-same-length Inv-loop μ-loop
