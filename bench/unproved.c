@@ -1,0 +1,37 @@
+/* The entry points as bench/unproved compiles them: each run of bytes is handed over by the address of its own address and length. */
+#include "../include/vinculampe.h"
+
+typedef struct {
+    const void *bytes;
+    size_t length;
+} run;
+
+#define PLAN uint32_t words, uint32_t tracks, uint32_t frame_time, uint32_t crc, uint32_t parity
+#define INNER(name) void inner_##name(vin_answer *answer, PLAN, const run *kinds, const run *a, const run *b, const run *c)
+INNER(vin_compose);
+INNER(vin_read);
+INNER(vin_read_closed);
+
+#define CALL(name) \
+    vin_answer answer; \
+    run k = {kinds, kinds_len}, ra = {a, a_len}, rb = {b, b_len}, rc = {c, c_len}; \
+    inner_##name(&answer, words, tracks, frame_time, crc, parity, &k, &ra, &rb, &rc); \
+    return answer
+
+vin_answer vin_compose(PLAN, const uint8_t *kinds, size_t kinds_len, const uint8_t *a, size_t a_len, const uint8_t *b, size_t b_len,
+                       uint8_t *c, size_t c_len)
+{
+    CALL(vin_compose);
+}
+
+vin_answer vin_read(PLAN, const uint8_t *kinds, size_t kinds_len, const uint8_t *a, size_t a_len, uint8_t *b, size_t b_len, uint8_t *c,
+                    size_t c_len)
+{
+    CALL(vin_read);
+}
+
+vin_answer vin_read_closed(PLAN, const uint8_t *kinds, size_t kinds_len, const uint8_t *a, size_t a_len, uint8_t *b, size_t b_len,
+                           uint8_t *c, size_t c_len)
+{
+    CALL(vin_read_closed);
+}
