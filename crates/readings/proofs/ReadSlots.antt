@@ -25,7 +25,7 @@ use Rattle.word.proofs.Stored.{word-at-is-three}
 use Rattle.reader.specs.Holding.{heldOf, Sane}
 use Rattle.taking.specs.Slots.{wordIn, slotsOn, Ahead}
 use Rattle.taking.specs.declared.Taken.{Taken}
-use Rattle.taking.specs.Taken.{Filled, Took}
+use Rattle.taking.specs.Taken.{Unfilled, Took}
 use Rattle.taking.proofs.Slots.{slots-all, slots-next, slots-none}
 use Rattle.taking.proofs.Items.{held-none, more-more, more-none}
 use Rattle.format.specs.declared.Held.the-variants.{Nothing}
@@ -148,12 +148,12 @@ module _ (ks : List Kind) (p : Plan) (c : List ℕ) (g : ℕ) (x₀ : Pass) (out
       one : fillsIn p i (slot p c g (lead p + i) ∷ slotsOn p c g (i + 1)) f ≡ fillsIn p (i + 1) (slotsOn p c g (i + 1)) (onData f)
       one = data-step p i (slot p c g (lead p + i)) (slotsOn p c g (i + 1)) f e
 
-  fills-data : (n i : ℕ) (f : Fills) → i + n ≤ slots p → Filled ks p c g i (i + n) → (n ≡ 0 → ⊥) → fillsIn p i (slotsOn p c g i) f ≡ fillsIn p (i + n) (slotsOn p c g (i + n)) (onData f)
+  fills-data : (n i : ℕ) (f : Fills) → i + n ≤ slots p → Unfilled ks p c g i (i + n) → (n ≡ 0 → ⊥) → fillsIn p i (slotsOn p c g i) f ≡ fillsIn p (i + n) (slotsOn p c g (i + n)) (onData f)
   fills-data zero i f h d z = absurd (z refl)
   fills-data (suc zero) i f h d z = fills-next i f (omega arith) (d .none i (omega arith) (omega arith))
   fills-data (suc (suc n)) i f h d z =
       let m : i + 1 + suc n ≡ i + suc (suc n) = omega arith in
-      let r : Filled ks p c g (i + 1) (i + 1 + suc n) = record { none = λ k a b. d .none k (omega arith) (omega arith) } in
+      let r : Unfilled ks p c g (i + 1) (i + 1 + suc n) = record { none = λ k a b. d .none k (omega arith) (omega arith) } in
       fills-next i f (omega arith) (d .none i (omega arith) (omega arith)) ∙ fills-data (suc n) (i + 1) (onData f) (omega arith) r (λ y. absurd (omega arith))
       ∙ ap (λ (k : ℕ). fillsIn p k (slotsOn p c g k) (onData f)) m
 
@@ -162,7 +162,7 @@ module _ (ks : List Kind) (p : Plan) (c : List ℕ) (g : ℕ) (x₀ : Pass) (out
   passed-items i {x} {out} {out′} {at} {t} a l e k =
       let h : heldOf (x .held) ≡ Nothing = held-none (x .held) e in
       let z : i + (t .slot - i) ≡ t .slot = omega arith in
-      let d : Filled ks p c g i (i + (t .slot - i)) = subst (Filled ks p c g i) (sym z) (k .filled) in
+      let d : Unfilled ks p c g i (i + (t .slot - i)) = subst (Unfilled ks p c g i) (sym z) (k .unfilled) in
       record {
         items = a .items ++ k .items;
         is = a .is

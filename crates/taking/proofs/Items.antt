@@ -36,7 +36,7 @@ use Rattle.reader.proofs.Meaning.{feed-means, finish-means, nothing-is-held, no
 use Rattle.taking.specs.Slots.{placeIn, wordIn, slotsOn, topOf}
 use Rattle.group.specs.Position.{positionOf}
 use Rattle.taking.specs.declared.Whole.{Whole}
-use Rattle.taking.specs.Taken.{Filled, Went, Ended, Takes}
+use Rattle.taking.specs.Taken.{Unfilled, Went, Ended, Takes}
 use Rattle.reader.proofs.Going.{half-goes-on, tag-begins, tag-goes-on}
 use Rattle.taking.proofs.Slots.{slots-next, bus-low, label-low, info-low, fill-label}
 
@@ -152,8 +152,8 @@ finished (stopped k q) r m z = clash (sym z ∙ m)
 -- ---- slot by slot
 
 module _ (ks : List Kind) (p : Plan) (c : List ℕ) (g : ℕ) where
-  filled-more : (i j : ℕ) → isFill (wordIn p c g j) ≡ false → Filled ks p c g i j → Filled ks p c g i (j + 1)
-  filled-more i j e f = record { none = λ k a b. go k a b (decLt k j) }
+  unfilled-more : (i j : ℕ) → isFill (wordIn p c g j) ≡ false → Unfilled ks p c g i j → Unfilled ks p c g i (j + 1)
+  unfilled-more i j e f = record { none = λ k a b. go k a b (decLt k j) }
     where
       go : (k : ℕ) → i ≤ k → k < j + 1 → Dec (k < j) → isFill (wordIn p c g k) ≡ false
       go k a b (yes h) = f .none k a h
@@ -167,7 +167,7 @@ module _ (ks : List Kind) (p : Plan) (c : List ℕ) (g : ℕ) where
     is = sym (more-none (run ks (p .parity) (slotsOn p c g i) (heldOf (flat Nothing)) q) ∙ ap (λ (h : Held). run ks (p .parity) (slotsOn p c g i) h q) nothing-is-held);
     quiet = refl;
     sane = nothing-is-sane;
-    filled = record { none = λ k a b. absurd (omega arith) };
+    unfilled = record { none = λ k a b. absurd (omega arith) };
   }
 
   module _ (i q j : ℕ) (h : Holding) (w : Went ks p c g i q j h) (l : j < slots p) (nf : isFill (wordIn p c g j) ≡ false) where
@@ -204,7 +204,7 @@ module _ (ks : List Kind) (p : Plan) (c : List ℕ) (g : ℕ) where
             ∙ ap (λ (x : Held). more (w .items ++ is) (rest x (since k (w .since) (placeIn p g j)))) (sym (m .holds));
         quiet = flatMap-append itemBits (w .items) is ∙ ap₂ _++_ (w .quiet) (sym (m .bits) ∙ rw (a, b) refl);
         sane = m .sane;
-        filled = filled-more i j nf (w .filled);
+        unfilled = unfilled-more i j nf (w .unfilled);
       }
 
       pub went-more : r .«first_width» ≡ 0 → r .«second_width» ≡ 0 → Went ks p c g i q (j + 1) (r .held)
@@ -223,7 +223,7 @@ module _ (ks : List Kind) (p : Plan) (c : List ℕ) (g : ℕ) where
             second-fits = m .second-fits;
             first-short = m .first-short;
             second-short = m .second-short;
-            filled = filled-more i j nf (w .filled);
+            unfilled = unfilled-more i j nf (w .unfilled);
           }
 
       pub went-end : r .held .awaits ≡ 0 → Ended ks p c g i q (j + 1) (placeIn p g j) r
@@ -248,7 +248,7 @@ module _ (ks : List Kind) (p : Plan) (c : List ℕ) (g : ℕ) where
           second-fits = b .second-fits;
           first-short = b .first-short;
           second-short = b .second-short;
-          filled = w .filled;
+          unfilled = w .unfilled;
         }
 
   -- ---- the first word

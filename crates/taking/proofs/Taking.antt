@@ -22,13 +22,13 @@ use Rattle.group.specs.Position.{positionOf}
 use Rattle.taking.specs.declared.Taken.{Taken}
 use Rattle.taking.specs.declared.Whole.{Whole}
 use Rattle.taking.specs.Slots.{wordIn, slotsOn, Ahead}
-use Rattle.taking.specs.Taken.{Filled, Ended, Takes, Took, Puts}
+use Rattle.taking.specs.Taken.{Unfilled, Ended, Takes, Took, Puts}
 use Rattle.taking.proofs.Slots.{pos}
 use Rattle.taking.proofs.Items.{more-more, more-none}
 
 module _ (ks : List Kind) (p : Plan) (c : List ℕ) (g : ℕ) where
-  filled-then : {i j k : ℕ} → Filled ks p c g i j → Filled ks p c g j k → Filled ks p c g i k
-  filled-then {i} {j} {k} a b = record { none = λ n x y. go n x y (decLt n j) }
+  unfilled-then : {i j k : ℕ} → Unfilled ks p c g i j → Unfilled ks p c g j k → Unfilled ks p c g i k
+  unfilled-then {i} {j} {k} a b = record { none = λ n x y. go n x y (decLt n j) }
     where
       go : (n : ℕ) → i ≤ n → n < k → Dec (n < j) → isFill (wordIn p c g n) ≡ false
       go n x y (yes h) = a .none n x h
@@ -39,7 +39,7 @@ module _ (ks : List Kind) (p : Plan) (c : List ℕ) (g : ℕ) where
   took-none t out a = record {
     items = [];
     is = sym (more-none (run ks (p .parity) (slotsOn p c g (t .slot)) Nothing (t .last)));
-    filled = record { none = λ k x y. absurd (omega arith) };
+    unfilled = record { none = λ k x y. absurd (omega arith) };
     onward = omega arith;
     room = omega (arith, a .room);
     at = a .is;
@@ -71,7 +71,7 @@ module _ (ks : List Kind) (p : Plan) (c : List ℕ) (g : ℕ) where
           record {
             items = k .items ++ end .items;
             is = k .is ∙ ap (more (k .items)) (end .is) ∙ more-more (k .items) (end .items) (run ks (p .parity) (slotsOn p c g (slot + w .slots)) Nothing (w .last));
-            filled = filled-then (k .filled) (end .filled);
+            unfilled = unfilled-then (k .unfilled) (end .unfilled);
             onward = omega (arith, k .onward);
             room = omega arith;
             at = x .at some;

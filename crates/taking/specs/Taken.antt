@@ -25,7 +25,7 @@ use Rattle.taking.specs.Slots.{slotsOn, wordIn}
 
 module _ (ks : List Kind) (p : Plan) (c : List ℕ) (g : ℕ) where
   -- no fill in the slots from i up to j
-  pub record Filled (i j : ℕ) : Type 0 where
+  pub record Unfilled (i j : ℕ) : Type 0 where
     pub none : (k : ℕ) → i ≤ k → k < j → isFill (wordIn p c g k) ≡ false
 
   -- from the slot i on, where nothing was held, the slots up to j finished nothing, and h is held
@@ -35,7 +35,7 @@ module _ (ks : List Kind) (p : Plan) (c : List ℕ) (g : ℕ) where
     pub is : run ks (p .parity) (slotsOn p c g i) Nothing q ≡ more items (run ks (p .parity) (slotsOn p c g j) (heldOf h) since)
     pub quiet : flatMap itemBits items ≡ []
     pub sane : Sane h
-    pub filled : Filled i j
+    pub unfilled : Unfilled i j
 
   -- they finished items with the bits of two strings, and nothing is held
   pub record Ended (i q j last : ℕ) (r : Step) : Type 0 where
@@ -46,7 +46,7 @@ module _ (ks : List Kind) (p : Plan) (c : List ℕ) (g : ℕ) where
     pub second-fits : r .second < 2 ^ (r .«second_width»)
     pub first-short : r .«first_width» ≤ 46
     pub second-short : r .«second_width» ≤ 46
-    pub filled : Filled i j
+    pub unfilled : Unfilled i j
 
   -- no slots: no item was taken
   pub record Takes (i : ℕ) (r : Whole) : Type 0 where
@@ -57,7 +57,7 @@ module _ (ks : List Kind) (p : Plan) (c : List ℕ) (g : ℕ) where
   pub record Took (t : Taken) (out : List ℕ) (t′ : Taken) (out′ : List ℕ) : Type 0 where
     pub items : List Item
     pub is : run ks (p .parity) (slotsOn p c g (t .slot)) Nothing (t .last) ≡ more items (run ks (p .parity) (slotsOn p c g (t′ .slot)) Nothing (t′ .last))
-    pub filled : Filled (t .slot) (t′ .slot)
+    pub unfilled : Unfilled (t .slot) (t′ .slot)
     pub onward : t .slot ≤ t′ .slot
     pub room : t′ .slot ≤ slots p
     pub at : t′ .at ≡ positionOf p g (lead p + t′ .slot)
