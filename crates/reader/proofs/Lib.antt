@@ -2,6 +2,7 @@
 pub mod Labels
 pub mod Flat
 pub mod Starting
+pub mod Openers
 pub mod Going
 pub mod Unawaited
 pub mod Ending

@@ -5,7 +5,8 @@ use mathlib.Core.Bool.{Bool, true, false, cond}
 use mathlib.Core.Path.{_≡_, refl, sym, ap, _∙_}
 use mathlib.Core.List.{List, [], _∷_, flatMap}
 use lib.Dec.{eqb, ltb, leb}
-use borrow.Author.Tests.{eq-eqb, ne-eqb}
+use borrow.Author.Tests.{eq-eqb, ne-eqb, eqb-true}
+use Rattle.format.specs.Laws.Tests.{below16, clash}
 use Rattle.format.specs.Item.{itemFields, channelOf, lowLabel}
 use Rattle.format.specs.Reader.{Fed, bad, fed, starts, isHigh, isPair}
 use Rattle.format.specs.declared.Kind.the-variants.{Unused, Mil1553, Arinc429}
@@ -24,19 +25,29 @@ even-is-no-high high low l u =
     (λ x. refl) (λ x. absurd (omega arith)) (λ x. refl) (λ x. absurd (omega arith)) (λ x. refl) (λ x. absurd (omega arith)) (λ x. refl) (λ x. absurd (omega arith))
     high l u
 
-pub another-low-is-no-pair : (high low : ℕ) → 8 ≤ high → high < 16 → (low + 1 ≡ high → ⊥) → isPair high low ≡ false
-another-low-is-no-pair high low l u =
-    upper (λ n. (low + 1 ≡ n → ⊥) → isPair n low ≡ false)
-    (λ x. refl) (λ x. ne-eqb low 8 (λ e. x (omega arith))) (λ x. refl) (λ x. ne-eqb low 10 (λ e. x (omega arith)))
-    (λ x. refl) (λ x. ne-eqb low 12 (λ e. x (omega arith))) (λ x. refl) (λ x. ne-eqb low 14 (λ e. x (omega arith)))
+eqb-next : (a b : ℕ) → eqb (a + 1) (b + 1) ≡ eqb a b
+eqb-next a b = go (eqb a b) refl
+  where
+    go : (t : Bool) → eqb a b ≡ t → eqb (a + 1) (b + 1) ≡ eqb a b
+    go true e = eq-eqb (a + 1) (b + 1) (omega (arith, eqb-true a b e)) ∙ sym e
+    go false e = ne-eqb (a + 1) (b + 1) (λ z. clash (sym e ∙ eq-eqb a b (omega (arith, z)))) ∙ sym e
+
+pub odd-pairs-with-its-low : (high low : ℕ) → 8 ≤ high → high < 16 → (high % 2 ≡ 0 → ⊥) → eqb (low + 1) high ≡ isPair high low
+odd-pairs-with-its-low high low l u =
+    upper (λ n. (n % 2 ≡ 0 → ⊥) → eqb (low + 1) n ≡ isPair n low)
+    (λ x. absurd (x refl)) (λ x. eqb-next low 8) (λ x. absurd (x refl)) (λ x. eqb-next low 10)
+    (λ x. absurd (x refl)) (λ x. eqb-next low 12) (λ x. absurd (x refl)) (λ x. eqb-next low 14)
     high l u
 
-pub its-low-is-a-pair : (high low : ℕ) → 8 ≤ high → high < 16 → (high % 2 ≡ 0 → ⊥) → low + 1 ≡ high → isPair high low ≡ true
-its-low-is-a-pair high low l u =
-    upper (λ n. (n % 2 ≡ 0 → ⊥) → low + 1 ≡ n → isPair n low ≡ true)
-    (λ x e. absurd (x refl)) (λ x e. eq-eqb low 8 (omega arith)) (λ x e. absurd (x refl)) (λ x e. eq-eqb low 10 (omega arith))
-    (λ x e. absurd (x refl)) (λ x e. eq-eqb low 12 (omega arith)) (λ x e. absurd (x refl)) (λ x e. eq-eqb low 14 (omega arith))
-    high l u
+pub pair-labels : (high low : ℕ) → high < 16 → isPair high low ≡ true → (8 ≤ high) × (high % 2 ≡ 0 → ⊥) × (low + 1 ≡ high)
+pair-labels high low l =
+    below16 (λ n. isPair n low ≡ true → (8 ≤ n) × (n % 2 ≡ 0 → ⊥) × (low + 1 ≡ n))
+    (λ e. clash e) (λ e. clash e) (λ e. clash e) (λ e. clash e) (λ e. clash e) (λ e. clash e) (λ e. clash e) (λ e. clash e) (λ e. clash e)
+    (λ e. (omega arith, (λ z. absurd (omega (arith, z))), omega (arith, eqb-true low 8 e))) (λ e. clash e)
+    (λ e. (omega arith, (λ z. absurd (omega (arith, z))), omega (arith, eqb-true low 10 e))) (λ e. clash e)
+    (λ e. (omega arith, (λ z. absurd (omega (arith, z))), omega (arith, eqb-true low 12 e))) (λ e. clash e)
+    (λ e. (omega arith, (λ z. absurd (omega (arith, z))), omega (arith, eqb-true low 14 e)))
+    high l
 
 pub channel-of-high : (high : ℕ) → 8 ≤ high → high < 16 → (high % 2 ≡ 0 → ⊥) → channelOf high ≡ (high - 8) / 2
 channel-of-high high l u =
@@ -118,9 +129,10 @@ module _ (g : Holding) (v w bus info : ℕ) where
   unfolding starts
   no-pair-starts-nothing e = rw e
 
-  pub notice-ends : info < 65536 → 8 ≤ info / 4096 → (info / 4096 % 2 ≡ 0 → ⊥) → info / 256 % 16 + 1 ≡ info / 4096
+  pub notice-ends : info < 65536 → isPair (info / 4096) (info / 256 % 16) ≡ true
       → ended v w (((96 + bus) * 4 + (info / 4096 - 8) / 2) * 256 + info % 256) 18 ≡ begun g v w (starts Arinc429 bus 4 info)
   unfolding starts itemFields flatMap
-  notice-ends i l o e =
+  notice-ends i e =
       let u : info / 4096 < 16 = omega arith in
-      rw (its-low-is-a-pair (info / 4096) (info / 256 % 16) l u o e, channel-of-high (info / 4096) l u o) (ends-second 18 (omega arith))
+      let k = pair-labels (info / 4096) (info / 256 % 16) u e in
+      rw (e, channel-of-high (info / 4096) (k .0) u (k .1)) (ends-second 18 (omega arith))

@@ -1,6 +1,7 @@
 // One data word fed to what is held (document 01, "Items and their words").
 // It knows nothing of frames, places or buffers: a caller drives it word by word, and writes the bits that it hands out.
 ghost use mathlib.Core.Path.{_≡_};
+ghost use mathlib.Core.Bool.{true};
 ghost use Prim.Native.Nat.{ℕ, _+_, _*_, _/_, _%_, _-_, _^_, _<_, _≤_};
 ghost use mathlib.Core.List.{List};
 ghost use Rattle.format.specs.Reader as reader;
@@ -9,8 +10,11 @@ ghost use Rattle.format.specs.declared.Kind.{Kind};
 ghost use Rattle.format.specs.declared.Kind.the-variants.{Mil1553, Arinc429};
 ghost use Rattle.format.specs.declared.Held.the-variants.{Nothing};
 ghost use Rattle.reader.specs.Holding.{heldOf, flat, Sane};
+ghost use Rattle.reader.specs.Opening.{openings, opens, rowOf, singleOf};
 ghost use Rattle.reader.specs.Step.{refusal, holding, ended, begun, headOf, baseWidth, stepOf, closing};
 use format::Kind;
+
+mod table;
 
 // What is held between two data words. `base` is the log bits of the command or ARINC word so far, untagged; `time` its time
 // words so far, or a response time; `awaits` is bus x 16 + label of the word that goes on with it.
@@ -123,6 +127,23 @@ fn head(bus: u32, label: u32) -> u32
     if label / 2 % 2 == 1 { side * 2 } else { side }
 }
 
+// A command, which may have a tag.
+pub fn command(first: u64, width: u32, bus: u32, label: u32, information: u32) -> Step
+    requires { ⌜ (bus < 16) × (8 ≤ label) × (label < 16) × (label % 4 ≡ 3) × (information < 65536) ⌝ }
+    ensures { λ r. ⌜ ((held : Holding) → r ≡ begun held first width (reader.starts Mil1553 bus label information)) ⌝ }
+{
+    let bits = head(bus, label) as u64 * 65536 + information as u64;
+    holds(first, width, bits, 0, bus * 16 + 7)
+}
+
+// A response time, whose status follows.
+pub fn response(first: u64, width: u32, bus: u32, information: u32) -> Step
+    requires { ⌜ (bus < 16) × (information < 10000) ⌝ }
+    ensures { λ r. ⌜ ((held : Holding) → r ≡ begun held first width (reader.starts Mil1553 bus 4 information)) ⌝ }
+{
+    holds(first, width, 0, information, 270 + bus * 16)
+}
+
 fn starts_on_1553(
     held: Holding,
     first: u64,
@@ -135,43 +156,58 @@ fn starts_on_1553(
     ensures { λ r. ⌜ r ≡ begun held first width (reader.starts Mil1553 bus label information) ⌝ }
 {
     if 8 <= label {
-        let bits = head(bus, label) as u64 * 65536 + information as u64;
         if label % 4 == 3 {
-            return holds(first, width, bits, 0, bus * 16 + 7);
+            return command(first, width, bus, label, information);
         }
+        let bits = head(bus, label) as u64 * 65536 + information as u64;
         return ends(first, width, bits, 25 + label / 2 % 2);
     }
     if label == 4 {
         if 10000 <= information {
             return refused(held);
         }
-        return holds(first, width, 0, information, 270 + bus * 16);
+        return response(first, width, bus, information);
     }
     starts_on_either(held, first, width, bus, label, information)
 }
 
-// An error notice, whose two labels are one channel's pair.
-fn notice(held: Holding, first: u64, width: u32, bus: u32, information: u32) -> Step
-    requires { ⌜ (bus < 16) × (information < 65536) ⌝ }
-    ensures { λ r. ⌜ r ≡ begun held first width (reader.starts Arinc429 bus 4 information) ⌝ }
+// Whether the two labels of a notice are one channel's pair.
+pub fn is_pair(information: u32) -> bool
+    requires { ⌜ information < 65536 ⌝ }
+    ensures { λ r. ⌜ r ≡ reader.isPair (information / 2 ^ 12) (information / 2 ^ 8 % 16) ⌝ }
 {
     let high = information / 4096;
     let low = information / 256 % 16;
     if high < 8 {
-        return refused(held);
+        return false;
     }
     if high % 2 == 0 {
-        return refused(held);
+        return false;
     }
-    if low + 1 != high {
-        return refused(held);
-    }
+    low + 1 == high
+}
+
+// An error notice.
+pub fn notice(first: u64, width: u32, bus: u32, information: u32) -> Step
+    requires { ⌜ (bus < 16) × (information < 65536) × (reader.isPair (information / 2 ^ 12) (information / 2 ^ 8 % 16) ≡ true) ⌝ }
+    ensures { λ r. ⌜ ((held : Holding) → r ≡ begun held first width (reader.starts Arinc429 bus 4 information)) ⌝ }
+{
+    let channel = (information / 4096 - 8) / 2;
     ends(
         first,
         width,
-        (((96 + bus) * 4 + (high - 8) / 2) * 256 + information % 256) as u64,
+        (((96 + bus) * 4 + channel) * 256 + information % 256) as u64,
         18,
     )
+}
+
+// A high syllable, whose low one follows.
+pub fn syllable(first: u64, width: u32, bus: u32, label: u32, information: u32) -> Step
+    requires { ⌜ (bus < 16) × (8 ≤ label) × (label < 16) × (label % 2 ≡ 1) × (information < 65536) ⌝ }
+    ensures { λ r. ⌜ ((held : Holding) → r ≡ begun held first width (reader.starts Arinc429 bus label information)) ⌝ }
+{
+    let bits = (((80 + bus) * 8 + (label - 9)) as u64) * 65536 + information as u64;
+    holds(first, width, bits, 0, bus * 16 + (label - 1))
 }
 
 fn starts_on_429(
@@ -187,13 +223,15 @@ fn starts_on_429(
 {
     if 8 <= label {
         if label % 2 == 1 {
-            let bits = (((80 + bus) * 8 + (label - 9)) as u64) * 65536 + information as u64;
-            return holds(first, width, bits, 0, bus * 16 + (label - 1));
+            return syllable(first, width, bus, label, information);
         }
         return refused(held);
     }
     if label == 4 {
-        return notice(held, first, width, bus, information);
+        if is_pair(information) {
+            return notice(first, width, bus, information);
+        }
+        return refused(held);
     }
     starts_on_either(held, first, width, bus, label, information)
 }
@@ -218,17 +256,38 @@ fn starts(
     }
 }
 
-// What a word starts where nothing is held.
-pub fn begin(kind: Kind, bus: u32, label: u32, information: u32) -> Step
-    requires { ⌜ (bus < 16) × (label < 16) × (information < 65536) ⌝ }
-    ensures { λ r. ⌜ r ≡ begun (flat Nothing) 0 0 (reader.starts kind bus label information) ⌝ }
+// The table, to be made once and lent to each `opening`: a constant is copied wherever it is named.
+pub fn openings() -> [u32; 48]
+    ensures { λ r. ⌜ r ≡ openings ⌝ }
 {
-    let held = nothing();
+    table::OPENINGS
+}
+
+fn row_of(kind: Kind) -> usize
+    ensures { λ r. ⌜ r ≡ rowOf kind ⌝ }
+{
     match kind {
-        Kind::Unused => refused(held),
-        Kind::Mil1553 => starts_on_1553(held, 0, 0, bus, label, information),
-        Kind::Arinc429 => starts_on_429(held, 0, 0, bus, label, information),
+        Kind::Unused => 0,
+        Kind::Mil1553 => 16,
+        Kind::Arinc429 => 32,
     }
+}
+
+pub fn opening(table: &[u32; 48], kind: Kind, label: u32) -> u32
+    requires { ⌜ (now table ≡ openings) × (label < 16) ⌝ }
+    ensures { λ r. ⌜ r ≡ opens kind label ⌝ }
+{
+    table[row_of(kind) + label as usize]
+}
+
+// The item of one word, by its opening.
+pub fn single(opening: u32, bus: u32, information: u32) -> Step
+    requires { ⌜ (opening < 4096) × (bus < 16) × (information < 65536) ⌝ }
+    ensures { λ r. ⌜ r ≡ singleOf opening bus information ⌝ }
+{
+    let behind = opening % 4;
+    let head = opening / 4 + (bus << behind);
+    ends(0, 0, (head * 65536 + information) as u64, 24 + behind)
 }
 
 // The bits of an untagged command, or of an untagged ARINC word.
@@ -236,6 +295,16 @@ fn base_width(base: u64) -> u32
     ensures { λ r. ⌜ r ≡ baseWidth base ⌝ }
 {
     if base < 4294967296 { 26 } else { 43 }
+}
+
+// The low syllable that is awaited.
+pub fn low(held: Holding, bus: u32, label: u32, information: u32) -> Step
+    requires { ⌜ (bus < 16) × (8 ≤ label) × (label < 16) × (information < 65536) ⌝ }
+    requires { ⌜ Sane held × (held .awaits ≡ bus * 16 + label) ⌝ }
+    ensures { λ r. ⌜ ((kinds : List Kind) → r ≡ stepOf (heldOf held) (reader.feed kinds (heldOf held) bus label information)) ⌝ }
+{
+    let bits = held.base * 65536 + information as u64;
+    holds(0, 0, bits, 0, bus * 16 + 7)
 }
 
 // The word that is awaited, but for a status after its response: a time word, or the low syllable.
@@ -247,8 +316,7 @@ pub fn goes_on(held: Holding, bus: u32, label: u32, information: u32) -> Step
     let base = held.base;
     let time = held.time;
     if 8 <= label {
-        let bits = base * 65536 + information as u64;
-        return holds(0, 0, bits, 0, bus * 16 + 7);
+        return low(held, bus, label, information);
     }
     if label == 7 {
         return holds(0, 0, base, information, bus * 16 + 6);

@@ -1,66 +1,55 @@
-use Rattle.reader.proofs.Starting.{no-pair-starts-nothing, below-eight-is-no-high, even-is-no-high, another-low-is-no-pair, notice-ends}
-use native.Mathlib.Omega.{arith}
+use Prim.Native.Nat.{_/_, _%_}
 use mathlib.Core.Path.{_∙_}
+use native.Mathlib.Omega.{arith}
+use Rattle.reader.proofs.Starting.{pair-labels, notice-ends}
 use borrow.Author.Needs.{needs}
 use Rattle.reader.proofs.notice.Statement.{statement}
 use Rattle.reader.proofs.notice.Tie as tie
+use Rattle.reader.proofs.notice.Reads as reads
+use Rattle.reader.proofs.notice.Lts as lts
+use Rattle.reader.proofs.ends.Reads as ends-reads
 
-refused-requires : tie.Need-refused-requires
-refused-requires c κs = search needs
+-- src/lib.rt:195:20
+sub-channel : tie.Need-sub-channel
+sub-channel c = let k = pair-labels (c .args .information / 4096) (c .args .information / 256 % 16) (omega arith) (c .pre .2) in search (needs, k .0)
 
-returns : tie.Need-returns
-returns c = c .refused .ensures ∙ no-pair-starts-nothing _ _ _ _ _ (below-eight-is-no-high _ _ (c .before .if1 .taken))
-
-refused-requires-2 : tie.Need-refused-requires-2
-refused-requires-2 c κs = search needs
-
-returns-2 : tie.Need-returns-2
-returns-2 c = c .refused2 .ensures ∙ no-pair-starts-nothing _ _ _ _ _ (even-is-no-high _ _ (c .before .before .if1 .left) (omega arith) (c .before .if2 .taken))
-
-add-if3 : tie.Need-add-if3
-add-if3 c = search needs
-
-refused-requires-3 : tie.Need-refused-requires-3
-refused-requires-3 c κs = search needs
-
-returns-3 : tie.Need-returns-3
-returns-3 c = c .refused3 .ensures ∙ no-pair-starts-nothing _ _ _ _ _ (another-low-is-no-pair _ _ (c .before .before .before .if1 .left) (omega arith) (c .before .if3 .taken))
-
+-- src/lib.rt:199:12
 add-ends : tie.Need-add-ends
 add-ends c = search needs
 
+-- src/lib.rt:199:11
 mul-ends : tie.Need-mul-ends
 mul-ends c = search needs
 
+-- src/lib.rt:199:11
 add-ends-2 : tie.Need-add-ends-2
 add-ends-2 c = search needs
 
+-- src/lib.rt:199:10
 mul-ends-2 : tie.Need-mul-ends-2
 mul-ends-2 c = search needs
 
+-- src/lib.rt:199:10
 add-ends-3 : tie.Need-add-ends-3
 add-ends-3 c = search needs
 
+-- src/lib.rt:199:9
 cast-ends : tie.Need-cast-ends
 cast-ends c = search needs
 
+-- src/lib.rt:196:5
 ends-requires : tie.Need-ends-requires
 ends-requires c κs = search needs
 
-returns-4 : tie.Need-returns-4
-returns-4 c = c .ends .ensures ∙ notice-ends _ _ _ _ _ (omega arith) (c .before .before .before .if1 .left) (c .before .before .if2 .left) (c .before .if3 .left)
+-- src/lib.rt:191:1
+returns : tie.Need-returns
+returns c = λ held. c .ends .ensures ∙ notice-ends held _ _ _ _ (omega arith) (c .before .pre .2)
 
 pub notice-spec : {M : Type 1} → statement M
 notice-spec =
     tie.close
     (tie.spec
-    refused-requires
-    returns
-    refused-requires-2
-    returns-2
-    add-if3
-    refused-requires-3
-    returns-3
+    sub-channel
     add-ends
     mul-ends
     add-ends-2
@@ -68,4 +57,4 @@ notice-spec =
     add-ends-3
     cast-ends
     ends-requires
-    returns-4)
+    returns)
