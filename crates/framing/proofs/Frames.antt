@@ -19,24 +19,6 @@ use Rattle.framing.specs.Writing.{rowWord, front, checkIf}
 use Rattle.framing.proofs.Laws.{flatMap-append, length-list, frame-length, group-length}
 use Rattle.framing.proofs.Runs.{list-more}
 
--- lists that say the same, row by row
-pub list-same : {A : Type 0} (f g : ℕ → A) (a b n : ℕ) → ((i : ℕ) → i < n → f (a + i) ≡ g (b + i)) → list f a n ≡ list g b n
-unfolding list
-list-same f g a b zero h = refl
-list-same f g a b (suc n) h =
-    let at : (i : ℕ) → i < n → f (a + 1 + i) ≡ g (b + 1 + i) = λ i l. next f a i ∙ h (suc i) (omega arith) ∙ sym (next g b i) in
-    ap₂ _∷_ (first f a ∙ h zero (omega arith) ∙ sym (first g b)) (list-same f g (a + 1) (b + 1) n at)
-  where
-    first : {B : Type 0} (k : ℕ → B) (c : ℕ) → k c ≡ k (c + zero)
-    first k c =
-        let e : c ≡ c + zero = omega arith in
-        ap k e
-
-    next : {B : Type 0} (k : ℕ → B) (c i : ℕ) → k (c + 1 + i) ≡ k (c + suc i)
-    next k c i =
-        let e : c + 1 + i ≡ c + suc i = omega arith in
-        ap k e
-
 -- a list, and where it stops another from there on
 pub list-split : {A : Type 0} (f : ℕ → A) (a m n : ℕ) → list f a (m + n) ≡ list f a m ++ list f (a + m) n
 unfolding list
