@@ -16,8 +16,7 @@ use Rattle.group.specs.Shape.{Shape}
 use Rattle.group.proofs.Rows.{rows-under}
 use Rattle.framing.specs.Writing.{Unsent, Run, rowWord, sentRows, sameRows, front, rowsWith}
 use Rattle.framing.proofs.Dealt.{dealt-time, dealt-past}
-use Rattle.framing.proofs.Laws.{list-same}
-use Rattle.framing.proofs.Frames.{list-split}
+use Rattle.framing.proofs.Laws.{list-same, list-split}
 
 -- of T tracks the track t has one of the first l dealt words in its first a rows, and one of `size` words more up to its row b, of n
 pub record Parted (T t size l a b n : ℕ) : Type 0 where
