@@ -1,15 +1,16 @@
 -- The check of a frame is the check of each word after those before it.
-use Prim.Native.Nat.{ℕ, _*_, _/_, _^_, _<_}
+use Prim.Native.Nat.{ℕ, _*_, _/_, _%_, _^_, _<_}
+use native.Mathlib.Nat.{le-refl, add-zero}
 use native.Mathlib.Omega.{arith}
 use mathlib.Core.Path.{_≡_, refl, sym, ap, ap₂, _∙_}
 use mathlib.Core.List.{List, [], _∷_, _++_, append-assoc, append-nil, flatMap}
-use lib.Pow.{shl-shr}
+use lib.Pow.{pow-pos, shl-shr, low}
 use lib.Dec.{lit<}
 use lib.Bits.{bitXor, xor-zero-r}
 use Rattle.format.specs.Bits.{bitsOf}
 use Rattle.format.specs.Check.{remainder, checkOf}
+use Rattle.format.specs.Laws.Bits.{bits-mod, bits-split}
 use Rattle.crc.specs.Running.{nextCheck, checkFrom}
-use Rattle.crc.proofs.Bits.{bits-split, bits-shifted}
 use Rattle.crc.proofs.Division.{remainder-low, remainder-append, remainder-xor, remainder-small}
 
 -- 16 zeros are brought down after the last word
@@ -39,6 +40,10 @@ next-low r w = check-low (bitXor (r * 2 ^ 8) w)
 -- 16 bits are their own remainder
 loaded : (c : ℕ) → c < 2 ^ 16 → remainder 0 (bitsOf 16 c) ≡ c
 loaded c h = remainder-small 16 0 c (omega arith) ∙ omega arith
+
+-- what stands above k bits is not seen in them
+bits-shifted : (k x : ℕ) → bitsOf k (x * 2 ^ k) ≡ bitsOf k 0
+bits-shifted k x = sym (bits-mod k k (x * 2 ^ k) (le-refl k)) ∙ ap (bitsOf k) (ap (λ (n : ℕ). n % 2 ^ k) (sym (add-zero (x * 2 ^ k))) ∙ low x k (pow-pos k))
 
 -- a remainder that is brought down to 24 zeros stands at the top of the word
 at-top : (a : ℕ) → a < 2 ^ 16 → remainder a (bitsOf 24 0) ≡ remainder 0 (bitsOf 24 (ended a * 2 ^ 8))

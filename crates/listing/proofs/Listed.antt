@@ -13,7 +13,8 @@ use Rattle.format.specs.Log.{nextAt, Next, has, ends, wrong, Parsed, items, fau
 use Rattle.format.specs.Lists.{text, list, All, nil, cons}
 use Rattle.format.specs.Time.{microseconds}
 use Rattle.format.specs.Listing.{decimal, decimalIn, hex, side, itemLine, listed, listing}
-use Rattle.format.specs.Laws.Log.Fields.{size, Narrow, packs, length-bytes}
+use Rattle.format.specs.Laws.Bits.{length-bytes}
+use Rattle.format.specs.Laws.Log.Fields.{size, Narrow, packs}
 use Rattle.format.specs.Laws.Log.Back.{Logged}
 use Rattle.format.specs.Laws.Log.Sizes.{fields-length, items-low, bits-low}
 use Rattle.format.specs.Laws.Log.Forth.{log-forth}
