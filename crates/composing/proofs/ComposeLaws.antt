@@ -4,6 +4,7 @@ pub use Rattle.format.specs.Laws.Legal.{Legal, legal-is, logged-sound, timely, 
 pub use Rattle.format.specs.Laws.Lists.{length-blocks, blocks-more, map-append, all-map, all-mapped, all-take, all-drop}
 pub use Rattle.format.specs.Laws.Log.Forth.{log-forth}
 pub use Rattle.format.specs.Laws.Reader.Parts.{words-of, items-hold}
+pub use Rattle.format.specs.Laws.Word.Bytes.{all-bytes}
 pub use Rattle.format.specs.Laws.Word.Parts.{Holds}
 pub use Rattle.itemwords.proofs.Words.{words-parsed}
 pub use Rattle.framing.proofs.Frames.{group-count}
