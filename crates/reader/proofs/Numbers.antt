@@ -8,14 +8,10 @@ use lib.ListN.{take, drop, take-append-drop}
 use lib.Pow.{pow-add}
 use Rattle.format.specs.Bits.{bitsOf}
 use Rattle.format.specs.Laws.Bits.{bits-cat}
+use Rattle.format.specs.Laws.Log.Fields.{Narrow}
 use Rattle.format.specs.Item.{Field, itemFields, itemBits}
 use Rattle.format.specs.declared.Item.{Item}
 use Rattle.reader.specs.Holding.{numberOf, widthOf}
-
--- each field's number fits its width
-abbrev pub Narrow : List Field → Type 0
-Narrow [] = Unit {0}
-Narrow (f ∷ fs) = (f .1 < 2 ^ (f .0)) × Narrow fs
 
 unfoldable pub fieldBits : List Field → List ℕ
 fieldBits [] = []

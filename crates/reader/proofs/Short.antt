@@ -22,7 +22,7 @@ use Rattle.format.specs.declared.Held.the-variants.{Nothing, Taggable, Half, Ta
 use Rattle.reader.specs.Holding.{Fits, BaseFits, widthOf}
 use Rattle.reader.specs.Step.{cut}
 use Rattle.reader.proofs.Labels.{lower, upper, and-true}
-use Rattle.reader.proofs.Numbers.{Narrow}
+use Rattle.format.specs.Laws.Log.Fields.{Narrow}
 use Rattle.reader.proofs.Flat.{bit-small}
 
 abbrev pub Short : Held → Fed → Type 0
