@@ -21,7 +21,8 @@ use Rattle.format.specs.declared.Held.{Held}
 use Rattle.format.specs.declared.Held.the-variants.{Nothing, Taggable, Half, TagHigh, TagLow, Answering}
 use Rattle.reader.specs.Holding.{Fits, BaseFits, widthOf}
 use Rattle.reader.specs.Step.{cut}
-use Rattle.reader.proofs.Labels.{lower, upper, and-true}
+use Rattle.format.specs.Laws.Tests.{and-true}
+use Rattle.reader.proofs.Labels.{lower, upper}
 use Rattle.format.specs.Laws.Log.Fields.{Narrow}
 use Rattle.reader.proofs.Flat.{bit-small}
 
