@@ -13,6 +13,7 @@ use Rattle.format.specs.Bits.{bit}
 use Rattle.format.specs.Word.{wordAt, busOf, labelOf, infoOf, isFill}
 use Rattle.format.specs.Plan.{rows, lead, slots, placeOf, groupWords}
 use Rattle.format.specs.Group.{groupSlots}
+pub use Rattle.format.specs.Laws.Word.Parts.{info-low}
 use Rattle.format.specs.declared.Plan.{Plan}
 use Rattle.group.specs.Shape.{Shape}
 use Rattle.group.specs.declared.reading.Position.{Position}
@@ -114,10 +115,6 @@ bus-low false w h = omega arith
 pub label-low : (w : ℕ) → labelOf w < 16
 unfolding labelOf
 label-low w = omega arith
-
-pub info-low : (w : ℕ) → infoOf w < 65536
-unfolding infoOf
-info-low w = omega arith
 
 pub info-is : (w : ℕ) → w % 65536 ≡ infoOf w
 unfolding infoOf
