@@ -2,7 +2,7 @@
 use Prim.Native.Nat.{ℕ, zero, suc, _+_, _*_, _-_, _/_, _%_, _^_, _≤_, _<_}
 use native.Mathlib.Nat.{mod-lt, div-lt-iff-lt-mul, mul-comm, mul-le-mul-right, mul-le-mul-left}
 use native.Mathlib.Omega.{arith}
-use mathlib.Core.Bool.{Bool, true, false, _&&_}
+use mathlib.Core.Bool.{Bool, true, false}
 use mathlib.Core.Path.{_≡_, refl, sym, ap, ap₂, subst, _∙_}
 use mathlib.Core.List.{List, [], _∷_}
 use lib.ListN.{length}
@@ -13,6 +13,7 @@ use Rattle.format.specs.Bits.{bit}
 use Rattle.format.specs.Word.{wordAt, busOf, labelOf, infoOf, isFill}
 use Rattle.format.specs.Plan.{rows, lead, slots, placeOf, groupWords}
 use Rattle.format.specs.Group.{groupSlots}
+use Rattle.format.specs.Laws.Tests.{and-true}
 pub use Rattle.format.specs.Laws.Word.Parts.{info-low}
 use Rattle.format.specs.declared.Plan.{Plan}
 use Rattle.group.specs.Shape.{Shape}
@@ -138,11 +139,7 @@ top-plain w h = omega arith
 -- fill is no word that is awaited
 pub fill-label : (w : ℕ) → isFill w ≡ true → labelOf w ≡ 1
 unfolding isFill
-fill-label w e = eqb-true (labelOf w) 1 (and-first (eqb (labelOf w) 1) (eqb (infoOf w) 43690) e)
-  where
-    and-first : (a b : Bool) → (a && b) ≡ true → a ≡ true
-    and-first true b e = refl
-    and-first false b e = e
+fill-label w e = eqb-true (labelOf w) 1 (and-true (eqb (labelOf w) 1) (eqb (infoOf w) 43690) e .0)
 
 pub ahead-small : {p : Plan} {c : List ℕ} {g s n : ℕ} {q : Position} → Ahead p c g s n q → s + n ≤ 1048576
 ahead-small {p} a = omega (arith, a .room, slots-few p (a .shape), a .within, a .small)
