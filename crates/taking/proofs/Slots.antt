@@ -9,7 +9,6 @@ use lib.ListN.{length}
 use lib.Dec.{eqb}
 use borrow.Author.Tests.{eqb-true}
 use Rattle.format.specs.Lists.{list}
-use Rattle.format.specs.Bits.{bit}
 use Rattle.format.specs.Word.{wordAt, busOf, labelOf, infoOf, isFill}
 use Rattle.format.specs.Plan.{rows, lead, slots, placeOf, groupWords}
 use Rattle.format.specs.Group.{groupSlots}
@@ -19,24 +18,17 @@ use Rattle.format.specs.declared.Plan.{Plan}
 use Rattle.group.specs.Shape.{Shape}
 use Rattle.group.specs.declared.reading.Position.{Position}
 use Rattle.group.specs.Position.{Dealt, positionOf}
+use Rattle.group.proofs.Rows.{rows-under}
 use Rattle.word.specs.Stored.{threeAt}
 use Rattle.word.proofs.Stored.{word-at-is-three}
 use Rattle.taking.specs.Slots.{placeIn, wordIn, slotsOn, topOf, Ahead}
 
 -- ---- where the slots are
 
-bit-low : (b : Bool) → bit b ≤ 1
-bit-low true = omega arith
-bit-low false = omega arith
-
-rows-low : (p : Plan) → Shape p → rows p + 1 ≤ p .words
-unfolding rows
-rows-low p s = omega (arith, bit-low (p .crc), s .words-over)
-
 pub slots-few : (p : Plan) → Shape p → slots p ≤ groupWords p
 unfolding slots
 slots-few p s =
-    let a : rows p ≤ p .words = omega (arith, rows-low p s) in
+    let a : rows p ≤ p .words = omega (arith, rows-under p s) in
     omega (arith, mul-le-mul-left (p .tracks) a)
 
 -- the slot i of a group is a dealt word above the last row
@@ -52,7 +44,7 @@ unfolding placeOf
 slot-place p i s h =
     let t : ℕ = (lead p + i) % p .tracks in
     let a : suc t ≤ p .tracks = mod-lt (lead p + i) (s .tracks-over) in
-    omega (arith, mul-le-mul-right (p .words) a, row-low p i s h, rows-low p s)
+    omega (arith, mul-le-mul-right (p .words) a, row-low p i s h, rows-under p s)
 
 -- ---- the list of them
 
