@@ -1,16 +1,16 @@
 -- What composing answers, case by case: first of the words, then of the log.
-use Prim.Native.Nat.{ℕ, suc, _*_, _^_, _<_, _≤_}
+use Prim.Native.Nat.{ℕ, _*_, _^_, _<_, _≤_}
 use native.Mathlib.Omega.{arith}
 use mathlib.Core.Bool.{Bool, true, false, cond}
 use mathlib.Core.Path.{_≡_, refl, ap, sym, _∙_}
-use mathlib.Core.List.{List, [], _∷_, flatMap}
-use lib.ListN.{length, getD, take, length-take}
+use mathlib.Core.List.{List, flatMap}
+use lib.ListN.{length, take, length-take}
 use borrow.Author.Tests.{eq-eqb, ne-eqb, le-leb, lt-leb, lt-ltb}
 use Rattle.format.specs.Compose.{made, refused, captureOf, composeParsed, composeWords, composed, dealtFor, firstLate, groupsFor}
 use Rattle.format.specs.Group.{group}
 use Rattle.format.specs.Item.{itemParts, itemWords}
 use Rattle.format.specs.Lawful.{buses}
-use Rattle.format.specs.Lists.{cons, nil, Bytes}
+use Rattle.format.specs.Lists.{Bytes}
 use Rattle.format.specs.Log.{Parsed, items, fault, onPlan, parsed}
 use Rattle.format.specs.Plan.{groupWords, legal}
 use Rattle.format.specs.Word.{Part, wordFor, wordOf}
@@ -84,10 +84,6 @@ pub record Counted (p : Plan) (ks : List Kind) (log : List ℕ) (words : ℕ) : 
   pub count : words ≡ length (wordsFrom log 0)
   pub few : words ≤ 15420
   pub is : (times : List ℕ) (room : ℕ) → composed p ks log times room ≡ composeWords p times room (wordsFrom log 0)
-
-pub bytes-of : (l : List ℕ) → ((i : ℕ) → getD l i 0 < 256) → Bytes l
-bytes-of [] h = nil
-bytes-of (x ∷ l) h = cons (h 0) (bytes-of l (λ i. h (suc i)))
 
 word-unsent : (parity : Bool) (x : Part) → Holds parity x → wordFor x < buses parity * 2 ^ 20
 unfolding wordOf

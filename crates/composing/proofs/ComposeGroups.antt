@@ -1,11 +1,11 @@
 -- Frame times from the left, and the groups one behind the other.
-use Prim.Native.Nat.{ℕ, zero, suc, min, _+_, _*_, _/_, _-_, _<_, _≤_}
+use Prim.Native.Nat.{ℕ, min, _+_, _*_, _/_, _-_, _<_, _≤_}
 use native.Mathlib.Nat.{mul-le-mul-right, div-mul-le-self}
 use native.Mathlib.Omega.{arith}
 use native.Mathlib.Numerals.{add-one}
 use mathlib.Core.Bool.{Bool, true, false}
 use mathlib.Core.Path.{_≡_, refl, ap, sym, _∙_}
-use mathlib.Core.List.{List, [], _∷_, _++_, flatMap, append-nil}
+use mathlib.Core.List.{List, [], _++_, flatMap}
 use lib.Dec.{leb}
 use lib.ListN.{length, take, drop, getD, drop-of-length-le, length-drop}
 use lib.Seq.{drop-cons, take-all}
@@ -19,7 +19,7 @@ use Rattle.format.specs.Word.{bytesOf}
 use Rattle.format.specs.declared.Plan.{Plan}
 use Rattle.group.specs.Shape.{dealtOf}
 use Rattle.composing.specs.Compose.{groupsTo}
-use Rattle.composing.proofs.ComposeLaws.{Written, bytes-count, flatMap-append}
+use Rattle.composing.proofs.ComposeLaws.{Written, blocks-more, bytes-count}
 use Rattle.format.specs.Time.{timeEnd}
 
 module _ (times : List ℕ) (i : ℕ) where
@@ -35,24 +35,14 @@ module _ (times : List ℕ) (i : ℕ) where
   unfolding firstLate
   late-later h l = rw (drop-cons times i 0 h, lt-ltb (getD times i 0) timeEnd l, add-one i)
 
-list-more : (n a : ℕ) → list (λ g. g) a (suc n) ≡ list (λ g. g) a n ++ (a + n) ∷ []
-unfolding list
-list-more zero a = let e : a + 0 ≡ a = omega arith in rw e
-list-more (suc n) a =
-    let e : a + suc n ≡ a + 1 + n = omega arith in
-    rw e (ap (λ (l : List ℕ). a ∷ l) (list-more n (a + 1)))
-
 module _ (p : Plan) (times ws : List ℕ) where
   pub groups-none : groupsTo p times ws 0 ≡ []
   unfolding groupsTo flatMap list
   groups-none = refl
 
   pub groups-more : (n : ℕ) → groupsTo p times ws (n + 1) ≡ groupsTo p times ws n ++ group p (dealtOf p (getD times n 0) (take (slots p) (drop (n * slots p) ws)))
-  unfolding groupsTo flatMap dealtFor dealtOf
-  groups-more n =
-      let F : ℕ → List ℕ = λ g. group p (dealtFor p times ws g) in
-      let e : 0 + n ≡ n = omega arith in
-      rw (add-one n, list-more n 0, flatMap-append F (list (λ g. g) 0 n) ((0 + n) ∷ []), e) (ap (λ (l : List ℕ). flatMap F (list (λ g. g) 0 n) ++ l) (append-nil (F n)))
+  unfolding groupsTo dealtFor dealtOf
+  groups-more n = blocks-more (λ g. group p (dealtFor p times ws g)) n
 
   pub groups-all : (n : ℕ) → n ≡ groupsFor p (length ws) → flatMap bytesOf (groupsTo p times ws n) ≡ captureOf p times ws
   unfolding groupsTo captureOf

@@ -12,6 +12,8 @@ use lib.Bits.{bitXor, xor-mod, xor-shr, xor-lt, xor-block, xor-zero-r}
 use borrow.Author.Tests.{lt-ltb, le-ltb}
 use Rattle.format.specs.Bits.{bitsOf}
 use Rattle.format.specs.Check.{divided, remainder}
+use Rattle.format.specs.Laws.Log.Sizes.{bits-low}
+use Rattle.format.specs.Laws.Word.Check.{divided-low, remainder-low}
 use Rattle.crc.proofs.Xor.{xor-swap}
 
 -- the divisor goes in where the 17th bit is set
@@ -44,17 +46,12 @@ divided-xor v u hv hu =
     ∙ xor-swap (v % 2 ^ 16) (u % 2 ^ 16) (v / 2 ^ 16 * 0x8005) (u / 2 ^ 16 * 0x8005)
     ∙ sym (ap₂ bitXor (divided-is v hv) (divided-is u hu))
 
-divided-low : (v : ℕ) → v < 2 ^ 17 → divided v < 2 ^ 16
-divided-low v h = rw (divided-is v h) (xor-lt 16 (v % 2 ^ 16) (v / 2 ^ 16 * 0x8005) (mod-lt v (pow-pos 16)) (omega arith))
-
 -- a remainder r and the next bit of v
 brought : (r v k : ℕ) → r < 2 ^ 16 → r * 2 + v / 2 ^ k % 2 < 2 ^ 17
 brought r v k h = omega arith
 
-pub remainder-low : (k r v : ℕ) → r < 2 ^ 16 → remainder r (bitsOf k v) < 2 ^ 16
-unfolding remainder bitsOf
-remainder-low zero r v h = h
-remainder-low (suc k) r v h = remainder-low k (divided (r * 2 + v / 2 ^ k % 2)) v (divided-low (r * 2 + v / 2 ^ k % 2) (brought r v k h))
+pub bits-remainder-low : (k r v : ℕ) → r < 2 ^ 16 → remainder r (bitsOf k v) < 2 ^ 16
+bits-remainder-low k r v h = remainder-low (bitsOf k v) r h (bits-low k v)
 
 pub remainder-append : (r : ℕ) (xs ys : List ℕ) → remainder r (xs ++ ys) ≡ remainder (remainder r xs) ys
 unfolding remainder

@@ -1,6 +1,6 @@
 -- The tables hold their rule, and three look-ups are the check of a word.
-use Prim.Native.Nat.{ℕ, zero, suc, _+_, _*_, _/_, _%_, _^_, _<_}
-use native.Mathlib.Nat.{mod-lt, add-zero, mul-one, le-of-suc-le-suc}
+use Prim.Native.Nat.{ℕ, _+_, _*_, _/_, _%_, _^_, _<_}
+use native.Mathlib.Nat.{mod-lt, add-zero, mul-one}
 use native.Mathlib.Omega.{arith}
 use mathlib.Core.Bool.{Bool, true, false, _&&_}
 use mathlib.Core.Path.{_≡_, refl, sym, ap, ap₂, _∙_}
@@ -11,6 +11,7 @@ use lib.Dec.{T, eqb, eqb→eq, lit<}
 use lib.Bits.{bitXor, xor-lt, xor-comm, xor-zero-l, xor-shifted, xor-block}
 use Rattle.format.specs.Check.{checkOf}
 use Rattle.format.specs.Lists.{list}
+use Rattle.format.specs.Laws.Lists.{getD-list}
 use Rattle.crc.specs.Running.{nextCheck, entryOf, entries}
 use Rattle.crc.proofs.Running.{check-xor}
 
@@ -30,21 +31,13 @@ holds-list f i (x ∷ xs) t =
     let p = both (eqb x (f i)) (holds f (i + 1) xs) t in
     ap₂ (λ (u : ℕ) (l : List ℕ). u ∷ l) (eqb→eq x (f i) (p .0)) (holds-list f (i + 1) xs (p .1))
 
-pub list-at : (f : ℕ → ℕ) (a n i : ℕ) → i < n → getD (list f a n) i 0 ≡ f (a + i)
-unfolding list
-list-at f a zero i h = absurd (omega arith)
-list-at f a (suc n) zero h = ap f (sym (add-zero a))
-list-at f a (suc n) (suc i) h =
-    let e : a + 1 + i ≡ a + suc i = omega arith in
-    list-at f (a + 1) n i (le-of-suc-le-suc h) ∙ ap f e
-
 -- the entry of a byte k with p bytes below it
 entry-at : (p k i : ℕ) → i ≡ p * 256 + k → p < 3 → k < 256 → getD entries i 0 ≡ checkOf (k * 2 ^ (8 * p) ∷ [])
 unfolding entries entryOf
 entry-at p k i e hp hk =
     let q : (0 + i) / 256 ≡ p = omega arith in
     let m : (0 + i) % 256 ≡ k = omega arith in
-    list-at entryOf 0 768 i (omega arith) ∙ ap₂ (λ (x y : ℕ). checkOf (x * 2 ^ (8 * y) ∷ [])) m q
+    getD-list entryOf 0 768 i 0 (omega arith) ∙ ap₂ (λ (x y : ℕ). checkOf (x * 2 ^ (8 * y) ∷ [])) m q
 
 -- what the entries of the word's last byte and of its upper 16 bits make together
 abbrev pub looked : List ℕ → ℕ → ℕ → ℕ

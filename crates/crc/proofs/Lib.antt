@@ -1,6 +1,5 @@
 -- The laws of the division, over plain numbers and lists.
 pub mod Xor
-pub mod Bits
 pub mod Division
 pub mod Running
 pub mod Entries

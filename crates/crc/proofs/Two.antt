@@ -8,9 +8,10 @@ use lib.ListN.{getD}
 use lib.Pow.{pow-pos}
 use lib.Bits.{bitXor, xor-zero-l, xor-zero-r, xor-block}
 use Rattle.format.specs.Check.{checkOf}
+use Rattle.format.specs.Laws.Lists.{getD-list}
 use Rattle.crc.specs.Running.{nextCheck, entryOf, entries, farEntryOf, farEntries}
 use Rattle.crc.proofs.Running.{check-xor}
-use Rattle.crc.proofs.Entries.{looked, list-at, met-low, next-entries}
+use Rattle.crc.proofs.Entries.{looked, met-low, next-entries}
 use Rattle.crc.proofs.Xor.{xor-assoc, xor-swap}
 
 shifted-xor : (a b : ℕ) → bitXor (a * 2 ^ 8) (b * 2 ^ 8) ≡ bitXor a b * 2 ^ 8
@@ -29,7 +30,7 @@ next-apart r w = ap₂ nextCheck (sym (xor-zero-l r)) (sym (xor-zero-r w)) ∙ n
 
 far-at : (i : ℕ) → i < 768 → getD farEntries i 0 ≡ nextCheck (getD entries i 0) 0
 unfolding farEntries farEntryOf entries
-far-at i h = list-at farEntryOf 0 768 i h ∙ sym (ap (λ (n : ℕ). nextCheck n 0) (list-at entryOf 0 768 i h))
+far-at i h = getD-list farEntryOf 0 768 i 0 h ∙ sym (ap (λ (n : ℕ). nextCheck n 0) (getD-list entryOf 0 768 i 0 h))
 
 -- far look-ups are the look-ups, and then a word of zeros
 far-looked : (l x : ℕ) → l < 2 ^ 8 → x < 2 ^ 16 → looked farEntries l x ≡ nextCheck (looked entries l x) 0

@@ -16,7 +16,7 @@ use Rattle.group.specs.Shape.{Shape}
 use Rattle.group.proofs.Rows.{rows-under}
 use Rattle.framing.specs.Writing.{Unsent, Run, rowWord, sentRows, sameRows, front, rowsWith}
 use Rattle.framing.proofs.Dealt.{dealt-time, dealt-past}
-use Rattle.framing.proofs.Frames.{list-same, list-split}
+use Rattle.framing.proofs.Laws.{list-same, list-split}
 
 -- of T tracks the track t has one of the first l dealt words in its first a rows, and one of `size` words more up to its row b, of n
 pub record Parted (T t size l a b n : ℕ) : Type 0 where
@@ -134,8 +134,8 @@ module _ (p : Plan) (t l a b n : ℕ) (times words : List ℕ) (q : Parted (p .t
         let f : ℕ → ℕ = rowWord p (take l times ++ words) t in
         ap (λ ws. sync ∷ ws)
         (ap₂ _++_
-        (ap₂ _++_ (list-same (rowWord p times t) f 0 0 a (λ i h. in-timed (0 + i) (omega arith)))
-        (list-same (rowWord p words (a * p .tracks + t - l)) f 0 a k (λ i h. ap (rowWord p words (a * p .tracks + t - l)) (zero-add i) ∙ in-data i) ∙ ap (λ (i : ℕ). list f i k) (sym (zero-add a)))
+        (ap₂ _++_ (list-same (rowWord p times t) f a 0 0 (λ i h. in-timed (0 + i) (omega arith)))
+        (list-same (rowWord p words (a * p .tracks + t - l)) f k 0 a (λ i h. ap (rowWord p words (a * p .tracks + t - l)) (zero-add i) ∙ in-data i) ∙ ap (λ (i : ℕ). list f i k) (sym (zero-add a)))
         ∙ sym (list-split f 0 a k) ∙ ap (list f 0) ek)
-        (list-same (λ r. sent (p .parity) fill) f 0 b j (λ i h. in-fill (b + i) (omega arith)) ∙ ap (λ (i : ℕ). list f i j) (sym (zero-add b)))
+        (list-same (λ r. sent (p .parity) fill) f j 0 b (λ i h. in-fill (b + i) (omega arith)) ∙ ap (λ (i : ℕ). list f i j) (sym (zero-add b)))
         ∙ sym (list-split f 0 b j) ∙ ap (list f 0) ej)

@@ -1,10 +1,9 @@
 -- A run of rows, one at a time: its words, its bytes and its check.
-use Prim.Native.Nat.{ℕ, zero, suc, _+_, _*_, _^_, _≤_, _<_}
+use Prim.Native.Nat.{ℕ, _+_, _*_, _^_, _≤_, _<_}
 use native.Mathlib.Omega.{arith}
 use native.Mathlib.Nat.{mul-le-mul-right}
-use native.Mathlib.Numerals.{add-one}
 use mathlib.Core.Path.{_≡_, refl, sym, ap, _∙_}
-use mathlib.Core.List.{List, [], _∷_, _++_}
+use mathlib.Core.List.{List, _++_}
 use lib.ListN.{length, take, drop, getD}
 use Rattle.format.specs.Word.{sent, fill, bytesOf}
 use Rattle.format.specs.Lawful.{buses}
@@ -13,39 +12,25 @@ use Rattle.format.specs.declared.Plan.{Plan}
 use Rattle.crc.specs.Running.{nextCheck, checkFrom}
 use Rattle.crc.proofs.Running.{from-more}
 use Rattle.framing.specs.Writing.{Unsent, Run, rowWord}
-use Rattle.framing.proofs.Laws.{all-getD}
+use Rattle.framing.proofs.Laws.{all-getD, list-more}
 use Rattle.framing.proofs.Words.{Written, written-none, written-word}
 use Rattle.framing.proofs.Dealt.{within, buses-some}
 
-pub list-more : {A : Type 0} (f : ℕ → A) (a n : ℕ) → list f a (suc n) ≡ list f a n ++ (f (a + n) ∷ [])
-unfolding list
-list-more f a zero =
-    let e : a ≡ a + 0 = omega arith in
-    ap (λ (i : ℕ). f i ∷ []) e
-list-more f a (suc n) =
-    let e : a + 1 + n ≡ a + suc n = omega arith in
-    ap (λ l. f a ∷ l) (list-more f (a + 1) n ∙ ap (λ (i : ℕ). list f (a + 1) n ++ (f i ∷ [])) e)
-
 module _ (f : ℕ → ℕ) where
-  rows-more : (n : ℕ) → list f 0 (n + 1) ≡ list f 0 n ++ (f n ∷ [])
-  rows-more n =
-      let e : 0 + n ≡ n = omega arith in
-      rw (add-one n) (list-more f 0 n ∙ ap (λ (i : ℕ). list f 0 n ++ (f i ∷ [])) e)
-
   pub written-rows : (d : List ℕ) → Written (list f 0 0) 0 d d
   unfolding list
   written-rows d = written-none d
 
   pub written-row : {d xs ys : List ℕ} (n v : ℕ) → Written (list f 0 n) n d xs → v ≡ f n → 3 * n + 3 ≤ length d
       → ys ≡ take (3 * n) xs ++ (bytesOf v ++ drop (3 * n + 3) xs) → Written (list f 0 (n + 1)) (n + 1) d ys
-  written-row n v w e fits ey = rw (rows-more n, ← e) (written-word (3 * n) v w refl fits refl ey)
+  written-row n v w e fits ey = rw (list-more f n, ← e) (written-word (3 * n) v w refl fits refl ey)
 
   pub check-none : (r : ℕ) → r ≡ checkFrom r (list f 0 0)
   unfolding list checkFrom
   check-none r = refl
 
   pub check-row : (r n v : ℕ) → v ≡ f n → nextCheck (checkFrom r (list f 0 n)) v ≡ checkFrom r (list f 0 (n + 1))
-  check-row r n v e = rw (rows-more n, e) (sym (from-more r (list f 0 n) (f n)))
+  check-row r n v e = rw (list-more f n, e) (sym (from-more r (list f 0 n) (f n)))
 
   pub check-rows : (r n u v : ℕ) → u ≡ f n → v ≡ f (n + 1) → nextCheck (nextCheck (checkFrom r (list f 0 n)) u) v ≡ checkFrom r (list f 0 (n + 2))
   check-rows r n u v e g =

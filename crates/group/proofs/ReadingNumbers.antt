@@ -1,9 +1,9 @@
 -- A group's fault has a number other than 0, so that number 0 says that there is none.
-use Prim.Native.Nat.{ℕ, zero, suc, _+_, _*_, _≤_, _<_}
+use Prim.Native.Nat.{ℕ, zero, suc, _+_, _*_, _≤_}
 use native.Mathlib.Omega.{arith}
-use mathlib.Core.Path.{_≡_, refl}
+use mathlib.Core.Path.{_≡_, refl, sym, ap, ap₂, _∙_}
 use mathlib.Core.Bool.{Bool, true, false, cond, not, _&&_, _||_}
-use mathlib.Core.List.{List, [], _∷_, _++_, flatMap}
+use mathlib.Core.List.{List, _++_, flatMap}
 use lib.Dec.{eqb}
 use Rattle.format.specs.Lists.{list}
 use Rattle.format.specs.Word.{wordAt, isOdd, sync, busOf, labelOf, infoOf}
@@ -12,6 +12,7 @@ use Rattle.format.specs.Plan.{placeOf}
 use Rattle.format.specs.Check.{checkWord}
 use Rattle.format.specs.Group.{Fault as GroupFault, none, found, orElse, unless, firstOf, faultAt, storedFault, timeWordFault, timeFault, groupFault}
 use Rattle.format.specs.declared.Plan.{Plan}
+use Rattle.group.specs.declared.reading.Fault.{Fault}
 use Rattle.group.specs.Faults.{faultOf}
 
 abbrev Numbered : GroupFault → Type 0
@@ -72,18 +73,17 @@ module _ (p : Plan) (c : List ℕ) where
   unfolding groupFault storedFault
   numbered-group at = numbered-or (storedFault p c at) (timeFault p c at) (numbered-tracks at (p .tracks) 0) (numbered-time at)
 
-no-number : (f : GroupFault) → Numbered f → faultOf f .number ≡ 0 → f ≡ none
-no-number none a e = refl
-no-number (found n q) a e = absurd (omega arith)
+no-number : (f : GroupFault) {r : Fault} → Numbered f → r ≡ faultOf f → r .number ≡ 0 → f ≡ none
+no-number none a e z = refl
+no-number (found n q) a e z = let y : n ≡ 0 = sym (ap (λ (x : Fault). x .number) e) ∙ z in absurd (omega arith)
 
-a-number : (f : GroupFault) → (faultOf f .number ≡ 0 → ⊥) → f ≡ found (faultOf f .number) (faultOf f .place)
-a-number none h = absurd (h refl)
-a-number (found n q) h = refl
+a-number : (f : GroupFault) {r : Fault} → r ≡ faultOf f → (r .number ≡ 0 → ⊥) → f ≡ found (r .number) (r .place)
+a-number none e z = absurd (z (ap (λ (x : Fault). x .number) e))
+a-number (found n q) e z = sym (ap₂ found (ap (λ (x : Fault). x .number) e) (ap (λ (x : Fault). x .place) e))
 
 -- what a caller of `first_fault` knows by the number
-pub number-none : (p : Plan) (c : List ℕ) (at : ℕ) → faultOf (groupFault p c at) .number ≡ 0 → groupFault p c at ≡ none
-number-none p c at e = no-number (groupFault p c at) (numbered-group p c at) e
+pub number-none : (p : Plan) (c : List ℕ) (at : ℕ) {r : Fault} → r ≡ faultOf (groupFault p c at) → r .number ≡ 0 → groupFault p c at ≡ none
+number-none p c at e z = no-number (groupFault p c at) (numbered-group p c at) e z
 
-pub number-found : (p : Plan) (c : List ℕ) (at : ℕ) → (faultOf (groupFault p c at) .number ≡ 0 → ⊥)
-    → groupFault p c at ≡ found (faultOf (groupFault p c at) .number) (faultOf (groupFault p c at) .place)
-number-found p c at h = a-number (groupFault p c at) h
+pub number-found : (p : Plan) (c : List ℕ) (at : ℕ) {r : Fault} → r ≡ faultOf (groupFault p c at) → (r .number ≡ 0 → ⊥) → groupFault p c at ≡ found (r .number) (r .place)
+number-found p c at e z = a-number (groupFault p c at) e z

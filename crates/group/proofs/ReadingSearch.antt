@@ -8,6 +8,7 @@ use mathlib.Core.List.{List, [], _∷_, _++_, flatMap}
 use lib.Dec.{eqb}
 use borrow.Author.Tests.{eq-eqb, ne-eqb}
 use Rattle.format.specs.Lists.{list}
+use Rattle.format.specs.Laws.Lists.{list-more-at}
 use Rattle.format.specs.Word.{wordOf, wordAt, isOdd, sent, sync}
 use Rattle.format.specs.Check.{checkOf, checkWord}
 use Rattle.format.specs.Group.{Fault, none, found, orElse, unless, firstOf, faultAt, storedFault, timeFault, groupFault}
@@ -17,7 +18,7 @@ use Rattle.crc.proofs.Running.{check-is-from, check-more}
 use native.Mathlib.Decide.{decLt}
 use Rattle.group.specs.Reach.{checkSoFar, Clean}
 use Rattle.group.specs.declared.reading.Reached.{Reached}
-use Rattle.group.specs.Faults.{numberUnless, earlierNumber, dueNumber, wordNumber}
+use Rattle.group.specs.Faults.{numberUnless, earlierNumber, wordNumber}
 
 or-else-assoc : (a b d : Fault) → orElse (orElse a b) d ≡ orElse a (orElse b d)
 or-else-assoc none b d = refl
@@ -69,13 +70,6 @@ module _ (p : Plan) (c : List ℕ) (first : ℕ) where
 
 -- ---- the check, a word at a time
 
-list-more : (f : ℕ → ℕ) (a n : ℕ) → list f a (suc n) ≡ list f a n ++ (f (a + n) ∷ [])
-unfolding list
-list-more f a zero = let e : a + 0 ≡ a = omega arith in rw e
-list-more f a (suc n) =
-    let e : a + 1 + n ≡ a + suc n = omega arith in
-    ap (λ (l : List ℕ). f a ∷ l) (list-more f (a + 1) n ∙ rw e)
-
 check-starts : (crc : Bool) (c : List ℕ) (first : ℕ) → checkSoFar crc c first 0 ≡ 0
 unfolding list checkFrom
 check-starts true c first = check-is-from []
@@ -83,7 +77,7 @@ check-starts false c first = refl
 
 check-goes-on : (crc : Bool) (c : List ℕ) (first j : ℕ)
     → cond crc (nextCheck (checkSoFar crc c first j) (wordAt c (first + j))) (checkSoFar crc c first j) ≡ checkSoFar crc c first (j + 1)
-check-goes-on true c first j = rw (add-one j) (sym (ap checkOf (list-more (wordAt c) first j) ∙ check-more (list (wordAt c) first j) (wordAt c (first + j))))
+check-goes-on true c first j = sym (ap checkOf (list-more-at (wordAt c) first j) ∙ check-more (list (wordAt c) first j) (wordAt c (first + j)))
 check-goes-on false c first j = refl
 
 pub check-of-more : (crc : Bool) (c : List ℕ) (first j : ℕ) {w check r : ℕ} → w ≡ wordAt c (first + j) → check ≡ checkSoFar crc c first j

@@ -1,21 +1,16 @@
 -- The three time words of a group.
-use Prim.Native.Nat.{ℕ, _+_, _<_, _^_}
-use native.Mathlib.Omega.{arith}
+use Prim.Native.Nat.{ℕ, _+_}
 use mathlib.Core.Path.{_≡_, refl, sym, ap, _∙_}
 use mathlib.Core.Bool.{Bool, true, false, cond}
 use mathlib.Core.List.{List}
-use lib.Dec.{ltb, eqb}
 use borrow.Author.Tests.{lt-ltb}
-use Rattle.format.specs.Word.{busOf, labelOf, infoOf, wordAt}
+use Rattle.format.specs.Word.{wordAt}
 use Rattle.format.specs.Plan.{placeOf}
 use Rattle.format.specs.Group.{Fault as GroupFault, none, found, orElse, unless, timeWordFault, timeFault}
+use Rattle.format.specs.Laws.Word.Parts.{info-low}
 use Rattle.format.specs.declared.Plan.{Plan}
 use Rattle.group.specs.declared.reading.Fault.{Fault}
 use Rattle.group.specs.Faults.{faultOf, earlierFault, isTimeWord}
-
-pub info-low : (w : ℕ) → infoOf w < 65536
-unfolding infoOf
-info-low w = omega arith
 
 pub earlier-unless : (test : Bool) (place : ℕ) (f : GroupFault) → earlierFault (faultOf (unless test 12 place)) (faultOf f) ≡ faultOf (orElse (unless test 12 place) f)
 earlier-unless true place f = refl

@@ -1,17 +1,19 @@
 -- Eight bytes, with zeros past the end, as one number of 64 bits, and a field in them.
-use Prim.Native.Nat.{ℕ, zero, suc, _+_, _*_, _-_, _/_, _%_, _^_, _≤_, _<_}
-use native.Mathlib.Nat.{mod-lt, mod-eq-of-lt, add-zero, zero-add, div-add-mod', le-refl}
+use Prim.Native.Nat.{ℕ, suc, _+_, _*_, _-_, _/_, _%_, _^_, _≤_, _<_}
+use native.Mathlib.Nat.{mod-lt, mod-eq-of-lt, add-zero, div-add-mod', le-refl}
 use native.Mathlib.Omega.{arith}
 use mathlib.Core.Path.{_≡_, refl, sym, ap, ap₂, _∙_}
-use mathlib.Core.List.{List, [], _∷_, _++_, append-assoc, append-nil}
-use lib.ListN.{length, take, drop, getD, replicate, length-append, length-drop, length-take, take-append-drop}
-use lib.Seq.{drop-append-add, drop-append-le, take-append-le, drop-at, take-at, drop-drop, getD-drop}
+use mathlib.Core.List.{List, [], _∷_, _++_, append-assoc}
+use lib.ListN.{length, take, drop, getD, replicate, length-drop, length-take, take-append-drop}
+use lib.Seq.{drop-at, take-at, drop-drop, getD-drop}
 use lib.Pow.{pow-pos, split, shr-lt, shr-shr}
-use Rattle.format.specs.Bits.{bitsOf, bytesBits, numFrom, numOf}
+use Rattle.format.specs.Bits.{bitsOf, bytesBits, numOf}
 use Rattle.format.specs.Log.{field}
 use Rattle.houselog.specs.Cursor.{eight, Window, Ending}
 use Rattle.format.specs.Laws.Log.Fields.{num-bits}
-use Rattle.items.proofs.Bits.{length-bits, bits-cat, bits-mod, length-bytes, bytes-append, bytes-drop, in-first, joined, Bytes, joined-bits}
+use Rattle.format.specs.Laws.Bits.{length-bits, bits-cat, bits-mod, length-bytes, bytes-append, bytes-drop}
+use Rattle.format.specs.Laws.Lists.{AllOf}
+use Rattle.items.proofs.Bits.{in-first, joined, joined-bits}
 
 abbrev first8 : List ℕ → List ℕ
 first8 t = getD t 0 0 ∷ getD t 1 0 ∷ getD t 2 0 ∷ getD t 3 0 ∷ getD t 4 0 ∷ getD t 5 0 ∷ getD t 6 0 ∷ getD t 7 0 ∷ []
@@ -45,7 +47,7 @@ eight-same s i k n h g =
     ∙ sym (ap (λ (l : List ℕ). take n (drop k l)) (bytes-append (take 8 t) (replicate (8 - length t) 0)))
     ∙ sym (ap (λ (l : List ℕ). take n (drop k (bytesBits l))) (eight-pad s i))
 
-pub eight-num : (a b c d e f g h : ℕ) → Bytes (a ∷ b ∷ c ∷ d ∷ e ∷ f ∷ g ∷ h ∷ [])
+pub eight-num : (a b c d e f g h : ℕ) → AllOf (λ b. b < 256) (a ∷ b ∷ c ∷ d ∷ e ∷ f ∷ g ∷ h ∷ [])
     → bytesBits (a ∷ b ∷ c ∷ d ∷ e ∷ f ∷ g ∷ h ∷ []) ≡ bitsOf 64 (a * 72057594037927936 + b * 281474976710656 + c * 1099511627776 + d * 4294967296 + e * 16777216 + f * 65536 + g * 256 + h)
 unfolding bitsOf
 eight-num a b c d e f g h z =

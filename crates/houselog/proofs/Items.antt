@@ -17,7 +17,7 @@ use Rattle.format.specs.declared.Response.the-variants.{Untimed, After}
 use Rattle.format.specs.declared.Item.the-variants.{Command, Status, Data, BusError, Arinc, Notice, User, Overflow}
 use Rattle.houselog.specs.Cursor.{Window}
 use Rattle.houselog.specs.Found.{timeAt}
-use Rattle.items.proofs.Bits.{length-bytes}
+use Rattle.format.specs.Laws.Bits.{length-bytes}
 use Rattle.houselog.proofs.Eight.{window-top}
 
 pub next-past : (log : List ℕ) (p : ℕ) → length log * 8 < p + 4 → nextAt (bytesBits log) p ≡ wrong

@@ -23,7 +23,7 @@ use Rattle.houselog.specs.declared.Tally.{Tally}
 use Rattle.houselog.specs.declared.Tally.the-variants.{Items, Fault}
 use Rattle.houselog.specs.Found.{foundOf}
 use Rattle.houselog.specs.Tally.{talliedOf}
-use Rattle.items.proofs.Bits.{length-bytes}
+use Rattle.format.specs.Laws.Bits.{length-bytes}
 
 -- ---- an item takes eight bits or more, and ends within the log
 

@@ -1,10 +1,10 @@
 -- Fields side by side, as one number and as bits.
-use Prim.Native.Nat.{ℕ, zero, suc, _+_, _*_, _%_, _^_, _≤_, _<_}
+use Prim.Native.Nat.{ℕ, _+_, _*_, _%_, _^_, _≤_, _<_}
 use native.Mathlib.Nat.{add-zero, zero-add, add-assoc, mod-lt, le-refl}
 use native.Mathlib.Omega.{arith}
 use mathlib.Core.Path.{_≡_, refl, sym, ap, ap₂, _∙_}
 use mathlib.Core.List.{List, [], _∷_, _++_, flatMap, append-assoc, append-nil}
-use lib.ListN.{length, take, drop, length-append, take-append-drop}
+use lib.ListN.{take, drop, take-append-drop}
 use lib.Pow.{pow-pos, pow-add}
 use lib.Arith.{digits-lt}
 use Rattle.format.specs.Bits.{bitsOf}
@@ -15,7 +15,7 @@ use Rattle.format.specs.declared.Item.{Item}
 use Rattle.format.specs.declared.Item.the-variants.{Command, Status, Data, BusError, Arinc, Notice, User, Overflow}
 use Rattle.items.specs.declared.Packed.{Packed}
 use Rattle.items.specs.Packed.{widths, beside, packedOf}
-use Rattle.items.proofs.Bits.{bits-cat, bits-mod, length-bits}
+use Rattle.format.specs.Laws.Bits.{bits-cat, bits-mod}
 
 abbrev fieldsBits : List Field → List ℕ
 fieldsBits fs = flatMap (λ (f : Field). bitsOf (f .0) (f .1)) fs

@@ -16,7 +16,7 @@ use Rattle.houselog.specs.Found.{foundOf}
 use Rattle.houselog.specs.declared.Found.{Found}
 use Rattle.houselog.specs.declared.Found.the-variants.{Has, End, Wrong}
 use Rattle.itemwords.specs.Words.{wordsNext, wordsBy, wordsFrom}
-use Rattle.format.specs.Laws.Log.Fields.{length-bytes}
+use Rattle.format.specs.Laws.Bits.{length-bytes}
 use Rattle.houselog.proofs.Parsing.{follows}
 
 -- no item was found

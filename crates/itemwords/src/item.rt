@@ -7,12 +7,13 @@ ghost use lib.ListN.{length};
 ghost use Rattle.format.specs.Bits.{bytesBits};
 ghost use Rattle.format.specs.Item.{highLabel, lowLabel, sided};
 ghost use Rattle.format.specs.Log.{endAt, itemAt, onPlan};
-ghost use Rattle.format.specs.Plan.{isUsed, kindOn};
+ghost use Rattle.format.specs.Plan.{kindOn};
 ghost use Rattle.format.specs.Word.{wordOf};
 ghost use Rattle.format.specs.declared.Kind.{Kind};
 ghost use Rattle.houselog.specs.Cursor.{Window};
 ghost use Rattle.itemwords.specs.Laid.{Ended, Lays, Puts, Tags, faulty, isArinc, isMil};
 use format::Kind;
+use format::is_used;
 use houselog::Cursor;
 use word;
 
@@ -62,16 +63,6 @@ fn is_arinc(kind: Kind) -> bool
     match kind {
         Kind::Unused => false,
         Kind::Mil1553 => false,
-        Kind::Arinc429 => true,
-    }
-}
-
-fn is_used(kind: Kind) -> bool
-    ensures { λ r. ⌜ r ≡ isUsed kind ⌝ }
-{
-    match kind {
-        Kind::Unused => false,
-        Kind::Mil1553 => true,
         Kind::Arinc429 => true,
     }
 }

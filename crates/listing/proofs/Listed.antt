@@ -13,7 +13,9 @@ use Rattle.format.specs.Log.{nextAt, Next, has, ends, wrong, Parsed, items, fau
 use Rattle.format.specs.Lists.{text, list, All, nil, cons}
 use Rattle.format.specs.Time.{microseconds}
 use Rattle.format.specs.Listing.{decimal, decimalIn, hex, side, itemLine, listed, listing}
-use Rattle.format.specs.Laws.Log.Fields.{size, Narrow, packs, length-bytes}
+use Rattle.format.specs.Laws.Bits.{length-bytes}
+use Rattle.format.specs.Laws.Word.Bytes.{all-bytes}
+use Rattle.format.specs.Laws.Log.Fields.{size, Narrow, packs}
 use Rattle.format.specs.Laws.Log.Back.{Logged}
 use Rattle.format.specs.Laws.Log.Sizes.{fields-length, items-low, bits-low}
 use Rattle.format.specs.Laws.Log.Forth.{log-forth}
@@ -55,10 +57,6 @@ unfolding flatMap itemBits
 lines-fit [] nil = omega arith
 lines-fit (i ∷ is) (cons w ws) =
     omega (arith, length-append (itemLine i) (flatMap itemLine is), length-append (itemBits i) (flatMap itemBits is), line-fits i (w .narrow), fields-length (itemFields i), lines-fit is ws)
-
-all-bytes : (s : List ℕ) → ((i : ℕ) → getD s i 0 < 256) → All (λ b. b < 256) s
-all-bytes [] f = nil
-all-bytes (b ∷ s) f = cons {a = b} (f 0) (all-bytes s (λ i. f (suc i)))
 
 -- a log that parses, and its text, are short enough
 pub good : (log : List ℕ) (is : List Item) → ((i : ℕ) → getD log i 0 < 256) → parsed onNoPlan log ≡ items is → (length log ≤ 32768) × (length (flatMap itemLine is) ≤ 262144)

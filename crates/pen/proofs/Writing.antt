@@ -1,27 +1,27 @@
 -- Bits put behind those that are written, and the end.
 use Prim.Native.Nat.{ℕ, zero, suc, _+_, _*_, _-_, _/_, _%_, _^_, _≤_, _<_}
-use native.Mathlib.Nat.{mod-lt, le-refl, zero-div}
+use native.Mathlib.Nat.{mod-lt, le-refl}
 use native.Mathlib.Omega.{arith}
 use native.Mathlib.Decide.{decLt}
 use mathlib.Core.Bool.{Bool, true, false, cond}
 use mathlib.Core.Path.{_≡_, refl, sym, ap, ap₂, subst, _∙_}
-use mathlib.Core.List.{List, [], _∷_, _++_, append-assoc, append-nil, flatMap}
+use mathlib.Core.List.{List, [], _∷_, _++_, append-assoc, flatMap}
 use lib.ListN.{length, take, drop, getD, set, replicate, length-append, length-drop, length-replicate, replicate-append-replicate, List·getD-append}
-use lib.Seq.{getD-append-add, getD-take, length-take-le, take-append-add, take-append-le, sets-eq, ext-getD}
-use lib.Pow.{pow-pos, pow-mono, pow-add, split, shl-shr, shr-shr, shl-lt, mod-pow-add, low}
+use lib.Seq.{getD-append-add, getD-take, length-take-le, take-append-add, sets-eq, ext-getD}
+use lib.Pow.{pow-pos, pow-add, split, shl-shr, shr-shr, mod-pow-add, low}
 use lib.Arith.{digits-lt}
 use lib.Dec.{leb}
 use borrow.Author.Tests.{leb-true, leb-false}
 use Rattle.format.specs.Bits.{bitsOf, bytesBits, packed}
 use Rattle.format.specs.Item.{itemBits}
 use Rattle.format.specs.Log.{logOf}
-use Rattle.format.specs.Lists.{All, nil, cons, Bytes}
+use Rattle.format.specs.Lists.{All, nil, Bytes}
 use Rattle.format.specs.declared.Item.{Item}
-use Rattle.format.specs.Laws.Lists.{all-append, all-take}
-use Rattle.format.specs.Laws.Log.Fields.{Packs, packs, length-bits, length-bytes}
+use Rattle.format.specs.Laws.Lists.{AllOf, all-append, all-of, all-take}
+use Rattle.format.specs.Laws.Bits.{length-bits, bits-cat, bits-mod, bits-zero, length-bytes, bytes-append, bytes-take}
+use Rattle.format.specs.Laws.Log.Fields.{Packs, packs}
 use Rattle.format.specs.Laws.Log.Sizes.{bits-low, items-low}
 use Rattle.format.specs.Laws.Log.Forth.{bytes-same}
-use Rattle.items.proofs.Bits.{bits-cat, bits-mod, bytes-append, bytes-take}
 use Rattle.items.proofs.Bits as bytes
 use Rattle.items.specs.Packed.{packedOf}
 use Rattle.items.proofs.Packing.{says}
@@ -45,13 +45,11 @@ eight-sets out at w h =
     let e7 : at + 7 ≡ suc (suc (suc (suc (suc (suc (suc at)))))) = omega arith in
     rw (e1, e2, e3, e4, e5, e6, e7) (sets-eq (eight w) out at h ∙ append-assoc (take at out) (eight w) (drop (at + 8) out))
 
-eight-bytes : (w : ℕ) → w < 2 ^ 64 → bytes.Bytes (eight w)
+eight-bytes : (w : ℕ) → w < 2 ^ 64 → AllOf (λ b. b < 256) (eight w)
 eight-bytes w h = omega arith
 
 eight-small : (w : ℕ) → w < 2 ^ 64 → Bytes (eight w)
-eight-small w h =
-    cons {a = w / 2 ^ 56} (omega arith) (cons {a = w / 2 ^ 48 % 256} (omega arith) (cons {a = w / 2 ^ 40 % 256} (omega arith) (cons {a = w / 2 ^ 32 % 256} (omega arith)
-    (cons {a = w / 2 ^ 24 % 256} (omega arith) (cons {a = w / 2 ^ 16 % 256} (omega arith) (cons {a = w / 2 ^ 8 % 256} (omega arith) (cons {a = w % 256} (omega arith) nil)))))))
+eight-small w h = all-of (λ b. b < 256) (eight w) (eight-bytes w h)
 
 eight-bits : (w : ℕ) → w < 2 ^ 64 → bytesBits (eight w) ≡ bitsOf 64 w
 unfolding bitsOf
@@ -248,13 +246,6 @@ module _ (p : Pen) (i : Item) where
 abbrev zeros : ℕ → List ℕ
 zeros k = replicate k 0
 
-zero-bits : (k : ℕ) → bitsOf k 0 ≡ zeros k
-unfolding bitsOf
-zero-bits zero = refl
-zero-bits (suc k) =
-    let z : 0 / 2 ^ k % 2 ≡ 0 = rw (zero-div (2 ^ k)) refl in
-    ap₂ (λ (u : ℕ) (l : List ℕ). u ∷ l) z (zero-bits k)
-
 zeros-take : (m k : ℕ) → m ≤ k → take m (zeros k) ≡ zeros m
 zeros-take zero k h = refl
 zeros-take (suc m) zero h = absurd (omega arith)
@@ -271,7 +262,7 @@ module _ (bits bs rest : List ℕ) (low : All (λ b. b < 2) bits) (small : Bytes
   pk-bits : bytesBits (packed marked) ≡ bits ++ zeros (4 + pk .more)
   pk-bits =
       pk .bits ∙ append-assoc bits (bitsOf 4 0) (zeros (pk .more))
-      ∙ ap (_++_ bits) (ap (λ (l : List ℕ). l ++ zeros (pk .more)) (zero-bits 4) ∙ replicate-append-replicate 4 (pk .more) 0)
+      ∙ ap (_++_ bits) (ap (λ (l : List ℕ). l ++ zeros (pk .more)) (bits-zero 4) ∙ replicate-append-replicate 4 (pk .more) 0)
 
   pk-long : length (packed marked) * 8 ≡ length bits + (4 + pk .more)
   pk-long =
@@ -308,7 +299,7 @@ module _ (is : List Item) (out : List ℕ) (p : Pen) (o : Wrote (flatMap itemBit
   ended-is : ended .bytes ≡ logOf is
   unfolding logOf
   ended-is =
-      packed-is bits (ended .bytes) (bitsOf (penPut p 0 11 .bits % 8) (penPut p 0 11 .last)) (items-low is) (ended .small) (ap (_++_ bits) (sym (zero-bits 11)) ∙ ended .is)
+      packed-is bits (ended .bytes) (bitsOf (penPut p 0 11 .bits % 8) (penPut p 0 11 .last)) (items-low is) (ended .small) (ap (_++_ bits) (sym (bits-zero 11)) ∙ ended .is)
       (ended-size ∙ rw bits-long refl)
 
   pub closed-size : closedSize p ≡ length (logOf is)

@@ -5,21 +5,12 @@ ghost use Prim.Native.Nat.{_<_, _≤_};
 ghost use mathlib.Core.Bool.{_||_, not};
 ghost use lib.Dec.{eqb};
 ghost use lib.ListN.{drop};
-ghost use Rattle.format.specs.Plan.{groupWords, isUsed, kindOn, legal, rows, slots, usedBuses};
+ghost use Rattle.format.specs.Plan.{groupWords, kindOn, legal, rows, slots, usedBuses};
 ghost use Rattle.format.specs.Compose.{groupsFor};
 ghost use Rattle.group.specs.Shape.{Shape};
 use format::Kind;
 use format::Plan;
-
-fn is_used(kind: Kind) -> bool
-    ensures { λ r. ⌜ r ≡ isUsed kind ⌝ }
-{
-    match kind {
-        Kind::Unused => false,
-        Kind::Mil1553 => true,
-        Kind::Arinc429 => true,
-    }
-}
+use format::is_used;
 
 fn kind_at(kinds: [Kind; 16], bus: u8) -> Kind
     requires { ⌜ bus < 16 ⌝ }

@@ -13,7 +13,8 @@ use Rattle.format.specs.declared.Held.the-variants.{Nothing, Taggable, Half, Ta
 use Rattle.reader.specs.declared.Holding.{Holding}
 use Rattle.reader.specs.Holding.{flat, heldOf, Fits, Sane, numberOf, untagged}
 use Rattle.reader.specs.Step.{refusal, ended, baseWidth, closing}
-use Rattle.reader.proofs.Flat.{bit-small, sane-ind}
+use Rattle.format.specs.Laws.Tests.{bit-low}
+use Rattle.reader.proofs.Flat.{sane-ind}
 
 module _ (old here : ℕ) where
   abbrev pub AtTag : Holding → Held → Type 0
@@ -36,7 +37,7 @@ module _ (old here : ℕ) where
   at-low : (h : Held) → Fits h → AtLow (flat h) h
   unfolding itemFields
   at-low Nothing f e u = absurd (omega arith)
-  at-low (Taggable (base.Command b side word)) f e u = absurd (omega (arith, bit-small side))
+  at-low (Taggable (base.Command b side word)) f e u = absurd (omega (arith, bit-low side))
   at-low (Taggable (base.Arinc b c word)) f e u = refl
   at-low (Half b c high) f e u = absurd (omega arith)
   at-low (TagHigh x high) f e u = absurd (omega arith)
@@ -100,7 +101,7 @@ module _ (place : ℕ) where
   unfolding itemFields flatMap
   ends-untagged Nothing f e = absurd (omega arith)
   ends-untagged (Taggable (base.Command b side word)) f e =
-      let k : numberOf 0 (untagged (base.Command b side word)) < 4294967296 = omega (arith, bit-small side) in rw (lt-ltb _ _ k)
+      let k : numberOf 0 (untagged (base.Command b side word)) < 4294967296 = omega (arith, bit-low side) in rw (lt-ltb _ _ k)
   ends-untagged (Taggable (base.Arinc b c word)) f e =
       let k : 4294967296 ≤ numberOf 0 (untagged (base.Arinc b c word)) = omega arith in rw (le-ltb _ _ k)
   ends-untagged (Half b c high) f e = absurd (omega arith)

@@ -1,12 +1,12 @@
 -- The flat form says what is held, and stays small.
 use Prim.Native.Nat.{ℕ, _+_, _*_, _-_, _/_, _%_, _^_, _≤_, _<_}
 use native.Mathlib.Omega.{arith}
-use mathlib.Core.Bool.{Bool, true, false, cond}
+use mathlib.Core.Bool.{true, false, cond}
 use mathlib.Core.Path.{_≡_, refl, sym, ap, subst, _∙_}
 use lib.Dec.{eqb}
 use borrow.Author.Tests.{ne-eqb, lt-ltb, le-ltb, le-leb, lt-leb}
-use Rattle.format.specs.Bits.{bit}
 use Rattle.format.specs.Item.{itemFields}
+use Rattle.format.specs.Laws.Tests.{bit-low}
 use Rattle.format.specs.Reader.{baseBus}
 use Rattle.format.specs.declared.Base.{Base}
 use Rattle.format.specs.declared.Base.the-variants as base
@@ -15,10 +15,6 @@ use Rattle.format.specs.declared.Held.the-variants.{Nothing, Taggable, Half, Ta
 use Rattle.reader.specs.declared.Holding.{Holding}
 use Rattle.reader.specs.Holding.{flat, heldOf, baseOf, Fits, BaseFits, Sane, numberOf, untagged}
 use Rattle.reader.specs.Step.{ended}
-
-pub bit-small : (b : Bool) → bit b < 2
-bit-small false = omega arith
-bit-small true = omega arith
 
 pub base-bus-small : (x : Base) → BaseFits x → baseBus x < 16
 base-bus-small (base.Command bus b word) f = f .0
@@ -105,12 +101,12 @@ sane-ind P f g s = subst (λ (x : Holding). P x (heldOf g)) (sym (s .is)) (f (he
 base-below : (h : Held) → Fits h → flat h .base < 2 ^ 43
 unfolding itemFields
 base-below Nothing f = omega arith
-base-below (Taggable (base.Command b side word)) f = omega (arith, bit-small side)
+base-below (Taggable (base.Command b side word)) f = omega (arith, bit-low side)
 base-below (Taggable (base.Arinc b c word)) f = omega arith
 base-below (Half b c high) f = omega arith
-base-below (TagHigh (base.Command b side word) high) f = omega (arith, bit-small side)
+base-below (TagHigh (base.Command b side word) high) f = omega (arith, bit-low side)
 base-below (TagHigh (base.Arinc b c word) high) f = omega arith
-base-below (TagLow (base.Command b side word) high low) f = omega (arith, bit-small side)
+base-below (TagLow (base.Command b side word) high low) f = omega (arith, bit-low side)
 base-below (TagLow (base.Arinc b c word) high low) f = omega arith
 base-below (Answering b r) f = omega arith
 

@@ -15,7 +15,8 @@ use Rattle.format.specs.declared.Held.the-variants.{Nothing, Taggable, Half, Ta
 use Rattle.reader.specs.declared.Holding.{Holding}
 use Rattle.reader.specs.Holding.{flat, heldOf, Fits, Sane, numberOf, untagged, halfFields}
 use Rattle.reader.specs.Step.{refusal, holding, ended, stepOf, baseWidth}
-use Rattle.reader.proofs.Flat.{bit-small, sane-ind, ends-both}
+use Rattle.format.specs.Laws.Tests.{bit-low}
+use Rattle.reader.proofs.Flat.{sane-ind, ends-both}
 
 -- bus x 16 + label says both
 same-label : (a b x y : ℕ) → x < 16 → y < 16 → a * 16 + x ≡ b * 16 + y → x ≡ y
@@ -94,7 +95,7 @@ module _ (ks : List Kind) (bus label info : ℕ) (bb : bus < 16) (l : label < 16
   tagged (TagLow (base.Command b side word) high low) f u s t i z e =
       let d : bus ≡ b = omega arith in
       let m : label ≡ 5 = omega arith in
-      let k : numberOf 0 (untagged (base.Command b side word)) < 4294967296 = omega (arith, bit-small side) in
+      let k : numberOf 0 (untagged (base.Command b side word)) < 4294967296 = omega (arith, bit-low side) in
       rw (lt-ltb _ _ k, m, eq-eqb bus b d, lt-ltb info 10000 i) (ends-both 26 46 (omega arith) (omega arith))
   tagged (TagLow (base.Arinc b c word) high low) f u s t i z e =
       let d : bus ≡ b = omega arith in

@@ -1,9 +1,6 @@
--- The sixteen labels one by one; the laws of `format` that this crate leans on are cited here.
+-- The labels one by one.
 use Prim.Native.Nat.{ℕ, _<_, _≤_}
 use native.Mathlib.Omega.{arith}
-use mathlib.Core.Bool.{Bool, true, _&&_}
-use mathlib.Core.Path.{_≡_}
-use Rattle.format.specs.Laws.Tests as tests
 use Rattle.format.specs.Laws.Tests.{below16}
 
 -- the labels 0 to 7
@@ -23,6 +20,3 @@ upper P a b c d e f g h n l u =
     (λ x. absurd (omega arith)) (λ x. absurd (omega arith)) (λ x. absurd (omega arith)) (λ x. absurd (omega arith))
     (λ _. a) (λ _. b) (λ _. c) (λ _. d) (λ _. e) (λ _. f) (λ _. g) (λ _. h)
     n u l
-
-pub and-true : (a b : Bool) → (a && b) ≡ true → (a ≡ true) × (b ≡ true)
-and-true = tests.and-true

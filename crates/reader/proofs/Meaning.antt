@@ -19,7 +19,8 @@ use Rattle.reader.specs.declared.Holding.{Holding}
 use Rattle.reader.specs.Holding.{flat, heldOf, Sane, Fits, numberOf, widthOf}
 use Rattle.reader.specs.Step.{cut, stepOf, closing}
 use Rattle.reader.specs.Meaning.{Brings, Means, Closes}
-use Rattle.reader.proofs.Numbers.{Narrow, narrow-take, narrow-drop, bits-of-fields, number-of-fields-fits, field-bits-cut, bits-of-items}
+use Rattle.format.specs.Laws.Log.Fields.{Narrow}
+use Rattle.reader.proofs.Numbers.{narrow-take, narrow-drop, bits-of-fields, number-of-fields-fits, field-bits-cut, bits-of-items}
 use Rattle.reader.proofs.Flat.{held-of-flat, flat-is-sane}
 use Rattle.reader.proofs.Short.{Short, feed-short, untagged-short}
 

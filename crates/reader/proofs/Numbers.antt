@@ -1,43 +1,17 @@
 -- The number that fields say, and its bits.
-use Prim.Native.Nat.{ℕ, zero, suc, _+_, _*_, _-_, _/_, _%_, _^_, _≤_, _<_}
-use native.Mathlib.Nat.{le-refl, add-comm, zero-add, suc-add, mul-le-mul-right}
+use Prim.Native.Nat.{ℕ, zero, suc, _+_, _*_, _^_, _≤_, _<_}
+use native.Mathlib.Nat.{mul-le-mul-right}
 use native.Mathlib.Omega.{arith}
 use mathlib.Core.Path.{_≡_, refl, sym, ap, ap₂, _∙_}
 use mathlib.Core.List.{List, [], _∷_, _++_, flatMap, append-assoc, append-nil}
 use lib.ListN.{take, drop, take-append-drop}
-use lib.Pow.{pow-add, shr-shr, high, low, field, mod-mod-pow}
+use lib.Pow.{pow-add}
 use Rattle.format.specs.Bits.{bitsOf}
+use Rattle.format.specs.Laws.Bits.{bits-cat}
+use Rattle.format.specs.Laws.Log.Fields.{Narrow}
 use Rattle.format.specs.Item.{Field, itemFields, itemBits}
 use Rattle.format.specs.declared.Item.{Item}
 use Rattle.reader.specs.Holding.{numberOf, widthOf}
-
--- the low bits do not see the digits above them
-bit-mod : (v k b : ℕ) → k < b → v % 2 ^ b / 2 ^ k % 2 ≡ v / 2 ^ k % 2
-bit-mod v k b h =
-    let e : b ≡ (b - suc k + 1) + k = omega arith in
-    ap (λ (n : ℕ). v % 2 ^ n / 2 ^ k % 2) e
-    ∙ ap (λ (n : ℕ). n % 2) (field v (b - suc k + 1) k)
-    ∙ mod-mod-pow (v / 2 ^ k) (b - suc k) 1
-
-bits-mod : (k b v : ℕ) → k ≤ b → bitsOf k (v % 2 ^ b) ≡ bitsOf k v
-unfolding bitsOf
-bits-mod zero b v h = refl
-bits-mod (suc k) b v h = ap₂ (λ (u : ℕ) (t : List ℕ). u ∷ t) (bit-mod v k b h) (bits-mod k b v (omega arith))
-
--- the bits of a number that is two numbers put side by side
-bits-cat : (a b x y : ℕ) → y < 2 ^ b → bitsOf (a + b) (x * 2 ^ b + y) ≡ bitsOf a x ++ bitsOf b y
-unfolding bitsOf
-bits-cat zero b x y h = rw (zero-add b) (sym (bits-mod b b (x * 2 ^ b + y) (le-refl b)) ∙ ap (bitsOf b) (low x b h))
-bits-cat (suc a) b x y h =
-    rw (suc-add a b)
-    (ap₂ (λ (u : ℕ) (t : List ℕ). u % 2 ∷ t)
-    (ap (λ (n : ℕ). (x * 2 ^ b + y) / 2 ^ n) (add-comm a b) ∙ sym (shr-shr (x * 2 ^ b + y) b a) ∙ ap (λ (n : ℕ). n / 2 ^ a) (high x b h))
-    (bits-cat a b x y h))
-
--- each field's number fits its width
-abbrev pub Narrow : List Field → Type 0
-Narrow [] = Unit {0}
-Narrow (f ∷ fs) = (f .1 < 2 ^ (f .0)) × Narrow fs
 
 unfoldable pub fieldBits : List Field → List ℕ
 fieldBits [] = []

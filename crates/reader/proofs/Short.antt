@@ -21,9 +21,9 @@ use Rattle.format.specs.declared.Held.{Held}
 use Rattle.format.specs.declared.Held.the-variants.{Nothing, Taggable, Half, TagHigh, TagLow, Answering}
 use Rattle.reader.specs.Holding.{Fits, BaseFits, widthOf}
 use Rattle.reader.specs.Step.{cut}
-use Rattle.reader.proofs.Labels.{lower, upper, and-true}
-use Rattle.reader.proofs.Numbers.{Narrow}
-use Rattle.reader.proofs.Flat.{bit-small}
+use Rattle.format.specs.Laws.Tests.{and-true, bit-low}
+use Rattle.reader.proofs.Labels.{lower, upper}
+use Rattle.format.specs.Laws.Log.Fields.{Narrow}
 
 abbrev pub Short : Held → Fed → Type 0
 Short h bad = Unit {0}
@@ -116,7 +116,7 @@ after-short : (x : Base) → BaseFits x → (f : Fed) → Short Nothing f → Sh
 unfolding itemFields flatMap
 after-short x p bad s = tt
 after-short (base.Command b side word) p (fed is h) s =
-    (s .0, (omega arith, (omega arith, (bit-small side, (omega arith, (p .1, s .1))))), omega arith, s .3)
+    (s .0, (omega arith, (omega arith, (bit-low side, (omega arith, (p .1, s .1))))), omega arith, s .3)
 after-short (base.Arinc b c word) p (fed is h) s =
     (s .0, (omega arith, (omega arith, (omega arith, (omega arith, (p .2, s .1))))), omega arith, s .3)
 
@@ -128,7 +128,7 @@ tag-short : (x : Base) → BaseFits x → (g : Held) (high low micro : ℕ) → 
     → Short g (fed (withTag x (At (record { high = high; low = low; micro = micro })) ∷ []) Nothing)
 unfolding itemFields flatMap
 tag-short (base.Command b side word) p g high low micro e u v w =
-    rw e (tt, (omega arith, (omega arith, (bit-small side, (omega arith, (p .1, (u, (v, (omega arith, tt)))))))), omega arith, omega arith)
+    rw e (tt, (omega arith, (omega arith, (bit-low side, (omega arith, (p .1, (u, (v, (omega arith, tt)))))))), omega arith, omega arith)
 tag-short (base.Arinc b c word) p g high low micro e u v w =
     rw e (tt, (omega arith, (omega arith, (omega arith, (omega arith, (p .2, (u, (v, (omega arith, tt)))))))), omega arith, omega arith)
 
@@ -152,4 +152,4 @@ feed-short ks (TagLow x high low) bus label info f b l i =
     last e = and-true (eqb bus (baseBus x) && eqb label 5) (ltb info 10000) e .1
 feed-short ks (Answering a r) bus label info f b l i =
     if-short (Answering a r) (eqb bus a && (eqb label 14 || eqb label 10)) _
-    (λ e. (tt, (omega arith, (omega arith, (bit-small (eqb label 10), (omega arith, (i, (omega arith, tt)))))), omega arith, omega arith))
+    (λ e. (tt, (omega arith, (omega arith, (bit-low (eqb label 10), (omega arith, (i, (omega arith, tt)))))), omega arith, omega arith))

@@ -19,7 +19,8 @@ use Rattle.reader.specs.declared.Holding.{Holding}
 use Rattle.reader.specs.Holding.{flat, heldOf, Fits, BaseFits, Sane, numberOf, untagged}
 use Rattle.reader.specs.Step.{refusal, ended, begun, stepOf, baseWidth}
 use Rattle.reader.proofs.Labels.{lower, upper}
-use Rattle.reader.proofs.Flat.{bit-small, base-bus-small, sane-ind, ends-both}
+use Rattle.format.specs.Laws.Tests.{bit-low}
+use Rattle.reader.proofs.Flat.{base-bus-small, sane-ind, ends-both}
 
 -- the labels of a status
 pub below-eight-is-no-status : (label : ℕ) → label < 8 → (eqb label 14 || eqb label 10) ≡ false
@@ -109,7 +110,7 @@ module _ (ks : List Kind) (bus label info : ℕ) (bb : bus < 16) (l : label < 16
   unfolding itemFields flatMap
   begun-behind x p bad = refl
   begun-behind (base.Command b side word) p (fed is h) =
-      let k : numberOf 0 (untagged (base.Command b side word)) < 4294967296 = omega (arith, bit-small side) in rw (lt-ltb _ _ k)
+      let k : numberOf 0 (untagged (base.Command b side word)) < 4294967296 = omega (arith, bit-low side) in rw (lt-ltb _ _ k)
   begun-behind (base.Arinc b c word) p (fed is h) =
       let k : 4294967296 ≤ numberOf 0 (untagged (base.Arinc b c word)) = omega arith in rw (le-ltb _ _ k)
 

@@ -8,6 +8,7 @@ use lib.ListN.{length, take, drop, set, getD, length-append, length-drop}
 use lib.Seq.{length-take-le, take-suc}
 use Rattle.format.specs.Lists.{list}
 use Rattle.format.specs.Laws.Lists.{length-list}
+pub use Rattle.format.specs.Laws.Lists.{list-more}
 
 -- xs is d with its first n elements replaced by the n of P
 pub record Front (P d xs : List ℕ) (n : ℕ) : Type 0 where
@@ -39,23 +40,9 @@ front-more {P} {d} {xs} {n} v f h = record {
   fits = omega arith;
 }
 
-list-suc : (f : ℕ → ℕ) (a n : ℕ) → list f a (suc n) ≡ list f a n ++ f (a + n) ∷ []
-unfolding list
-list-suc f a zero =
-    let e : a ≡ a + 0 = omega arith in
-    ap (λ (x : ℕ). f x ∷ []) e
-list-suc f a (suc n) =
-    let e : a + 1 + n ≡ a + suc n = omega arith in
-    ap (λ (l : List ℕ). f a ∷ l) (list-suc f (a + 1) n ∙ ap (λ (x : ℕ). list f (a + 1) n ++ f x ∷ []) e)
-
 pub list-none : (f : ℕ → ℕ) (a : ℕ) → list f a 0 ≡ []
 unfolding list
 list-none f a = refl
-
-pub list-more : (f : ℕ → ℕ) (n : ℕ) → list f 0 (n + 1) ≡ list f 0 n ++ f n ∷ []
-list-more f n =
-    let e : 0 + n ≡ n = omega arith in
-    ap (list f 0) (add-one n) ∙ list-suc f 0 n ∙ ap (λ (x : ℕ). list f 0 n ++ f x ∷ []) e
 
 pub take-more : (s : List ℕ) (n : ℕ) → n < length s → take (n + 1) s ≡ take n s ++ getD s n 0 ∷ []
 take-more s n h = ap (λ (k : ℕ). take k s) (add-one n) ∙ take-suc s n 0 h

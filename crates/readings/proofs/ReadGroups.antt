@@ -1,20 +1,16 @@
 -- A reading goes from group to group.
-use Prim.Native.Nat.{ℕ, zero, suc, _+_, _*_, _-_, _≤_, _<_}
+use Prim.Native.Nat.{ℕ, suc, _+_, _*_, _-_, _≤_, _<_}
 use native.Mathlib.Nat.{mul-le-mul-right}
 use native.Mathlib.Omega.{arith}
-use mathlib.Core.Bool.{Bool, true, false, cond, not, _&&_, _||_}
+use mathlib.Core.Bool.{true, false}
 use mathlib.Core.Path.{_≡_, refl, sym, ap, ap₂, subst, _∙_}
 use mathlib.Core.List.{List, [], _∷_, _++_, append-assoc, append-nil, flatMap}
 use lib.ListN.{length}
-use lib.Dec.{eqb}
-use Rattle.format.specs.Lists.{All, nil, cons, list}
-use Rattle.format.specs.Word.{sync, wordAt, isOdd, busOf, labelOf, infoOf}
-use Rattle.format.specs.Time.{belowTick}
-use Rattle.format.specs.Check.{checkWord}
-use Rattle.format.specs.Plan.{groupWords, placeOf}
+use Rattle.format.specs.Lists.{list}
+use Rattle.format.specs.Plan.{groupWords}
 use Rattle.format.specs.Item.{itemBits}
-use Rattle.format.specs.Group.{Fault, none, found, orElse, unless, faultAt, firstOf, storedFault, timeWordFault, timeFault, groupFault, groupSlots}
-use Rattle.format.specs.Reader.{Slot, Ran, badAt, ran, run}
+use Rattle.format.specs.Group.{Fault, groupFault, groupSlots}
+use Rattle.format.specs.Reader.{Ran, badAt, ran, run}
 use Rattle.format.specs.Read.{Got, got, stopped, before, finish, onward, ifSound, readGroups}
 use Rattle.format.specs.declared.Kind.{Kind}
 use Rattle.format.specs.declared.Item.{Item}
@@ -22,82 +18,18 @@ use Rattle.format.specs.declared.Held.{Held}
 use Rattle.format.specs.declared.Held.the-variants.{Nothing}
 use Rattle.format.specs.declared.Plan.{Plan}
 use Rattle.format.specs.Laws.Tests.{clash}
-use Rattle.format.specs.Laws.Lists.{flatMap-append, all-list, all-flat}
+use Rattle.format.specs.Laws.Lists.{flatMap-append}
 use Rattle.group.specs.declared.reading.Fault.{Fault as Found}
 use Rattle.group.specs.Faults.{faultOf}
+use Rattle.group.proofs.ReadingNumbers.{number-none, number-found}
 use Rattle.reader.specs.Holding.{flat, heldOf}
 use Rattle.reader.proofs.Meaning.{nothing-is-sane, nothing-is-held}
 use Rattle.readings.specs.declared.reading.Pass.{Pass}
 use Rattle.readings.specs.declared.reading.Fills.{Fills}
-use Rattle.readings.specs.declared.reading.Walk.{Walk}
 use Rattle.readings.specs.ReadFills.{noFill, fillsIn, fillsOver}
 use Rattle.pen.specs.Pen.{Wrote}
-use Rattle.readings.specs.ReadPass.{Sound, Brought, RanTo}
-use Rattle.readings.specs.ReadGroups.{startPass, groupsOn, Over, Through, Walked}
-
--- ---- a fault's number is never 0
-
-abbrev Numbered : Fault → Type 0
-Numbered none = Unit {0}
-Numbered (found n q) = 1 ≤ n
-
-or-numbered : (f g : Fault) → Numbered f → Numbered g → Numbered (orElse f g)
-or-numbered none g a b = b
-or-numbered (found n q) g a b = a
-
-unless-numbered : (t : Bool) (n q : ℕ) → 1 ≤ n → Numbered (unless t n q)
-unless-numbered true n q h = tt
-unless-numbered false n q h = h
-
-cond-numbered : (t : Bool) (f g : Fault) → Numbered f → Numbered g → Numbered (cond t f g)
-cond-numbered true f g a b = a
-cond-numbered false f g a b = b
-
-first-numbered : (fs : List Fault) → All Numbered fs → Numbered (firstOf fs)
-unfolding firstOf
-first-numbered [] nil = tt
-first-numbered (f ∷ fs) (cons a rest) = or-numbered f (firstOf fs) a (first-numbered fs rest)
-
-word-numbered : (p : Plan) (c : List ℕ) (at j : ℕ) → Numbered (faultAt p c at j)
-unfolding faultAt
-word-numbered p c at zero = unless-numbered (eqb (wordAt c at) sync) 9 at (omega arith)
-word-numbered p c at (suc j) =
-    or-numbered (unless (not (p .parity) || isOdd (wordAt c (at + suc j))) 10 (at + suc j)) _ (unless-numbered (not (p .parity) || isOdd (wordAt c (at + suc j))) 10 (at + suc j) (omega arith))
-    (cond-numbered (p .crc && eqb (suc (suc j)) (p .words)) (unless (eqb (wordAt c (at + suc j)) (checkWord (p .parity) (list (wordAt c) at (suc j)))) 11 (at + suc j)) none
-    (unless-numbered (eqb (wordAt c (at + suc j)) (checkWord (p .parity) (list (wordAt c) at (suc j)))) 11 (at + suc j) (omega arith)) tt)
-
-stored-numbered : (p : Plan) (c : List ℕ) (at : ℕ) → Numbered (storedFault p c at)
-unfolding storedFault
-stored-numbered p c at =
-    first-numbered _
-    (all-flat Numbered (λ (t : ℕ). list (faultAt p c (at + t * p .words)) 0 (p .words)) (list (λ t. t) 0 (p .tracks))
-    (all-list (λ (t : ℕ). All Numbered (list (faultAt p c (at + t * p .words)) 0 (p .words))) (λ t. t) (p .tracks) 0
-    (λ t h. all-list Numbered (faultAt p c (at + (0 + t) * p .words)) (p .words) 0 (λ j k. word-numbered p c (at + (0 + t) * p .words) (0 + j)))))
-
-time-word-numbered : (p : Plan) (c : List ℕ) (at s label : ℕ) (micro : Bool) → Numbered (timeWordFault p c at s label micro)
-unfolding timeWordFault
-time-word-numbered p c at s label micro =
-    unless-numbered (eqb (busOf (p .parity) (wordAt c (at + placeOf p s))) 0 && eqb (labelOf (wordAt c (at + placeOf p s))) label && (cond micro (belowTick (infoOf (wordAt c (at + placeOf p s)))) true)) 12 (at + placeOf p s) (omega arith)
-
-time-numbered : (p : Plan) (c : List ℕ) (at : ℕ) → Numbered (timeFault p c at)
-unfolding timeFault
-time-numbered p c at =
-    cond-numbered (p .«frame_time») (orElse (timeWordFault p c at 0 7 false) (orElse (timeWordFault p c at 1 6 false) (timeWordFault p c at 2 5 true))) none
-    (or-numbered (timeWordFault p c at 0 7 false) (orElse (timeWordFault p c at 1 6 false) (timeWordFault p c at 2 5 true)) (time-word-numbered p c at 0 7 false)
-    (or-numbered (timeWordFault p c at 1 6 false) (timeWordFault p c at 2 5 true) (time-word-numbered p c at 1 6 false) (time-word-numbered p c at 2 5 true))) tt
-
-group-numbered : (p : Plan) (c : List ℕ) (at : ℕ) → Numbered (groupFault p c at)
-unfolding groupFault
-group-numbered p c at = or-numbered (storedFault p c at) (timeFault p c at) (stored-numbered p c at) (time-numbered p c at)
-
--- what the number and place of a group's fault say of it
-none-of : (f : Fault) (r : Found) → Numbered f → r ≡ faultOf f → r .number ≡ 0 → f ≡ none
-none-of none r m e z = refl
-none-of (found n q) r m e z = let y : n ≡ 0 = sym (ap (λ (x : Found). x .number) e) ∙ z in absurd (omega arith)
-
-some-of : (f : Fault) (r : Found) → r ≡ faultOf f → (r .number ≡ 0 → ⊥) → f ≡ found (r .number) (r .place)
-some-of none r e z = absurd (z (ap (λ (x : Found). x .number) e))
-some-of (found n q) r e z = sym (ap₂ found (ap (λ (x : Found). x .number) e) (ap (λ (x : Found). x .place) e))
+use Rattle.readings.specs.ReadPass.{Brought, RanTo}
+use Rattle.readings.specs.ReadGroups.{startPass, groupsOn, Over, Through}
 
 -- ---- from group to group
 
@@ -159,11 +91,11 @@ module _ (ks : List Kind) (p : Plan) (c : List ℕ) (n : ℕ) (out₀ : List ℕ
         rw e refl
 
     pub over-fault : {r : Found} → r ≡ faultOf (groupFault p c first) → (r .number ≡ 0 → ⊥) → readGroups p ks c n 0 Nothing 0 ≡ stopped (r .number) (r .place)
-    over-fault {r} e z = a .is ∙ ap (before (a .items)) (group-next ∙ ap (λ (f : Fault). ifSound f (onward here (λ h q. readGroups p ks c (n - (g + 1)) (g + 1) h q))) (some-of (groupFault p c first) r e z))
+    over-fault {r} e z = a .is ∙ ap (before (a .items)) (group-next ∙ ap (λ (f : Fault). ifSound f (onward here (λ h q. readGroups p ks c (n - (g + 1)) (g + 1) h q))) (number-found p c first e z))
 
     sound-next : {r : Found} → r ≡ faultOf (groupFault p c first) → r .number ≡ 0
         → readGroups p ks c n 0 Nothing 0 ≡ before (a .items) (onward here (λ h q. readGroups p ks c (n - (g + 1)) (g + 1) h q))
-    sound-next {r} e z = a .is ∙ ap (before (a .items)) (group-next ∙ ap (λ (f : Fault). ifSound f (onward here (λ h q. readGroups p ks c (n - (g + 1)) (g + 1) h q))) (none-of (groupFault p c first) r (group-numbered p c first) e z))
+    sound-next {r} e z = a .is ∙ ap (before (a .items)) (group-next ∙ ap (λ (f : Fault). ifSound f (onward here (λ h q. readGroups p ks c (n - (g + 1)) (g + 1) h q))) (number-none p c first e z))
 
     fill-next : fillsOver p (groupsOn p c 0 n) noFill ≡ fillsOver p (groupsOn p c (g + 1) (n - (g + 1))) (fillsIn p 0 (groupSlots p c first) (x .fills))
     unfolding fillsOver

@@ -24,7 +24,7 @@ use Rattle.format.specs.declared.Held.the-variants.{Nothing, Taggable, Half, Ta
 use Rattle.format.specs.declared.Base.the-variants as base
 use Rattle.format.specs.declared.Tag.the-variants.{Untagged}
 use Rattle.format.specs.declared.Plan.{Plan}
-use Rattle.format.specs.Laws.Tests.{clash}
+use Rattle.format.specs.Laws.Tests.{and-true, clash}
 use Rattle.format.specs.Lists.{list}
 use Rattle.format.specs.Laws.Lists.{flatMap-append, getD-list}
 use Rattle.reader.specs.declared.Holding.{Holding}
@@ -110,16 +110,11 @@ abbrev isGot : Got → Bool
 isGot (got is) = true
 isGot (stopped n p) = false
 
-and-both : (a b : Bool) → (a && b) ≡ true → (a ≡ true) × (b ≡ true)
-and-both true true e = (refl, refl)
-and-both true false e = clash e
-and-both false b e = clash e
-
 no-tag : (label bus b : ℕ) → (b * 16 + 7 ≡ bus * 16 + label → ⊥) → (eqb label 7 && eqb bus b) ≡ false
 no-tag label bus b n =
     yes-or-no (eqb label 7 && eqb bus b)
     (λ e.
-    let h = and-both (eqb label 7) (eqb bus b) e in
+    let h = and-true (eqb label 7) (eqb bus b) e in
     let u : label ≡ 7 = eqb-true label 7 (h .0) in
     let v : bus ≡ b = eqb-true bus b (h .1) in
     absurd (n (omega arith)))

@@ -2,39 +2,33 @@
 use Prim.Native.Nat.{ℕ, zero, suc, _+_, _*_, _-_, _/_, _%_, _^_, _≤_, _<_}
 use native.Mathlib.Nat.{mod-lt, div-lt-iff-lt-mul, mul-comm, mul-le-mul-right, mul-le-mul-left}
 use native.Mathlib.Omega.{arith}
-use mathlib.Core.Bool.{Bool, true, false, _&&_}
+use mathlib.Core.Bool.{Bool, true, false}
 use mathlib.Core.Path.{_≡_, refl, sym, ap, ap₂, subst, _∙_}
 use mathlib.Core.List.{List, [], _∷_}
 use lib.ListN.{length}
 use lib.Dec.{eqb}
 use borrow.Author.Tests.{eqb-true}
 use Rattle.format.specs.Lists.{list}
-use Rattle.format.specs.Bits.{bit}
 use Rattle.format.specs.Word.{wordAt, busOf, labelOf, infoOf, isFill}
 use Rattle.format.specs.Plan.{rows, lead, slots, placeOf, groupWords}
 use Rattle.format.specs.Group.{groupSlots}
+use Rattle.format.specs.Laws.Tests.{and-true}
+pub use Rattle.format.specs.Laws.Word.Parts.{info-low}
 use Rattle.format.specs.declared.Plan.{Plan}
 use Rattle.group.specs.Shape.{Shape}
 use Rattle.group.specs.declared.reading.Position.{Position}
 use Rattle.group.specs.Position.{Dealt, positionOf}
+use Rattle.group.proofs.Rows.{rows-under}
 use Rattle.word.specs.Stored.{threeAt}
 use Rattle.word.proofs.Stored.{word-at-is-three}
 use Rattle.taking.specs.Slots.{placeIn, wordIn, slotsOn, topOf, Ahead}
 
 -- ---- where the slots are
 
-bit-low : (b : Bool) → bit b ≤ 1
-bit-low true = omega arith
-bit-low false = omega arith
-
-rows-low : (p : Plan) → Shape p → rows p + 1 ≤ p .words
-unfolding rows
-rows-low p s = omega (arith, bit-low (p .crc), s .words-over)
-
 pub slots-few : (p : Plan) → Shape p → slots p ≤ groupWords p
 unfolding slots
 slots-few p s =
-    let a : rows p ≤ p .words = omega (arith, rows-low p s) in
+    let a : rows p ≤ p .words = omega (arith, rows-under p s) in
     omega (arith, mul-le-mul-left (p .tracks) a)
 
 -- the slot i of a group is a dealt word above the last row
@@ -50,7 +44,7 @@ unfolding placeOf
 slot-place p i s h =
     let t : ℕ = (lead p + i) % p .tracks in
     let a : suc t ≤ p .tracks = mod-lt (lead p + i) (s .tracks-over) in
-    omega (arith, mul-le-mul-right (p .words) a, row-low p i s h, rows-low p s)
+    omega (arith, mul-le-mul-right (p .words) a, row-low p i s h, rows-under p s)
 
 -- ---- the list of them
 
@@ -115,10 +109,6 @@ pub label-low : (w : ℕ) → labelOf w < 16
 unfolding labelOf
 label-low w = omega arith
 
-pub info-low : (w : ℕ) → infoOf w < 65536
-unfolding infoOf
-info-low w = omega arith
-
 pub info-is : (w : ℕ) → w % 65536 ≡ infoOf w
 unfolding infoOf
 info-is w = refl
@@ -141,11 +131,7 @@ top-plain w h = omega arith
 -- fill is no word that is awaited
 pub fill-label : (w : ℕ) → isFill w ≡ true → labelOf w ≡ 1
 unfolding isFill
-fill-label w e = eqb-true (labelOf w) 1 (and-first (eqb (labelOf w) 1) (eqb (infoOf w) 43690) e)
-  where
-    and-first : (a b : Bool) → (a && b) ≡ true → a ≡ true
-    and-first true b e = refl
-    and-first false b e = e
+fill-label w e = eqb-true (labelOf w) 1 (and-true (eqb (labelOf w) 1) (eqb (infoOf w) 43690) e .0)
 
 pub ahead-small : {p : Plan} {c : List ℕ} {g s n : ℕ} {q : Position} → Ahead p c g s n q → s + n ≤ 1048576
 ahead-small {p} a = omega (arith, a .room, slots-few p (a .shape), a .within, a .small)

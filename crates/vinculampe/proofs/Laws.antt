@@ -1,9 +1,10 @@
 -- The laws of other crates that this crate cites, brought here and nowhere else.
 pub use Rattle.format.specs.Laws.Composed.Length.{words-few}
 pub use Rattle.format.specs.Laws.Legal.{Legal, legal-is, many}
-pub use Rattle.format.specs.Laws.Lists.{flatMap-append, length-list}
+pub use Rattle.format.specs.Laws.Lists.{flatMap-append, length-list, list-more}
 pub use Rattle.format.specs.Laws.Log.Forth.{log-forth}
 pub use Rattle.format.specs.Laws.Tests.{and-true}
-pub use Rattle.composing.proofs.ComposeAnswer.{bytes-of, times-wrong}
-pub use Rattle.readings.proofs.ReadFront.{Front, front-none, front-long, front-more, list-more, list-none, take-more}
+pub use Rattle.format.specs.Laws.Word.Bytes.{all-bytes}
+pub use Rattle.composing.proofs.ComposeAnswer.{times-wrong}
+pub use Rattle.readings.proofs.ReadFront.{Front, front-none, front-long, front-more, list-none, take-more}
 pub use Rattle.readings.proofs.ReadGiven.{times-few}

@@ -7,7 +7,7 @@ use Rattle.vinculampe.specs.Interface.{composedBytes}
 use Rattle.format.specs.Compose.{composed}
 use Rattle.vinculampe.proofs.Times.{row-taken, times-number}
 use Rattle.vinculampe.proofs.Ragged.{eights, not-eights, too-many}
-use Rattle.vinculampe.proofs.Laws.{bytes-of}
+use Rattle.vinculampe.proofs.Laws.{all-bytes}
 use borrow.Author.Needs.{needs}
 use Rattle.vinculampe.proofs.compose_timed.Statement.{statement}
 use Rattle.vinculampe.proofs.compose_timed.Tie as tie
@@ -24,7 +24,7 @@ same-length c = search needs
 returns : tie.Need-returns
 returns c =
     let a = c .before .before .before .before .before .before .before .before .before .args in
-    rw (not-eights (a .plan) (a .kinds) (a .log .now) (bytes-of (a .log .now) (λ i. omega (arith, c .before .before .before .before .before .before .before .before .shared-slice-known .given i))) (replicate 127 0) (a .times .now) (length (a .out .now)) (omega arith) (c .before .before .before .before .before .if1 .taken))
+    rw (not-eights (a .plan) (a .kinds) (a .log .now) (all-bytes (a .log .now) (λ i. omega (arith, c .before .before .before .before .before .before .before .before .shared-slice-known .given i))) (replicate 127 0) (a .times .now) (length (a .out .now)) (omega arith) (c .before .before .before .before .before .if1 .taken))
     (c .before .before .compose .ensures)
 
 slice-aggregate-compose-2 : tie.Need-slice-aggregate-compose-2
@@ -39,7 +39,7 @@ same-length-2 c = search needs
 returns-2 : tie.Need-returns-2
 returns-2 c =
     let a = c .before .before .before .before .before .before .before .before .before .before .args in
-    rw (too-many (a .plan) (a .kinds) (a .log .now) (bytes-of (a .log .now) (λ i. omega (arith, c .before .before .before .before .before .before .before .before .before .shared-slice-known .given i))) (replicate 127 0) (a .times .now) (length (a .out .now)) (omega arith) (c .before .before .before .before .before .before .if1 .left) (c .before .before .before .before .before .if2 .taken))
+    rw (too-many (a .plan) (a .kinds) (a .log .now) (all-bytes (a .log .now) (λ i. omega (arith, c .before .before .before .before .before .before .before .before .before .shared-slice-known .given i))) (replicate 127 0) (a .times .now) (length (a .out .now)) (omega arith) (c .before .before .before .before .before .before .if1 .left) (c .before .before .before .before .before .if2 .taken))
     (c .before .before .compose2 .ensures)
 
 slice-aggregate-times-from : tie.Need-slice-aggregate-times-from

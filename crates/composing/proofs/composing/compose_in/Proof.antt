@@ -1,4 +1,5 @@
-use Rattle.composing.proofs.ComposeAnswer.{bytes-of, log-counted, log-faulty, row-holds}
+use Rattle.composing.proofs.ComposeLaws.{all-bytes}
+use Rattle.composing.proofs.ComposeAnswer.{log-counted, log-faulty, row-holds}
 use lib.Seq.{length-take-le}
 use lib.ListN.{length}
 use mathlib.Core.Path.{refl, sym, _∙_}
@@ -18,7 +19,7 @@ slice-reshare-prefix-compose-words c =
     let a = c .before .before .before .before .before .before .before .before .before .before .before .args in
     let g = c .before .words .given in
     let l = c .before .before .before .before .before .lay in
-    let k = log-counted (a .plan) (a .kinds) (a .log .now) (c .before .before .before .before .before .before .before .before .before .before .before .pre .0) (bytes-of (a .log .now) (λ i. omega (arith, c .before .before .before .before .before .before .before .before .before .before .shared-slice-known .given i))) (g .0 .0) (g .0 .1 .0) (sym (g .1) ∙ l .ensures .0) in
+    let k = log-counted (a .plan) (a .kinds) (a .log .now) (c .before .before .before .before .before .before .before .before .before .before .before .pre .0) (all-bytes (a .log .now) (λ i. omega (arith, c .before .before .before .before .before .before .before .before .before .before .shared-slice-known .given i))) (g .0 .0) (g .0 .1 .0) (sym (g .1) ∙ l .ensures .0) in
     let v = l .ensures .1 (g .0 .0) (g .0 .1 .0) (g .1) in
     row-holds (g .0 .1 .0) (l .last .1 .1 .0) _ v (k .count)
 
@@ -27,7 +28,7 @@ slice-aggregate-compose-words c =
     let a = c .before .before .before .before .before .before .before .before .before .before .before .before .args in
     let g = c .before .before .words .given in
     let l = c .before .before .before .before .before .before .lay in
-    let k = log-counted (a .plan) (a .kinds) (a .log .now) (c .before .before .before .before .before .before .before .before .before .before .before .before .pre .0) (bytes-of (a .log .now) (λ i. omega (arith, c .before .before .before .before .before .before .before .before .before .before .before .shared-slice-known .given i))) (g .0 .0) (g .0 .1 .0) (sym (g .1) ∙ l .ensures .0) in
+    let k = log-counted (a .plan) (a .kinds) (a .log .now) (c .before .before .before .before .before .before .before .before .before .before .before .before .pre .0) (all-bytes (a .log .now) (λ i. omega (arith, c .before .before .before .before .before .before .before .before .before .before .before .shared-slice-known .given i))) (g .0 .0) (g .0 .1 .0) (sym (g .1) ∙ l .ensures .0) in
     let v = l .ensures .1 (g .0 .0) (g .0 .1 .0) (g .1) in
     sym (length-take-le (g .0 .1 .0) (l .last .1 .1 .0) (row-holds (g .0 .1 .0) (l .last .1 .1 .0) _ v (k .count)))
 
@@ -36,7 +37,7 @@ compose-words-requires c κs =
     let a = c .before .before .before .before .before .before .before .before .before .before .before .before .before .args in
     let g = c .before .before .before .words .given in
     let l = c .before .before .before .before .before .before .before .lay in
-    let k = log-counted (a .plan) (a .kinds) (a .log .now) (c .before .before .before .before .before .before .before .before .before .before .before .before .before .pre .0) (bytes-of (a .log .now) (λ i. omega (arith, c .before .before .before .before .before .before .before .before .before .before .before .before .shared-slice-known .given i))) (g .0 .0) (g .0 .1 .0) (sym (g .1) ∙ l .ensures .0) in
+    let k = log-counted (a .plan) (a .kinds) (a .log .now) (c .before .before .before .before .before .before .before .before .before .before .before .before .before .pre .0) (all-bytes (a .log .now) (λ i. omega (arith, c .before .before .before .before .before .before .before .before .before .before .before .before .shared-slice-known .given i))) (g .0 .0) (g .0 .1 .0) (sym (g .1) ∙ l .ensures .0) in
     let v = l .ensures .1 (g .0 .0) (g .0 .1 .0) (g .1) in
     rw v (k .shape, omega (arith, k .count, k .few), k .unsent)
 
@@ -57,7 +58,7 @@ returns c =
     let a = c .before .before .before .before .before .before .before .before .before .before .before .before .before .before .before .before .args in
     let g = c .before .before .before .before .before .before .words .given in
     let l = c .before .before .before .before .before .before .before .before .before .before .lay in
-    let k = log-counted (a .plan) (a .kinds) (a .log .now) (c .before .before .before .before .before .before .before .before .before .before .before .before .before .before .before .before .pre .0) (bytes-of (a .log .now) (λ i. omega (arith, c .before .before .before .before .before .before .before .before .before .before .before .before .before .before .before .shared-slice-known .given i))) (g .0 .0) (g .0 .1 .0) (sym (g .1) ∙ l .ensures .0) in
+    let k = log-counted (a .plan) (a .kinds) (a .log .now) (c .before .before .before .before .before .before .before .before .before .before .before .before .before .before .before .before .pre .0) (all-bytes (a .log .now) (λ i. omega (arith, c .before .before .before .before .before .before .before .before .before .before .before .before .before .before .before .shared-slice-known .given i))) (g .0 .0) (g .0 .1 .0) (sym (g .1) ∙ l .ensures .0) in
     let v = l .ensures .1 (g .0 .0) (g .0 .1 .0) (g .1) in
     rw (k .is (a .times .now) (length (a .out .now))) (rw v at (c .before .before .compose-words .ensures))
 

@@ -1,4 +1,4 @@
-use Rattle.group.proofs.ReadingTime.{info-low}
+use Rattle.format.specs.Laws.Word.Parts.{info-low}
 use Rattle.group.proofs.ReadingPlaces.{time-room}
 use native.Mathlib.Omega.{arith}
 use borrow.Author.Needs.{needs}

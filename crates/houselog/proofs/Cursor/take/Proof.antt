@@ -4,7 +4,7 @@ use lib.ListN.{length}
 use borrow.Author.Tests.{le-leb, lt-leb}
 use Rattle.format.specs.Bits.{bytesBits}
 use Rattle.houselog.proofs.Eight.{window-top}
-use Rattle.items.proofs.Bits.{length-bytes}
+use Rattle.format.specs.Laws.Bits.{length-bytes}
 use borrow.Author.Needs.{needs}
 use Rattle.houselog.proofs.Cursor.take.Statement.{statement}
 use Rattle.houselog.proofs.Cursor.take.Tie as tie
