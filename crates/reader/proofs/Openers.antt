@@ -1,8 +1,8 @@
 -- What the numbers of the openings say of a word.
-use Prim.Native.Nat.{ℕ, zero, suc, _+_, _*_, _/_, _%_, _^_, _-_, _<_, _≤_}
+use Prim.Native.Nat.{ℕ, zero, suc, _+_, _*_, _%_, _^_, _-_, _<_, _≤_}
 use native.Mathlib.Omega.{arith}
-use mathlib.Core.Path.{_≡_, refl, sym, ap, _∙_}
-use mathlib.Core.List.{List, [], _∷_, flatMap}
+use mathlib.Core.Path.{_≡_, refl}
+use mathlib.Core.List.{flatMap}
 use lib.ListN.{getD}
 use Rattle.format.specs.Item.{itemFields}
 use Rattle.format.specs.Reader.{starts}

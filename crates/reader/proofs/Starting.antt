@@ -1,17 +1,16 @@
 -- What a word starts, in numbers: the definition at each label, and the arithmetic that the code does for it.
-use Prim.Native.Nat.{ℕ, zero, suc, _+_, _*_, _/_, _%_, _^_, _-_, _<_, _≤_}
+use Prim.Native.Nat.{ℕ, _+_, _*_, _/_, _%_, _-_, _<_, _≤_}
 use native.Mathlib.Omega.{arith}
-use mathlib.Core.Bool.{Bool, true, false, cond}
-use mathlib.Core.Path.{_≡_, refl, sym, ap, _∙_}
-use mathlib.Core.List.{List, [], _∷_, flatMap}
-use lib.Dec.{eqb, ltb, leb}
-use borrow.Author.Tests.{eq-eqb, ne-eqb, eqb-true}
+use mathlib.Core.Bool.{Bool, true, false}
+use mathlib.Core.Path.{_≡_, refl, sym, _∙_}
+use mathlib.Core.List.{flatMap}
+use lib.Dec.{eqb}
+use borrow.Author.Tests.{eq-eqb, ne-eqb, eqb-true, lt-ltb}
 use Rattle.format.specs.Laws.Tests.{below16, clash}
-use Rattle.format.specs.Item.{itemFields, channelOf, lowLabel}
-use Rattle.format.specs.Reader.{Fed, bad, fed, starts, isHigh, isPair}
-use Rattle.format.specs.declared.Kind.the-variants.{Unused, Mil1553, Arinc429}
+use Rattle.format.specs.Item.{itemFields, channelOf}
+use Rattle.format.specs.Reader.{starts, isPair}
+use Rattle.format.specs.declared.Kind.the-variants.{Mil1553, Arinc429}
 use Rattle.reader.specs.declared.Holding.{Holding}
-use Rattle.reader.specs.Holding.{flat, numberOf}
 use Rattle.reader.specs.Step.{refusal, holding, ended, begun, headOf}
 use Rattle.reader.proofs.Labels.{lower, upper}
 
@@ -78,6 +77,10 @@ module _ (g : Holding) (v w bus info : ℕ) where
       (λ e. absurd (omega arith)) (λ e. absurd (omega arith)) (λ e. absurd (omega arith)) (λ e. holds-base 0 (bus * 16 + 7) (omega arith))
       (λ e. absurd (omega arith)) (λ e. absurd (omega arith)) (λ e. absurd (omega arith)) (λ e. holds-base 0 (bus * 16 + 7) (omega arith))
       label l u
+
+  pub response-is-held : info < 10000 → holding v w (record { base = 0; time = info; awaits = 270 + bus * 16 }) ≡ begun g v w (starts Mil1553 bus 4 info)
+  unfolding starts flatMap
+  response-is-held l = simp (lt-ltb info 10000 l) refl
 
   pub one-word-ends : (label : ℕ) → 8 ≤ label → label < 16 → (label % 4 ≡ 3 → ⊥)
       → ended v w (headOf bus label * 65536 + info) (25 + label / 2 % 2) ≡ begun g v w (starts Mil1553 bus label info)

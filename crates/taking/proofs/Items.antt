@@ -1,18 +1,17 @@
 -- Words fed one after the other, from a slot where nothing is held, up to the end of an item.
-use Prim.Native.Nat.{ℕ, zero, suc, _+_, _*_, _-_, _/_, _%_, _^_, _≤_, _<_}
+use Prim.Native.Nat.{ℕ, _+_, _*_, _-_, _/_, _%_, _^_, _≤_, _<_}
 use native.Mathlib.Omega.{arith}
 use native.Mathlib.Decide.{decLt}
 use mathlib.Core.Bool.{Bool, true, false, cond, _&&_}
 use mathlib.Core.Path.{_≡_, refl, sym, ap, ap₂, subst, _∙_}
 use mathlib.Core.Logic.{_⊎_, inl, inr}
-use mathlib.Core.List.{List, [], _∷_, _++_, flatMap, append-assoc, append-nil}
-use lib.ListN.{length}
+use mathlib.Core.List.{List, [], _∷_, _++_, flatMap, append-assoc}
 use lib.Dec.{eqb}
-use borrow.Author.Tests.{eq-eqb, ne-eqb, eqb-true}
+use borrow.Author.Tests.{eq-eqb, eqb-true}
 use Rattle.format.specs.Bits.{bitsOf}
 use Rattle.format.specs.Word.{isFill, busOf, labelOf, infoOf}
 use Rattle.format.specs.Time.{belowTick}
-use Rattle.format.specs.Item.{itemFields, itemBits}
+use Rattle.format.specs.Item.{itemBits}
 use Rattle.format.specs.Plan.{lead, slots, kindOn}
 use Rattle.format.specs.Reader.{Slot, Fed, bad, fed, Ran, badAt, ran, run, more, join, feed, since, starts, after, withTag, baseBus, isHigh, isPair}
 use Rattle.format.specs.Read.{Got, got, stopped, finish}
@@ -21,7 +20,6 @@ use Rattle.format.specs.declared.Kind.the-variants.{Unused, Mil1553, Arinc429}
 use Rattle.format.specs.declared.Item.{Item}
 use Rattle.format.specs.declared.Held.{Held}
 use Rattle.format.specs.declared.Held.the-variants.{Nothing, Taggable, Half, TagHigh, TagLow, Answering}
-use Rattle.format.specs.declared.Base.the-variants as base
 use Rattle.format.specs.declared.Tag.the-variants.{Untagged}
 use Rattle.format.specs.declared.Plan.{Plan}
 use Rattle.format.specs.Laws.Tests.{and-true, clash}
@@ -214,10 +212,7 @@ module _ (ks : List Kind) (p : Plan) (c : List ℕ) (g : ℕ) where
             is = on (fed is k) d ∙ more-more (w .items) is (rest k (since k (w .since) (placeIn p g j)))
                 ∙ ap (λ (x : Held). more (w .items ++ is) (rest x (since x (w .since) (placeIn p g j)))) n;
             bits = m .bits ∙ sym (flatMap-append itemBits (w .items) is ∙ ap (λ (x : List ℕ). x ++ flatMap itemBits is) (w .quiet));
-            first-fits = m .first-fits;
-            second-fits = m .second-fits;
-            first-short = m .first-short;
-            second-short = m .second-short;
+            short = record { first-fits = m .first-fits; second-fits = m .second-fits; first-short = m .first-short; second-short = m .second-short };
             unfilled = unfilled-more i j nf (w .unfilled);
           }
 
@@ -239,10 +234,7 @@ module _ (ks : List Kind) (p : Plan) (c : List ℕ) (g : ℕ) where
               ∙ ap (more (f .items)) (sym (here Nothing last (feed ks Nothing bus label info) refl)))
               ∙ more-more (w .items) (f .items) (run ks (p .parity) (slotsOn p c g j) Nothing last);
           bits = b .bits ∙ sym (flatMap-append itemBits (w .items) (f .items) ∙ ap (λ (x : List ℕ). x ++ flatMap itemBits (f .items)) (w .quiet));
-          first-fits = b .first-fits;
-          second-fits = b .second-fits;
-          first-short = b .first-short;
-          second-short = b .second-short;
+          short = record { first-fits = b .first-fits; second-fits = b .second-fits; first-short = b .first-short; second-short = b .second-short };
           unfilled = w .unfilled;
         }
 
@@ -282,7 +274,7 @@ module _ (ks : List Kind) (p : Plan) (c : List ℕ) (g : ℕ) where
 
 -- ---- the words behind it
 
-still : {r : Step} {x : Holding} → r ≡ holding 0 0 x → (r .bad ≡ false) × (r .«first_width» ≡ 0) × (r .«second_width» ≡ 0) × (r .held ≡ x)
+pub still : {r : Step} {x : Holding} → r ≡ holding 0 0 x → (r .bad ≡ false) × (r .«first_width» ≡ 0) × (r .«second_width» ≡ 0) × (r .held ≡ x)
 still e = (ap (λ (y : Step). y .bad) e, ap (λ (y : Step). y .«first_width») e, ap (λ (y : Step). y .«second_width») e, ap (λ (y : Step). y .held) e)
 
 -- a step that holds on
@@ -293,7 +285,7 @@ pub record Still (r : Step) (awaits : ℕ) : Type 0 where
   pub awaited : r .held .awaits ≡ awaits
   pub sane : Sane (r .held)
 
-abbrev Fedby : Holding → ℕ → ℕ → ℕ → Step → Type 0
+abbrev pub Fedby : Holding → ℕ → ℕ → ℕ → Step → Type 0
 Fedby h bus label info r = (ks : List Kind) → r ≡ stepOf (heldOf h) (feed ks (heldOf h) bus label info)
 
 sane-after : (h : Holding) (bus label info : ℕ) (r : Step) → Sane h → bus < 16 → label < 16 → info < 65536 → Fedby h bus label info r → r .bad ≡ false → Sane (r .held)

@@ -1,3 +1,4 @@
 pub mod Slots
 pub mod Items
+pub mod First
 pub mod Taking

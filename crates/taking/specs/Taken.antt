@@ -1,6 +1,6 @@
 -- Items that were taken whole.
 use Prim.Native.Nat.{ℕ, _+_, _*_, _-_, _^_, _≤_, _<_}
-use mathlib.Core.Bool.{true, false}
+use mathlib.Core.Bool.{false}
 use mathlib.Core.Path.{_≡_}
 use mathlib.Core.List.{List, [], _++_, flatMap}
 use lib.ListN.{length}
@@ -16,12 +16,20 @@ use Rattle.format.specs.declared.Plan.{Plan}
 use Rattle.reader.specs.declared.Holding.{Holding}
 use Rattle.reader.specs.declared.Step.{Step}
 use Rattle.reader.specs.Holding.{heldOf, Sane}
+use Rattle.reader.specs.Opening.{opens}
 use Rattle.group.specs.Position.{positionOf}
 use Rattle.pen.specs.declared.Pen.{Pen}
 use Rattle.pen.specs.Pen.{Wrote}
 use Rattle.taking.specs.declared.Taken.{Taken}
 use Rattle.taking.specs.declared.Whole.{Whole}
 use Rattle.taking.specs.Slots.{slotsOn, wordIn}
+
+-- a step's two strings fit their widths, which are at most 46
+pub record Short (s : Step) : Type 0 where
+  pub first-fits : s .first < 2 ^ (s .«first_width»)
+  pub second-fits : s .second < 2 ^ (s .«second_width»)
+  pub first-short : s .«first_width» ≤ 46
+  pub second-short : s .«second_width» ≤ 46
 
 module _ (ks : List Kind) (p : Plan) (c : List ℕ) (g : ℕ) where
   -- no fill in the slots from i up to j
@@ -42,10 +50,7 @@ module _ (ks : List Kind) (p : Plan) (c : List ℕ) (g : ℕ) where
     pub items : List Item
     pub is : run ks (p .parity) (slotsOn p c g i) Nothing q ≡ more items (run ks (p .parity) (slotsOn p c g j) Nothing last)
     pub bits : bitsOf (r .«first_width») (r .first) ++ bitsOf (r .«second_width») (r .second) ≡ flatMap itemBits items
-    pub first-fits : r .first < 2 ^ (r .«first_width»)
-    pub second-fits : r .second < 2 ^ (r .«second_width»)
-    pub first-short : r .«first_width» ≤ 46
-    pub second-short : r .«second_width» ≤ 46
+    pub short : Short r
     pub unfilled : Unfilled i j
 
   -- no slots: no item was taken
@@ -66,8 +71,13 @@ module _ (ks : List Kind) (p : Plan) (c : List ℕ) (g : ℕ) where
     pub few : t′ .pen .bits ≤ t .pen .bits + 128 * (t′ .slot - t .slot)
     pub none : t′ .slot ≡ t .slot → out′ ≡ out
 
--- a string of bits more
-pub record Puts (v n : ℕ) (out : List ℕ) (p : Pen) (out′ : List ℕ) (p′ : Pen) : Type 0 where
+-- n bits more
+pub record Puts (added : List ℕ) (n : ℕ) (out : List ℕ) (p : Pen) (out′ : List ℕ) (p′ : Pen) : Type 0 where
   pub long : length out′ ≡ length out
   pub bits : p′ .bits ≡ p .bits + n
-  pub wrote : (bits : List ℕ) → Wrote bits out p → Wrote (bits ++ bitsOf n v) out′ p′
+  pub wrote : (bits : List ℕ) → Wrote bits out p → Wrote (bits ++ added) out′ p′
+
+-- what a word with this label opens on a bus of some kind
+pub record Opened (n label : ℕ) : Type 0 where
+  pub kind : Kind
+  pub is : n ≡ opens kind label

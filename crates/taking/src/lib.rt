@@ -3,13 +3,16 @@
 ghost use mathlib.Core.Path.{_≡_};
 ghost use Prim.Native.Nat.{ℕ, _+_, _*_, _-_, _%_, _≤_, _<_, _^_};
 ghost use lib.ListN.{length};
-ghost use mathlib.Core.List.{List};
+ghost use mathlib.Core.List.{List, _++_};
 ghost use Rattle.format.specs.declared.Kind.{Kind};
 ghost use Rattle.format.specs.Word.{busOf, infoOf};
+ghost use Rattle.format.specs.declared.Kind.the-variants.{Mil1553};
+ghost use Rattle.format.specs.Bits.{bitsOf};
 ghost use Rattle.format.specs.Plan.{kindOn, slots};
 ghost use Rattle.taking.specs.Slots.{Ahead, placeIn, topOf, wordIn};
 ghost use Rattle.reader.specs.Holding.{Sane};
-ghost use Rattle.taking.specs.Taken.{Puts, Takes, Took, Went};
+ghost use Rattle.reader.specs.Opening.{opens};
+ghost use Rattle.taking.specs.Taken.{Opened, Puts, Short, Takes, Took, Went};
 use format::Kind;
 use format::Plan;
 use group::reading;
@@ -159,48 +162,69 @@ fn tail(plan: Plan, capture: &[u8], begun: Begun, group: usize, slot: usize) -> 
     }
 }
 
-// A command, or an ARINC word: the high syllable is held, and the low one stands in the slot `slot`.
-fn begun_with(
+// A high syllable is held, of bus x 16 + label `first`, and its low one stands in the slot `slot`.
+fn with_low(
     plan: Plan,
     capture: &[u8],
     held: Holding,
+    first: u32,
     group: usize,
     slot: usize,
     at: Position,
-    last: usize,
 ) -> Begun
-    requires { ⌜ Ahead plan (now capture) group slot 4 at × Sane held × (held .awaits ≡ 0 → ⊥) ⌝ }
+    requires { ⌜ Ahead plan (now capture) group slot 4 at × Sane held × (held .awaits + 1 ≡ first) × (9 ≤ first % 16) × (first < 256) ⌝ }
     ensures { λ r. ⌜ (r .slots ≤ 2) × ((r .slots ≡ 0 → ⊥) → Sane (r .held) × Ahead plan (now (capture .entry)) group (slot + r .slots - 1) 3 (r .at)) ⌝ }
     ensures { λ r. ⌜ ((kinds : List Kind) (from : ℕ) → from + 1 ≡ slot → ((q : ℕ) → Went kinds plan (now (capture .entry)) group from q slot held) → (r .slots ≡ 0 → ⊥) → (q : ℕ) → Went kinds plan (now (capture .entry)) group from q (from + r .slots) (r .held)) ⌝ }
 {
-    if held.awaits % 16 == 7 {
-        return Begun {
-            held: held,
-            slots: 1,
-            at: at,
-            last: last,
-        };
-    }
     let word = word_of(plan, capture, group, slot, at);
-    let top = top_of(plan.parity, word);
-    if top == held.awaits {
-        if 8 <= top % 16 {
-            let half = reader::goes_on(held, top / 16, top % 16, word % 65536);
-            let kept = half.held;
-            return Begun {
-                held: kept,
-                slots: 2,
-                at: reading::next_slot(plan, at),
-                last: at.place,
-            };
-        }
+    if top_of(plan.parity, word) + 1 == first {
+        let joined = reader::low(held, first / 16, first % 16 - 1, word % 65536);
+        let kept = joined.held;
+        return Begun {
+            held: kept,
+            slots: 2,
+            at: reading::next_slot(plan, at),
+            last: at.place,
+        };
     }
     Begun {
         held: held,
         slots: 0,
         at: at,
-        last: last,
+        last: 0,
     }
+}
+
+// A command, or the two syllables of an ARINC word.
+fn begun_at(
+    opening: u32,
+    plan: Plan,
+    capture: &[u8],
+    group: usize,
+    slot: usize,
+    at: Position,
+    word: u32,
+    top: u32,
+) -> Begun
+    requires { ⌜ Ahead plan (now capture) group slot 5 at × (word ≡ wordIn plan (now capture) group slot) × (word < 2 ^ 24) ⌝ }
+    requires { ⌜ (top ≡ topOf (plan .parity) word) × (top < 256) ⌝ }
+    requires { ⌜ Opened opening (top % 16) × (1 ≤ opening) × (opening ≤ 2) ⌝ }
+    ensures { λ r. ⌜ (r .slots ≤ 2) × ((r .slots ≡ 0 → ⊥) → Sane (r .held) × Ahead plan (now (capture .entry)) group (slot + r .slots) 3 (r .at)) ⌝ }
+    ensures { λ r. ⌜ ((kinds : List Kind) → opening ≡ opens (kindOn kinds (busOf (plan .parity) word)) (top % 16) → (r .slots ≡ 0 → ⊥) → (q : ℕ) → Went kinds plan (now (capture .entry)) group slot q (slot + r .slots) (r .held)) ⌝ }
+{
+    let next = reading::next_slot(plan, at);
+    if opening == 1 {
+        let command = reader::command(0, 0, top / 16, top % 16, word % 65536);
+        let held = command.held;
+        return Begun {
+            held: held,
+            slots: 1,
+            at: next,
+            last: at.place,
+        };
+    }
+    let high = reader::syllable(0, 0, top / 16, top % 16, word % 65536);
+    with_low(plan, capture, high.held, top, group, slot + 1, next)
 }
 
 // A response time is held, and its status stands in the slot `slot`.
@@ -241,9 +265,31 @@ fn answered(
     }
 }
 
-// The item whose first word stands in the slot `slot`, where nothing is held.
+// A response time, and its status.
+fn status_at(
+    plan: Plan,
+    capture: &[u8],
+    group: usize,
+    slot: usize,
+    at: Position,
+    word: u32,
+    top: u32,
+) -> Whole
+    requires { ⌜ Ahead plan (now capture) group slot 5 at × (word ≡ wordIn plan (now capture) group slot) × (word < 2 ^ 24) ⌝ }
+    requires { ⌜ (top ≡ topOf (plan .parity) word) × (top < 256) × (top % 16 ≡ 4) ⌝ }
+    ensures { λ r. ⌜ (r .slots ≤ 5) × ((kinds : List Kind) → kindOn kinds (busOf (plan .parity) word) ≡ Mil1553 → Takes kinds plan (now (capture .entry)) group slot r) ⌝ }
+{
+    if 10000 <= word % 65536 {
+        return none(at);
+    }
+    let time = reader::response(0, 0, top / 16, word % 65536);
+    let next = reading::next_slot(plan, at);
+    answered(plan, capture, time.held, group, slot + 1, next)
+}
+
+// The item whose first word stands in the slot `slot`, where nothing is held; an item of one word is taken apart from these.
 fn item_at(
-    kind: Kind,
+    opening: u32,
     plan: Plan,
     capture: &[u8],
     group: usize,
@@ -254,41 +300,47 @@ fn item_at(
 ) -> Whole
     requires { ⌜ Ahead plan (now capture) group slot 5 at × (word ≡ wordIn plan (now capture) group slot) × (word < 2 ^ 24) ⌝ }
     requires { ⌜ (top ≡ topOf (plan .parity) word) × (top < 256) ⌝ }
-    ensures { λ r. ⌜ (r .slots ≤ 5) × ((kinds : List Kind) → kindOn kinds (busOf (plan .parity) word) ≡ kind → Takes kinds plan (now (capture .entry)) group slot r) ⌝ }
+    requires { ⌜ Opened opening (top % 16) ⌝ }
+    ensures { λ r. ⌜ (r .slots ≤ 5) × ((kinds : List Kind) → opening ≡ opens (kindOn kinds (busOf (plan .parity) word)) (top % 16) → Takes kinds plan (now (capture .entry)) group slot r) ⌝ }
 {
-    let step = reader::begin(kind, top / 16, top % 16, word % 65536);
-    if step.bad {
+    if opening == 0 {
         return none(at);
     }
-    let held = step.held;
-    let next = reading::next_slot(plan, at);
-    if held.awaits == 0 {
-        return Whole {
-            step: step,
-            slots: 1,
-            at: next,
-            last: at.place,
-        };
+    if opening <= 2 {
+        let begun = begun_at(opening, plan, capture, group, slot, at, word, top);
+        if begun.slots == 0 {
+            return none(at);
+        }
+        return tail(plan, capture, begun, group, slot + begun.slots);
     }
-    if 256 <= held.awaits {
-        return answered(plan, capture, held, group, slot + 1, next);
+    if opening == 3 {
+        return status_at(plan, capture, group, slot, at, word, top);
     }
-    let begun = begun_with(plan, capture, held, group, slot + 1, next, at.place);
-    if begun.slots == 0 {
-        return none(at);
+    if opening == 4 {
+        if reader::is_pair(word % 65536) {
+            return Whole {
+                step: reader::notice(0, 0, top / 16, word % 65536),
+                slots: 1,
+                at: reading::next_slot(plan, at),
+                last: at.place,
+            };
+        }
     }
-    tail(plan, capture, begun, group, slot + begun.slots)
+    none(at)
 }
 
-// A string that may be empty.
-fn put_some(pen: Pen, out: &mut [u8], value: u64, width: u32) -> Pen
-    requires { ⌜ (pen .bits < 2 ^ 61) × (width ≤ 56) × (value < 2 ^ width) ⌝ }
-    ensures { λ r. ⌜ Puts value width (now (out .entry)) pen (now (out .exit)) r ⌝ }
+// Both strings of a step, at once where they are short.
+fn put_both(pen: Pen, out: &mut [u8], step: Step) -> Pen
+    requires { ⌜ (pen .bits < 2 ^ 61) × Short step ⌝ }
+    ensures { λ r. ⌜ Puts (bitsOf (step .«first_width») (step .first) ++ bitsOf (step .«second_width») (step .second)) (step .«first_width» + step .«second_width») (now (out .entry)) pen (now (out .exit)) r ⌝ }
 {
-    if width == 0 {
-        return pen;
+    let width = step.first_width + step.second_width;
+    if width <= 56 {
+        let both = (step.first << step.second_width) + step.second;
+        return pen.put(out, both, width);
     }
-    pen.put(out, value, width)
+    let half = pen.put(out, step.first, step.first_width);
+    half.put(out, step.second, step.second_width)
 }
 
 // The items from the slot of `from` on, where nothing is held, as far as they are taken.
@@ -304,6 +356,7 @@ pub fn take(
     requires { ⌜ Ahead plan (now capture) group (from .slot) 0 (from .at) × (count ≡ slots plan) × (from .pen .bits < 2 ^ 59) ⌝ }
     ensures { λ r. ⌜ Took kinds plan (now (capture .entry)) group from (now (out .entry)) r (now (out .exit)) ⌝ }
 {
+    let openings = reader::openings();
     let mut slot = from.slot;
     let mut at = from.at;
     let mut last = from.last;
@@ -311,22 +364,20 @@ pub fn take(
     while slot + 5 <= count {
         let word = word_of(plan, capture, group, slot, at);
         let top = top_of(plan.parity, word);
-        let whole = item_at(
-            kinds[(top / 16) as usize],
-            plan,
-            capture,
-            group,
-            slot,
-            at,
-            word,
-            top,
-        );
+        let opening = reader::opening(&openings, kinds[(top / 16) as usize], top % 16);
+        if 8 <= opening {
+            let item = reader::single(opening, top / 16, word % 65536);
+            pen = pen.put(out, item.second, item.second_width);
+            slot += 1;
+            last = at.place;
+            at = reading::next_slot(plan, at);
+            continue;
+        }
+        let whole = item_at(opening, plan, capture, group, slot, at, word, top);
         if whole.slots == 0 {
             break;
         }
-        let step = whole.step;
-        let half = put_some(pen, out, step.first, step.first_width);
-        pen = put_some(half, out, step.second, step.second_width);
+        pen = put_both(pen, out, whole.step);
         slot += whole.slots;
         at = whole.at;
         last = whole.last;

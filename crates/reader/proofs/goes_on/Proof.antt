@@ -6,102 +6,73 @@ use Rattle.reader.proofs.Going.{tag-begins, tag-goes-on, tag-ends, late
 use borrow.Author.Needs.{needs}
 use Rattle.reader.proofs.goes_on.Statement.{statement}
 use Rattle.reader.proofs.goes_on.Tie as tie
-use Rattle.reader.proofs.goes_on.Reads as reads
-use Rattle.reader.proofs.goes_on.Lts as lts
-use Rattle.reader.proofs.ends.Reads as ends-reads
-use Rattle.reader.proofs.holds.Reads as holds-reads
-use Rattle.reader.proofs.low.Reads as low-reads
-use Rattle.reader.proofs.refused.Reads as refused-reads
 
--- src/lib.rt:319:9
 low-requires : tie.Need-low-requires
 low-requires c κs = search needs
 
--- src/lib.rt:319:9
 returns : tie.Need-returns
 returns c = c .low .ensures
 
--- src/lib.rt:322:47
 mul-holds : tie.Need-mul-holds
 mul-holds c = search needs
 
--- src/lib.rt:322:47
 add-holds : tie.Need-add-holds
 add-holds c = search needs
 
--- src/lib.rt:322:9
 holds-requires : tie.Need-holds-requires
 holds-requires c κs = search needs
 
--- src/lib.rt:322:9
 returns-2 : tie.Need-returns-2
 returns-2 c = λ kinds. c .holds .ensures ∙ tag-begins kinds _ _ _ (omega arith) (omega arith) _ (c .before .before .before .pre .1 .0) (c .before .if2 .taken) (c .before .before .before .pre .1 .1)
 
--- src/lib.rt:325:34
 mul-holds-2 : tie.Need-mul-holds-2
 mul-holds-2 c = let h = time-small _ (c .before .before .before .pre .1 .0) (omega arith) in omega arith
 
--- src/lib.rt:325:34
 add-holds-2 : tie.Need-add-holds-2
 add-holds-2 c = let h = time-small _ (c .before .before .before .pre .1 .0) (omega arith) in omega arith
 
--- src/lib.rt:325:62
 mul-holds-3 : tie.Need-mul-holds-3
 mul-holds-3 c = search needs
 
--- src/lib.rt:325:62
 add-holds-3 : tie.Need-add-holds-3
 add-holds-3 c = search needs
 
--- src/lib.rt:325:9
 holds-requires-2 : tie.Need-holds-requires-2
 holds-requires-2 c κs = search needs
 
--- src/lib.rt:325:9
 returns-3 : tie.Need-returns-3
 returns-3 c = λ kinds. c .holds2 .ensures ∙ tag-goes-on kinds _ _ _ (omega arith) (omega arith) _ (c .before .before .before .before .pre .1 .0) (c .before .if3 .taken) (c .before .before .before .before .pre .1 .1)
 
--- src/lib.rt:328:19
 cast-tag : tie.Need-cast-tag
 cast-tag c = search needs
 
--- src/lib.rt:328:19
 mul-tag : tie.Need-mul-tag
 mul-tag c = search needs
 
--- src/lib.rt:328:19
 add-tag : tie.Need-add-tag
 add-tag c = search needs
 
--- src/lib.rt:330:25
 add-ends : tie.Need-add-ends
 add-ends c = search needs
 
--- src/lib.rt:330:13
 ends-requires : tie.Need-ends-requires
 ends-requires c κs = search needs
 
--- src/lib.rt:330:13
 returns-4 : tie.Need-returns-4
 returns-4 c = λ kinds. c .ends .ensures ∙ rw (lt-ltb _ _ (c .before .if5 .taken)) at (tag-ends kinds _ _ _ (omega arith) (omega arith) _ (c .before .before .before .before .before .before .pre .1 .0) (c .before .before .before .before .before .if1 .left) (c .before .before .before .before .if2 .left) (c .before .before .before .if3 .left) (c .before .before .if4 .taken) (c .before .before .before .before .before .before .pre .1 .2) (c .before .before .before .before .before .before .pre .1 .1))
 
--- src/lib.rt:332:21
 add-ends-2 : tie.Need-add-ends-2
 add-ends-2 c = omega (arith, base-small _ (c .before .before .before .before .before .pre .1 .0))
 
--- src/lib.rt:332:9
 ends-requires-2 : tie.Need-ends-requires-2
 ends-requires-2 c κs = search needs
 
--- src/lib.rt:332:9
 returns-5 : tie.Need-returns-5
 returns-5 c = λ kinds. c .ends2 .ensures ∙ rw (le-ltb _ _ (c .before .if5 .left)) at (tag-ends kinds _ _ _ (omega arith) (omega arith) _ (c .before .before .before .before .before .before .pre .1 .0) (c .before .before .before .before .before .if1 .left) (c .before .before .before .before .if2 .left) (c .before .before .before .if3 .left) (c .before .before .if4 .taken) (c .before .before .before .before .before .before .pre .1 .2) (c .before .before .before .before .before .before .pre .1 .1))
 
--- src/lib.rt:334:5
 refused-requires : tie.Need-refused-requires
 refused-requires c κs = search needs
 
--- src/lib.rt:311:1
 returns-6 : tie.Need-returns-6
 returns-6 c = λ kinds. c .refused .ensures ∙ late-micro-is-bad kinds _ _ _ (omega arith) (omega arith) _ (c .before .before .before .before .before .pre .1 .0) (c .before .before .before .before .if1 .left) (c .before .before .before .if2 .left) (c .before .before .if3 .left) (c .before .if4 .left) (c .before .before .before .before .before .pre .1 .2) (c .before .before .before .before .before .pre .1 .1)
 

@@ -4,22 +4,16 @@ use Rattle.reader.proofs.Starting.{below-eight-is-no-high, even-is-no-h
 use borrow.Author.Needs.{needs}
 use Rattle.reader.proofs.is_pair.Statement.{statement}
 use Rattle.reader.proofs.is_pair.Tie as tie
-use Rattle.reader.proofs.is_pair.Reads as reads
-use Rattle.reader.proofs.is_pair.Lts as lts
 
--- src/lib.rt:182:9
 returns : tie.Need-returns
 returns c = sym (below-eight-is-no-high _ _ (c .if1 .taken))
 
--- src/lib.rt:185:9
 returns-2 : tie.Need-returns-2
 returns-2 c = sym (even-is-no-high _ _ (c .before .if1 .left) (omega arith) (c .if2 .taken))
 
--- src/lib.rt:187:5
 add-result : tie.Need-add-result
 add-result c = search needs
 
--- src/lib.rt:175:1
 returns-3 : tie.Need-returns-3
 returns-3 c = odd-pairs-with-its-low _ _ (c .before .if1 .left) (omega arith) (c .if2 .left)
 

@@ -2,27 +2,19 @@ use Rattle.reader.proofs.Openers.{row-low, row-at}
 use borrow.Author.Needs.{needs}
 use Rattle.reader.proofs.opening.Statement.{statement}
 use Rattle.reader.proofs.opening.Tie as tie
-use Rattle.reader.proofs.opening.Reads as reads
-use Rattle.reader.proofs.opening.Lts as lts
-use Rattle.reader.proofs.row_of.Reads as row-of-reads
 
--- src/lib.rt:280:11
 row-of-requires : tie.Need-row-of-requires
 row-of-requires c κs = search needs
 
--- src/lib.rt:280:11
 add-result : tie.Need-add-result
 add-result c = let h = row-low (c .before .args .kind) in search (needs, h)
 
--- src/lib.rt:280:5
 mul-result : tie.Need-mul-result
 mul-result c = let h = row-low (c .before .args .kind) in search (needs, h)
 
--- src/lib.rt:280:5
 element-copy-out-result : tie.Need-element-copy-out-result
 element-copy-out-result c = let h = row-low (c .before .args .kind) in search (needs, h)
 
--- src/lib.rt:276:1
 returns : tie.Need-returns
 returns c = rw (c .before .before .pre .0, c .before .row-of .ensures) (row-at (c .before .before .args .kind) (c .before .before .args .label) (c .before .before .pre .1))
 

@@ -1,44 +1,33 @@
 use Rattle.reader.specs.Step.{ended}
 use Prim.Native.Nat.{ℕ, _+_, _*_, _/_, _%_}
-use mathlib.Core.Path.{_≡_, refl, sym, ap, _∙_}
+use mathlib.Core.Path.{ap, _∙_}
 use native.Mathlib.Omega.{arith}
 use Rattle.reader.proofs.Openers.{moved}
 use borrow.Author.Needs.{needs}
 use Rattle.reader.proofs.single.Statement.{statement}
 use Rattle.reader.proofs.single.Tie as tie
-use Rattle.reader.proofs.single.Reads as reads
-use Rattle.reader.proofs.single.Lts as lts
-use Rattle.reader.proofs.ends.Reads as ends-reads
 
--- src/lib.rt:289:31
 shl-head : tie.Need-shl-head
 shl-head c = search needs
 
--- src/lib.rt:289:16
 add-head : tie.Need-add-head
 add-head c = let m = moved (c .args .bus) (c .args .opening % 4) (c .pre .1) (omega arith) in omega (arith, m .0, m .1)
 
--- src/lib.rt:290:17
 mul-ends : tie.Need-mul-ends
 mul-ends c = let m = moved (c .args .bus) (c .args .opening % 4) (c .pre .1) (omega arith) in omega (arith, m .0, m .1)
 
--- src/lib.rt:290:17
 add-ends : tie.Need-add-ends
 add-ends c = let m = moved (c .args .bus) (c .args .opening % 4) (c .pre .1) (omega arith) in omega (arith, m .0, m .1)
 
--- src/lib.rt:290:16
 cast-ends : tie.Need-cast-ends
 cast-ends c = search needs
 
--- src/lib.rt:290:53
 add-ends-2 : tie.Need-add-ends-2
 add-ends-2 c = search needs
 
--- src/lib.rt:290:5
 ends-requires : tie.Need-ends-requires
 ends-requires c κs = search needs
 
--- src/lib.rt:284:1
 returns : tie.Need-returns
 returns c = c .ends .ensures ∙ ap (λ (x : ℕ). ended 0 0 ((c .before .args .opening / 4 + x) * 65536 + c .before .args .information) (24 + c .before .args .opening % 4)) (moved (c .before .args .bus) (c .before .args .opening % 4) (c .before .pre .1) (omega arith) .0)
 

@@ -7,73 +7,50 @@ use Rattle.reader.proofs.Starting.{one-word-ends}
 use borrow.Author.Needs.{needs}
 use Rattle.reader.proofs.starts_on_1553.Statement.{statement}
 use Rattle.reader.proofs.starts_on_1553.Tie as tie
-use Rattle.reader.proofs.starts_on_1553.Reads as reads
-use Rattle.reader.proofs.starts_on_1553.Lts as lts
-use Rattle.reader.proofs.command.Reads as command-reads
-use Rattle.reader.proofs.ends.Reads as ends-reads
-use Rattle.reader.proofs.head.Reads as head-reads
-use Rattle.reader.proofs.refused.Reads as refused-reads
-use Rattle.reader.proofs.response.Reads as response-reads
-use Rattle.reader.proofs.starts_on_either.Reads as starts-on-either-reads
 
--- src/lib.rt:160:13
 command-requires : tie.Need-command-requires
 command-requires c κs = search needs
 
--- src/lib.rt:160:13
 returns : tie.Need-returns
 returns c = c .command .ensures _
 
--- src/lib.rt:162:20
 head-requires : tie.Need-head-requires
 head-requires c κs = search needs
 
--- src/lib.rt:162:20
 cast-bits : tie.Need-cast-bits
 cast-bits c = search needs
 
--- src/lib.rt:162:20
 mul-bits : tie.Need-mul-bits
 mul-bits c = search needs
 
--- src/lib.rt:162:20
 add-bits : tie.Need-add-bits
 add-bits c = search needs
 
--- src/lib.rt:163:41
 add-ends : tie.Need-add-ends
 add-ends c = search needs
 
--- src/lib.rt:163:9
 ends-requires : tie.Need-ends-requires
 ends-requires c κs = search needs
 
--- src/lib.rt:163:9
 returns-2 : tie.Need-returns-2
 returns-2 c = c .ends .ensures ∙ rw (c .before .head .ensures .0) (one-word-ends _ _ _ _ _ _ (c .before .before .before .if1 .taken) (omega arith) (c .before .before .if2 .left))
 
--- src/lib.rt:167:13
 refused-requires : tie.Need-refused-requires
 refused-requires c κs = search needs
 
--- src/lib.rt:167:13
 returns-3 : tie.Need-returns-3
 unfolding starts flatMap
 returns-3 c = rw (c .before .before .if3 .taken) (simp (le-ltb _ _ (c .before .if4 .taken)) (c .refused .ensures))
 
--- src/lib.rt:169:9
 response-requires : tie.Need-response-requires
 response-requires c κs = search needs
 
--- src/lib.rt:169:9
 returns-4 : tie.Need-returns-4
 returns-4 c = rw (c .before .before .if3 .taken) (c .response .ensures _)
 
--- src/lib.rt:171:5
 starts-on-either-requires : tie.Need-starts-on-either-requires
 starts-on-either-requires c κs = search needs
 
--- src/lib.rt:147:1
 returns-5 : tie.Need-returns-5
 returns-5 c = search needs
 

@@ -4,55 +4,37 @@ use Rattle.reader.proofs.Starting.{low-syllable-starts-nothing, no-pair
 use borrow.Author.Needs.{needs}
 use Rattle.reader.proofs.starts_on_429.Statement.{statement}
 use Rattle.reader.proofs.starts_on_429.Tie as tie
-use Rattle.reader.proofs.starts_on_429.Reads as reads
-use Rattle.reader.proofs.starts_on_429.Lts as lts
-use Rattle.reader.proofs.is_pair.Reads as is-pair-reads
-use Rattle.reader.proofs.notice.Reads as notice-reads
-use Rattle.reader.proofs.refused.Reads as refused-reads
-use Rattle.reader.proofs.starts_on_either.Reads as starts-on-either-reads
-use Rattle.reader.proofs.syllable.Reads as syllable-reads
 
--- src/lib.rt:226:13
 syllable-requires : tie.Need-syllable-requires
 syllable-requires c κs = search needs
 
--- src/lib.rt:226:13
 returns : tie.Need-returns
 returns c = c .syllable .ensures _
 
--- src/lib.rt:228:9
 refused-requires : tie.Need-refused-requires
 refused-requires c κs = search needs
 
--- src/lib.rt:228:9
 returns-2 : tie.Need-returns-2
 returns-2 c = c .refused .ensures ∙ low-syllable-starts-nothing _ _ _ _ _ _ (c .before .before .if1 .taken) (omega arith) (c .before .if2 .left)
 
--- src/lib.rt:231:12
 is-pair-requires : tie.Need-is-pair-requires
 is-pair-requires c κs = search needs
 
--- src/lib.rt:232:13
 notice-requires : tie.Need-notice-requires
 notice-requires c κs = (omega arith, omega arith, sym (c .before .is-pair .ensures) ∙ c .if4 .taken)
 
--- src/lib.rt:232:13
 returns-3 : tie.Need-returns-3
 returns-3 c = rw (c .before .before .before .if3 .taken) (c .notice .ensures _)
 
--- src/lib.rt:234:9
 refused-requires-2 : tie.Need-refused-requires-2
 refused-requires-2 c κs = search needs
 
--- src/lib.rt:234:9
 returns-4 : tie.Need-returns-4
 returns-4 c = rw (c .before .before .before .if3 .taken) (c .refused2 .ensures ∙ no-pair-starts-nothing _ _ _ _ _ (sym (c .before .before .is-pair .ensures) ∙ c .before .if4 .left))
 
--- src/lib.rt:236:5
 starts-on-either-requires : tie.Need-starts-on-either-requires
 starts-on-either-requires c κs = search needs
 
--- src/lib.rt:213:1
 returns-5 : tie.Need-returns-5
 returns-5 c = rw (← either-kind-starts-alike _ _ _ (omega arith) (c .before .if3 .left)) (c .starts-on-either .ensures)
 

@@ -4,55 +4,40 @@ use Rattle.reader.proofs.Starting.{high-syllable-is-held}
 use borrow.Author.Needs.{needs}
 use Rattle.reader.proofs.syllable.Statement.{statement}
 use Rattle.reader.proofs.syllable.Tie as tie
-use Rattle.reader.proofs.syllable.Reads as reads
-use Rattle.reader.proofs.syllable.Lts as lts
-use Rattle.reader.proofs.holds.Reads as holds-reads
 
--- src/lib.rt:209:19
 add-bits : tie.Need-add-bits
 add-bits c = search needs
 
--- src/lib.rt:209:18
 mul-bits : tie.Need-mul-bits
 mul-bits c = search needs
 
--- src/lib.rt:209:36
 sub-bits : tie.Need-sub-bits
 sub-bits c = search needs
 
--- src/lib.rt:209:18
 add-bits-2 : tie.Need-add-bits-2
 add-bits-2 c = search needs
 
--- src/lib.rt:209:17
 cast-bits : tie.Need-cast-bits
 cast-bits c = search needs
 
--- src/lib.rt:209:16
 mul-bits-2 : tie.Need-mul-bits-2
 mul-bits-2 c = search needs
 
--- src/lib.rt:209:16
 add-bits-3 : tie.Need-add-bits-3
 add-bits-3 c = search needs
 
--- src/lib.rt:210:34
 mul-holds : tie.Need-mul-holds
 mul-holds c = search needs
 
--- src/lib.rt:210:46
 sub-holds : tie.Need-sub-holds
 sub-holds c = search needs
 
--- src/lib.rt:210:34
 add-holds : tie.Need-add-holds
 add-holds c = search needs
 
--- src/lib.rt:210:5
 holds-requires : tie.Need-holds-requires
 holds-requires c κs = search needs
 
--- src/lib.rt:205:1
 returns : tie.Need-returns
 returns c = λ held. c .holds .ensures ∙ high-syllable-is-held held _ _ _ _ _ (c .before .pre .1) (omega arith) (c .before .pre .3)
 

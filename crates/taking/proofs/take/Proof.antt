@@ -1,94 +1,91 @@
-use Rattle.format.specs.Plan.{kindOn}
+use Rattle.taking.proofs.Taking.{item-short, put-puts, single-puts, took-ahead, took-few, took-more, took-none}
+use Rattle.taking.proofs.Slots.{ahead-small, bus-is, dealt, next-here, pos}
+use Rattle.taking.proofs.First.{opened-says, single-takes}
 use Rattle.taking.specs.Taken.{Took}
-use Rattle.taking.proofs.Taking.{took-none, took-ahead, first-fits, second-fits, took-more}
-use Rattle.taking.proofs.Slots.{slots-few, pos}
-use mathlib.Core.Path.{_≡_, refl, sym, ap, _∙_}
-use Prim.Native.Nat.{ℕ, _+_, _*_, _-_, _/_, _%_, _^_, _<_, _≤_}
+use Rattle.reader.specs.Opening.{opens}
+use Rattle.reader.specs.declared.Step.{Step}
+use Rattle.format.specs.Plan.{kindOn}
+use mathlib.Core.Path.{refl, ap, _∙_}
 use native.Mathlib.Omega.{arith}
-use Rattle.format.specs.Plan.{lead, slots}
-use Rattle.format.specs.Word.{busOf, labelOf, infoOf, isFill}
-use Rattle.taking.specs.Slots.{wordIn, placeIn, topOf, slotsOn}
-use Rattle.taking.proofs.Items.{went-none, went-more, went-end, went-flush, takes-none, takes-some, fed-at, tag-word, high-still, low-still, half-still, other-label, begin-is, begin-widths, begin-fill, held-none}
-use Rattle.taking.proofs.Slots.{ahead-next, ahead-less, ahead-small, dealt, place-here, next-here, bus-is, label-is, info-is, label-low, info-low, bus-low}
+use Prim.Native.Nat.{ℕ, _-_, _%_}
 use borrow.Author.Needs.{needs}
 use Rattle.taking.proofs.take.Statement.{statement}
 use Rattle.taking.proofs.take.Tie as tie
-use Rattle.taking.proofs.take.Reads as reads
-use Rattle.taking.proofs.take.Lts as lts
-use Rattle.taking.proofs.item_at.Reads as item-at-reads
-use Rattle.taking.proofs.put_some.Reads as put-some-reads
-use Rattle.taking.proofs.top_of.Reads as top-of-reads
-use Rattle.taking.proofs.word_of.Reads as word-of-reads
 
 abbrev Inv-loop : tie.InvT-loop
-Inv-loop plan count capture group out₀ kinds slot₀ at₀ last₀ pen₀ out slot at last pen = Took kinds plan capture group (record { slot = slot₀; at = at₀; last = last₀; pen = pen₀ }) out₀ (record { slot = slot; at = at; last = last; pen = pen }) out
+Inv-loop plan count capture group out₀ kinds openings slot₀ at₀ last₀ pen₀ out slot at last pen = Took kinds plan capture group (record { slot = slot₀; at = at₀; last = last₀; pen = pen₀ }) out₀ (record { slot = slot; at = at; last = last; pen = pen }) out
 
 abbrev μ-loop : tie.MeasureT-loop
-μ-loop plan count capture group out₀ kinds slot₀ at₀ last₀ pen₀ out slot at last pen = count - slot
+μ-loop plan count capture group out₀ kinds openings slot₀ at₀ last₀ pen₀ out slot at last pen = count - slot
 
--- src/lib.rt:308:5
+openings-requires : tie.Need-openings-requires Inv-loop μ-loop
+openings-requires c κs = search needs
+
 loop-holds : tie.Need-loop-holds Inv-loop μ-loop
-loop-holds c = took-none (c .before .before .before .before .args .t1) (c .before .before .before .before .args .plan) (c .before .before .before .before .args .capture .now) (c .before .before .before .before .args .group) (c .before .before .before .before .args .from) (c .before .before .before .before .args .out .now) (c .before .before .before .before .pre .0)
+loop-holds c = took-none _ _ _ _ _ _ (c .before .before .before .before .before .pre .0)
 
--- src/lib.rt:308:11
 add-loop : tie.Need-add-loop Inv-loop μ-loop
-add-loop c = omega (arith, c .loop .inv .room, slots-few _ (c .before .before .before .before .before .pre .0 .shape), c .before .before .before .before .before .pre .0 .within, c .before .before .before .before .before .pre .0 .small)
+add-loop c = omega (arith, ahead-small (took-ahead (c .loop .inv) 0 (omega (arith, c .loop .inv .room)) (c .before .before .before .before .before .before .pre .0)))
 
--- src/lib.rt:309:13
 word-of-requires : tie.Need-word-of-requires Inv-loop μ-loop
-word-of-requires c κs = took-ahead (c .before .before .before .before .before .before .args .t1) (c .before .before .before .before .before .before .args .plan) (c .before .before .before .before .before .before .args .capture .now) (c .before .before .before .before .before .before .args .group) (c .before .before .before .before .before .before .args .from) (c .before .before .before .before .before .before .args .out .now) (c .before .loop .slot) (c .before .loop .at) (c .before .loop .last) (c .before .loop .pen) (c .before .loop .out) (c .before .loop .inv) 1 (omega (arith, c .loop-test .taken, c .before .before .before .before .before .before .pre .1)) (c .before .before .before .before .before .before .pre .0)
+word-of-requires c κs = took-ahead (c .before .loop .inv) 1 (omega (arith, c .loop-test .taken, c .before .before .before .before .before .before .before .pre .1)) (c .before .before .before .before .before .before .before .pre .0)
 
--- src/lib.rt:310:13
 top-of-requires : tie.Need-top-of-requires Inv-loop μ-loop
 top-of-requires c κs = search needs
 
--- src/lib.rt:311:35
-cast-item-at : tie.Need-cast-item-at Inv-loop μ-loop
-cast-item-at c = search needs
+cast-opening : tie.Need-cast-opening Inv-loop μ-loop
+cast-opening c = search needs
 
--- src/lib.rt:311:29
-array-copy-out-item-at : tie.Need-array-copy-out-item-at Inv-loop μ-loop
-array-copy-out-item-at c = search needs
+array-copy-out-opening : tie.Need-array-copy-out-opening Inv-loop μ-loop
+array-copy-out-opening c = search needs
 
--- src/lib.rt:311:13
-item-at-requires : tie.Need-item-at-requires Inv-loop μ-loop
-item-at-requires c κs = ((took-ahead (c .before .before .before .before .before .before .before .before .before .args .t1) (c .before .before .before .before .before .before .before .before .before .args .plan) (c .before .before .before .before .before .before .before .before .before .args .capture .now) (c .before .before .before .before .before .before .before .before .before .args .group) (c .before .before .before .before .before .before .before .before .before .args .from) (c .before .before .before .before .before .before .before .before .before .args .out .now) (c .before .before .before .before .loop .slot) (c .before .before .before .before .loop .at) (c .before .before .before .before .loop .last) (c .before .before .before .before .loop .pen) (c .before .before .before .before .loop .out) (c .before .before .before .before .loop .inv) 5 (omega (arith, c .before .before .before .loop-test .taken, c .before .before .before .before .before .before .before .before .before .pre .1)) (c .before .before .before .before .before .before .before .before .before .pre .0), c .before .before .word-of .ensures .0, c .before .before .word-of .ensures .1), (c .before .top-of .ensures .0, c .before .top-of .ensures .1))
+opening-requires : tie.Need-opening-requires Inv-loop μ-loop
+opening-requires c κs = (c .before .before .before .before .before .before .before .before .openings .ensures, omega arith)
 
--- src/lib.rt:316:13
-put-some-requires : tie.Need-put-some-requires Inv-loop μ-loop
-put-some-requires c κs = let f = first-fits (c .before .before .before .before .before .before .before .before .before .before .before .before .before .before .args .t1) (c .before .before .before .before .before .before .before .before .before .before .before .before .before .before .args .plan) (c .before .before .before .before .before .before .before .before .before .before .before .before .before .before .args .capture .now) (c .before .before .before .before .before .before .before .before .before .before .before .before .before .before .args .group) (c .before .before .before .before .before .before .before .before .before .before .before .before .before .before .args .from) (c .before .before .before .before .before .before .before .before .before .before .before .before .before .before .args .out .now) (c .before .before .before .before .before .before .before .before .before .loop .slot) (c .before .before .before .before .before .before .before .before .before .loop .at) (c .before .before .before .before .before .before .before .before .before .loop .last) (c .before .before .before .before .before .before .before .before .before .loop .pen) (c .before .before .before .before .before .before .before .before .before .loop .out) (c .before .before .before .before .before .before .before .before .before .loop .inv) (c .before .before .before .before .item-at .result) (c .before .before .if1 .left) (c .before .before .before .before .item-at .ensures .1 (c .before .before .before .before .before .before .before .before .before .before .before .before .before .before .args .t1) (ap (kindOn (c .before .before .before .before .before .before .before .before .before .before .before .before .before .before .args .t1)) (sym (bus-is (c .before .before .before .before .before .before .before .before .before .before .before .before .before .before .args .plan .parity) (c .before .before .before .before .before .before .before .word-of .result) (c .before .before .before .before .before .before .top-of .result) (c .before .before .before .before .before .before .top-of .ensures .0))))) in (omega (arith, c .before .before .before .before .before .before .before .before .before .loop .inv .few, c .before .before .before .before .before .before .before .before .before .loop .inv .room, slots-few _ (c .before .before .before .before .before .before .before .before .before .before .before .before .before .before .pre .0 .shape), c .before .before .before .before .before .before .before .before .before .before .before .before .before .before .pre .0 .within, c .before .before .before .before .before .before .before .before .before .before .before .before .before .before .pre .0 .small, c .before .before .before .before .before .before .before .before .before .before .before .before .before .before .pre .2), f .0, f .1)
+single-requires : tie.Need-single-requires Inv-loop μ-loop
+single-requires c κs = (opened-says (record { kind = _; is = c .before .opening .ensures }) (omega arith) .low, omega (arith, c .before .before .before .before .top-of .ensures .1), omega arith)
 
--- src/lib.rt:317:9
-put-some-requires-2 : tie.Need-put-some-requires-2 Inv-loop μ-loop
-put-some-requires-2 c κs = let f = second-fits (c .before .before .before .before .before .before .before .before .before .before .before .before .before .before .before .before .before .before .args .t1) (c .before .before .before .before .before .before .before .before .before .before .before .before .before .before .before .before .before .before .args .plan) (c .before .before .before .before .before .before .before .before .before .before .before .before .before .before .before .before .before .before .args .capture .now) (c .before .before .before .before .before .before .before .before .before .before .before .before .before .before .before .before .before .before .args .group) (c .before .before .before .before .before .before .before .before .before .before .before .before .before .before .before .before .before .before .args .from) (c .before .before .before .before .before .before .before .before .before .before .before .before .before .before .before .before .before .before .args .out .now) (c .before .before .before .before .before .before .before .before .before .before .before .before .before .loop .slot) (c .before .before .before .before .before .before .before .before .before .before .before .before .before .loop .at) (c .before .before .before .before .before .before .before .before .before .before .before .before .before .loop .last) (c .before .before .before .before .before .before .before .before .before .before .before .before .before .loop .pen) (c .before .before .before .before .before .before .before .before .before .before .before .before .before .loop .out) (c .before .before .before .before .before .before .before .before .before .before .before .before .before .loop .inv) (c .before .before .before .before .before .before .before .before .item-at .result) (c .before .before .before .before .before .before .if1 .left) (c .before .before .before .before .before .before .before .before .item-at .ensures .1 (c .before .before .before .before .before .before .before .before .before .before .before .before .before .before .before .before .before .before .args .t1) (ap (kindOn (c .before .before .before .before .before .before .before .before .before .before .before .before .before .before .before .before .before .before .args .t1)) (sym (bus-is (c .before .before .before .before .before .before .before .before .before .before .before .before .before .before .before .before .before .before .args .plan .parity) (c .before .before .before .before .before .before .before .before .before .before .before .word-of .result) (c .before .before .before .before .before .before .before .before .before .before .top-of .result) (c .before .before .before .before .before .before .before .before .before .before .top-of .ensures .0))))) in let h = first-fits (c .before .before .before .before .before .before .before .before .before .before .before .before .before .before .before .before .before .before .args .t1) (c .before .before .before .before .before .before .before .before .before .before .before .before .before .before .before .before .before .before .args .plan) (c .before .before .before .before .before .before .before .before .before .before .before .before .before .before .before .before .before .before .args .capture .now) (c .before .before .before .before .before .before .before .before .before .before .before .before .before .before .before .before .before .before .args .group) (c .before .before .before .before .before .before .before .before .before .before .before .before .before .before .before .before .before .before .args .from) (c .before .before .before .before .before .before .before .before .before .before .before .before .before .before .before .before .before .before .args .out .now) (c .before .before .before .before .before .before .before .before .before .before .before .before .before .loop .slot) (c .before .before .before .before .before .before .before .before .before .before .before .before .before .loop .at) (c .before .before .before .before .before .before .before .before .before .before .before .before .before .loop .last) (c .before .before .before .before .before .before .before .before .before .before .before .before .before .loop .pen) (c .before .before .before .before .before .before .before .before .before .before .before .before .before .loop .out) (c .before .before .before .before .before .before .before .before .before .before .before .before .before .loop .inv) (c .before .before .before .before .before .before .before .before .item-at .result) (c .before .before .before .before .before .before .if1 .left) (c .before .before .before .before .before .before .before .before .item-at .ensures .1 (c .before .before .before .before .before .before .before .before .before .before .before .before .before .before .before .before .before .before .args .t1) (ap (kindOn (c .before .before .before .before .before .before .before .before .before .before .before .before .before .before .before .before .before .before .args .t1)) (sym (bus-is (c .before .before .before .before .before .before .before .before .before .before .before .before .before .before .before .before .before .before .args .plan .parity) (c .before .before .before .before .before .before .before .before .before .before .before .word-of .result) (c .before .before .before .before .before .before .before .before .before .before .top-of .result) (c .before .before .before .before .before .before .before .before .before .before .top-of .ensures .0))))) in (omega (arith, c .before .before .before .put-some .ensures .bits, h .0, c .before .before .before .before .before .before .before .before .before .before .before .before .before .loop .inv .few, c .before .before .before .before .before .before .before .before .before .before .before .before .before .loop .inv .room, slots-few _ (c .before .before .before .before .before .before .before .before .before .before .before .before .before .before .before .before .before .before .pre .0 .shape), c .before .before .before .before .before .before .before .before .before .before .before .before .before .before .before .before .before .before .pre .0 .within, c .before .before .before .before .before .before .before .before .before .before .before .before .before .before .before .before .before .before .pre .0 .small, c .before .before .before .before .before .before .before .before .before .before .before .before .before .before .before .before .before .before .pre .2), f .0, f .1)
+put-requires : tie.Need-put-requires Inv-loop μ-loop
+put-requires c κs = let s = item-short (c .before .before .before .before .before .before .before .before .before .loop .inv) (λ z. absurd (omega (arith, z))) (single-takes (took-ahead (c .before .before .before .before .before .before .before .before .before .loop .inv) 5 (omega (arith, c .before .before .before .before .before .before .before .before .loop-test .taken, c .before .before .before .before .before .before .before .before .before .before .before .before .before .before .before .pre .1)) (c .before .before .before .before .before .before .before .before .before .before .before .before .before .before .before .pre .0)) (omega arith) (c .before .before .before .before .before .before .before .word-of .ensures .0) (c .before .before .before .before .before .before .before .word-of .ensures .1) (c .before .before .before .before .before .before .top-of .ensures .0) (c .before .before .before .before .before .before .before .before .before .before .before .before .before .before .before .args .t1) (c .before .single .ensures) (c .before .before .if1 .taken) (c .before .before .before .opening .ensures ∙ ap (λ (b : ℕ). opens (kindOn (c .before .before .before .before .before .before .before .before .before .before .before .before .before .before .before .args .t1) b) (c .before .before .before .before .before .before .top-of .result % 16)) (bus-is _ _ _ (c .before .before .before .before .before .before .top-of .ensures .0))) refl) in (omega (arith, took-few (c .before .before .before .before .before .before .before .before .before .loop .inv) (c .before .before .before .before .before .before .before .before .before .before .before .before .before .before .before .pre .0) (c .before .before .before .before .before .before .before .before .before .before .before .before .before .before .before .pre .2)), omega (arith, s .second-short), s .second-fits)
 
--- src/lib.rt:318:9
 add-slot : tie.Need-add-slot Inv-loop μ-loop
-add-slot c = omega (arith, (ahead-small (took-ahead (c .before .before .before .before .before .before .before .before .before .before .before .before .before .before .before .before .before .before .before .before .before .before .args .t1) (c .before .before .before .before .before .before .before .before .before .before .before .before .before .before .before .before .before .before .before .before .before .before .args .plan) (c .before .before .before .before .before .before .before .before .before .before .before .before .before .before .before .before .before .before .before .before .before .before .args .capture .now) (c .before .before .before .before .before .before .before .before .before .before .before .before .before .before .before .before .before .before .before .before .before .before .args .group) (c .before .before .before .before .before .before .before .before .before .before .before .before .before .before .before .before .before .before .before .before .before .before .args .from) (c .before .before .before .before .before .before .before .before .before .before .before .before .before .before .before .before .before .before .before .before .before .before .args .out .now) (c .before .before .before .before .before .before .before .before .before .before .before .before .before .before .before .before .before .loop .slot) (c .before .before .before .before .before .before .before .before .before .before .before .before .before .before .before .before .before .loop .at) (c .before .before .before .before .before .before .before .before .before .before .before .before .before .before .before .before .before .loop .last) (c .before .before .before .before .before .before .before .before .before .before .before .before .before .before .before .before .before .loop .pen) (c .before .before .before .before .before .before .before .before .before .before .before .before .before .before .before .before .before .loop .out) (c .before .before .before .before .before .before .before .before .before .before .before .before .before .before .before .before .before .loop .inv) 5 (omega (arith, c .before .before .before .before .before .before .before .before .before .before .before .before .before .before .before .before .loop-test .taken, c .before .before .before .before .before .before .before .before .before .before .before .before .before .before .before .before .before .before .before .before .before .before .pre .1)) (c .before .before .before .before .before .before .before .before .before .before .before .before .before .before .before .before .before .before .before .before .before .before .pre .0))), c .before .before .before .before .before .before .before .before .before .before .before .before .item-at .ensures .0)
+add-slot c = omega (arith, ahead-small (took-ahead (c .before .before .before .before .before .before .before .before .before .before .before .before .loop .inv) 5 (omega (arith, c .before .before .before .before .before .before .before .before .before .before .before .loop-test .taken, c .before .before .before .before .before .before .before .before .before .before .before .before .before .before .before .before .before .before .pre .1)) (c .before .before .before .before .before .before .before .before .before .before .before .before .before .before .before .before .before .before .pre .0)))
 
--- src/lib.rt:308:5
+next-slot-requires : tie.Need-next-slot-requires Inv-loop μ-loop
+next-slot-requires c κs = (c .before .before .before .before .before .before .before .before .before .before .before .before .before .before .before .before .before .before .pre .0 .shape, dealt (took-ahead (c .before .before .before .before .before .before .before .before .before .before .before .before .loop .inv) 5 (omega (arith, c .before .before .before .before .before .before .before .before .before .before .before .loop-test .taken, c .before .before .before .before .before .before .before .before .before .before .before .before .before .before .before .before .before .before .pre .1)) (c .before .before .before .before .before .before .before .before .before .before .before .before .before .before .before .before .before .before .pre .0)) (omega arith))
+
 loop-less : tie.Need-loop-less Inv-loop μ-loop
-loop-less c = omega (arith, pos _ (c .before .before .before .before .before .before .before .before .before .before .before .if1 .left), c .before .before .before .before .before .before .before .before .before .before .before .before .before .before .before .before .before .loop-test .taken)
+loop-less c = omega (arith, c .before .before .before .before .before .before .before .before .before .before .before .before .loop-test .taken)
 
--- src/lib.rt:308:5
 loop-again : tie.Need-loop-again Inv-loop μ-loop
-loop-again c = took-more (c .before .before .before .before .before .before .before .before .before .before .before .before .before .before .before .before .before .before .before .before .before .before .before .args .t1) (c .before .before .before .before .before .before .before .before .before .before .before .before .before .before .before .before .before .before .before .before .before .before .before .args .plan) (c .before .before .before .before .before .before .before .before .before .before .before .before .before .before .before .before .before .before .before .before .before .before .before .args .capture .now) (c .before .before .before .before .before .before .before .before .before .before .before .before .before .before .before .before .before .before .before .before .before .before .before .args .group) (c .before .before .before .before .before .before .before .before .before .before .before .before .before .before .before .before .before .before .before .before .before .before .before .args .from) (c .before .before .before .before .before .before .before .before .before .before .before .before .before .before .before .before .before .before .before .before .before .before .before .args .out .now) (c .before .before .before .before .before .before .before .before .before .before .before .before .before .before .before .before .before .before .loop .slot) (c .before .before .before .before .before .before .before .before .before .before .before .before .before .before .before .before .before .before .loop .at) (c .before .before .before .before .before .before .before .before .before .before .before .before .before .before .before .before .before .before .loop .last) (c .before .before .before .before .before .before .before .before .before .before .before .before .before .before .before .before .before .before .loop .pen) (c .before .before .before .before .before .before .before .before .before .before .before .before .before .before .before .before .before .before .loop .out) (c .before .before .before .before .before .before .before .before .before .before .before .before .before .before .before .before .before .before .loop .inv) (c .before .before .before .before .before .before .before .before .before .before .before .before .before .item-at .result) (c .before .before .before .before .before .before .before .before .before .before .before .if1 .left) (c .before .before .before .before .before .before .before .before .before .before .before .before .before .item-at .ensures .1 (c .before .before .before .before .before .before .before .before .before .before .before .before .before .before .before .before .before .before .before .before .before .before .before .args .t1) (ap (kindOn (c .before .before .before .before .before .before .before .before .before .before .before .before .before .before .before .before .before .before .before .before .before .before .before .args .t1)) (sym (bus-is (c .before .before .before .before .before .before .before .before .before .before .before .before .before .before .before .before .before .before .before .before .before .before .before .args .plan .parity) (c .before .before .before .before .before .before .before .before .before .before .before .before .before .before .before .before .word-of .result) (c .before .before .before .before .before .before .before .before .before .before .before .before .before .before .before .top-of .result) (c .before .before .before .before .before .before .before .before .before .before .before .before .before .before .before .top-of .ensures .0))))) (c .before .before .before .before .before .before .before .before .put-some .result) (c .before .before .before .before .put-some2 .result) _ _ (omega (arith, c .before .before .before .before .before .before .before .before .before .before .before .before .before .before .before .before .before .loop-test .taken, c .before .before .before .before .before .before .before .before .before .before .before .before .before .before .before .before .before .before .before .before .before .before .before .pre .1)) (c .before .before .before .before .before .before .before .before .before .before .before .before .before .item-at .ensures .0) (c .before .before .before .before .before .before .before .before .put-some .ensures) (c .before .before .before .before .put-some2 .ensures)
+loop-again c = let x = (single-takes (took-ahead (c .before .before .before .before .before .before .before .before .before .before .before .before .before .loop .inv) 5 (omega (arith, c .before .before .before .before .before .before .before .before .before .before .before .before .loop-test .taken, c .before .before .before .before .before .before .before .before .before .before .before .before .before .before .before .before .before .before .before .pre .1)) (c .before .before .before .before .before .before .before .before .before .before .before .before .before .before .before .before .before .before .before .pre .0)) (omega arith) (c .before .before .before .before .before .before .before .before .before .before .before .word-of .ensures .0) (c .before .before .before .before .before .before .before .before .before .before .before .word-of .ensures .1) (c .before .before .before .before .before .before .before .before .before .before .top-of .ensures .0) (c .before .before .before .before .before .before .before .before .before .before .before .before .before .before .before .before .before .before .before .args .t1) (c .before .before .before .before .before .single .ensures) (c .before .before .before .before .before .before .if1 .taken) (c .before .before .before .before .before .before .before .opening .ensures ∙ ap (λ (b : ℕ). opens (kindOn (c .before .before .before .before .before .before .before .before .before .before .before .before .before .before .before .before .before .before .before .args .t1) b) (c .before .before .before .before .before .before .before .before .before .before .top-of .result % 16)) (bus-is _ _ _ (c .before .before .before .before .before .before .before .before .before .before .top-of .ensures .0))) (next-here (took-ahead (c .before .before .before .before .before .before .before .before .before .before .before .before .before .loop .inv) 5 (omega (arith, c .before .before .before .before .before .before .before .before .before .before .before .before .loop-test .taken, c .before .before .before .before .before .before .before .before .before .before .before .before .before .before .before .before .before .before .before .pre .1)) (c .before .before .before .before .before .before .before .before .before .before .before .before .before .before .before .before .before .before .before .pre .0)) (omega arith) (c .next-slot .ensures))) in let s = item-short (c .before .before .before .before .before .before .before .before .before .before .before .before .before .loop .inv) (λ z. absurd (omega (arith, z))) x in took-more (c .before .before .before .before .before .before .before .before .before .before .before .before .before .loop .inv) (λ z. absurd (omega (arith, z))) x (omega (arith, c .before .before .before .before .before .before .before .before .before .before .before .before .loop-test .taken, c .before .before .before .before .before .before .before .before .before .before .before .before .before .before .before .before .before .before .before .pre .1)) (omega arith) (single-puts (c .before .before .before .before .before .single .result) (ap (λ (x : Step). x .«first_width») (c .before .before .before .before .before .single .ensures)) (put-puts (omega (arith, s .second-short)) (s .second-fits) (c .before .before .before .put .ensures .0) (c .before .before .before .put .ensures .1)))
 
--- src/lib.rt:292:1
+item-at-requires : tie.Need-item-at-requires Inv-loop μ-loop
+item-at-requires c κs = ((took-ahead (c .before .before .before .before .before .before .before .loop .inv) 5 (omega (arith, c .before .before .before .before .before .before .loop-test .taken, c .before .before .before .before .before .before .before .before .before .before .before .before .before .pre .1)) (c .before .before .before .before .before .before .before .before .before .before .before .before .before .pre .0), c .before .before .before .before .before .word-of .ensures .0, c .before .before .before .before .before .word-of .ensures .1), ((c .before .before .before .before .top-of .ensures .0, c .before .before .before .before .top-of .ensures .1), (record { kind = _; is = c .before .opening .ensures })))
+
+put-both-requires : tie.Need-put-both-requires Inv-loop μ-loop
+put-both-requires c κs = (omega (arith, took-few (c .before .before .before .before .before .before .before .before .before .before .before .loop .inv) (c .before .before .before .before .before .before .before .before .before .before .before .before .before .before .before .before .before .pre .0) (c .before .before .before .before .before .before .before .before .before .before .before .before .before .before .before .before .before .pre .2)), item-short (c .before .before .before .before .before .before .before .before .before .before .before .loop .inv) (c .before .if2 .left) (c .before .before .before .item-at .ensures .1 (c .before .before .before .before .before .before .before .before .before .before .before .before .before .before .before .before .before .args .t1) (c .before .before .before .before .before .opening .ensures ∙ ap (λ (b : ℕ). opens (kindOn (c .before .before .before .before .before .before .before .before .before .before .before .before .before .before .before .before .before .args .t1) b) (c .before .before .before .before .before .before .before .before .top-of .result % 16)) (bus-is _ _ _ (c .before .before .before .before .before .before .before .before .top-of .ensures .0)))))
+
+add-slot-2 : tie.Need-add-slot-2 Inv-loop μ-loop
+add-slot-2 c = omega (arith, ahead-small (took-ahead (c .before .before .before .before .before .before .before .before .before .before .before .before .before .before .before .loop .inv) 5 (omega (arith, c .before .before .before .before .before .before .before .before .before .before .before .before .before .before .loop-test .taken, c .before .before .before .before .before .before .before .before .before .before .before .before .before .before .before .before .before .before .before .before .before .pre .1)) (c .before .before .before .before .before .before .before .before .before .before .before .before .before .before .before .before .before .before .before .before .before .pre .0)), c .before .before .before .before .before .before .before .item-at .ensures .0)
+
+loop-less-2 : tie.Need-loop-less-2 Inv-loop μ-loop
+loop-less-2 c = omega (arith, pos _ (c .before .before .before .before .before .before .if2 .left), c .before .before .before .before .before .before .before .before .before .before .before .before .before .before .before .loop-test .taken)
+
+loop-again-2 : tie.Need-loop-again-2 Inv-loop μ-loop
+loop-again-2 c = took-more (c .before .before .before .before .before .before .before .before .before .before .before .before .before .before .before .before .loop .inv) (c .before .before .before .before .before .before .if2 .left) (c .before .before .before .before .before .before .before .before .item-at .ensures .1 (c .before .before .before .before .before .before .before .before .before .before .before .before .before .before .before .before .before .before .before .before .before .before .args .t1) (c .before .before .before .before .before .before .before .before .before .before .opening .ensures ∙ ap (λ (b : ℕ). opens (kindOn (c .before .before .before .before .before .before .before .before .before .before .before .before .before .before .before .before .before .before .before .before .before .before .args .t1) b) (c .before .before .before .before .before .before .before .before .before .before .before .before .before .top-of .result % 16)) (bus-is _ _ _ (c .before .before .before .before .before .before .before .before .before .before .before .before .before .top-of .ensures .0)))) (omega (arith, c .before .before .before .before .before .before .before .before .before .before .before .before .before .before .before .loop-test .taken, c .before .before .before .before .before .before .before .before .before .before .before .before .before .before .before .before .before .before .before .before .before .before .pre .1)) (c .before .before .before .before .before .before .before .before .item-at .ensures .0) (c .before .before .before .before .put-both .ensures)
+
 same-length : tie.Need-same-length Inv-loop μ-loop
 same-length c = c .before .loop .inv .long
 
--- src/lib.rt:292:1
 returns : tie.Need-returns Inv-loop μ-loop
 returns c = c .before .loop .inv
 
--- src/lib.rt:292:1
 same-length-2 : tie.Need-same-length-2 Inv-loop μ-loop
-same-length-2 c = c .before .before .before .before .before .before .before .loop .inv .long
+same-length-2 c = c .before .before .before .before .before .before .before .before .before .before .loop .inv .long
 
--- src/lib.rt:292:1
 returns-2 : tie.Need-returns-2 Inv-loop μ-loop
-returns-2 c = c .before .before .before .before .before .before .before .loop .inv
+returns-2 c = c .before .before .before .before .before .before .before .before .before .before .loop .inv
 
 pub take-spec : {M : Type 1} → statement M
 take-spec =
@@ -96,18 +93,25 @@ take-spec =
     (tie.spec
     Inv-loop
     μ-loop
+    openings-requires
     loop-holds
     add-loop
     word-of-requires
     top-of-requires
-    cast-item-at
-    array-copy-out-item-at
-    item-at-requires
-    put-some-requires
-    put-some-requires-2
+    cast-opening
+    array-copy-out-opening
+    opening-requires
+    single-requires
+    put-requires
     add-slot
+    next-slot-requires
     loop-less
     loop-again
+    item-at-requires
+    put-both-requires
+    add-slot-2
+    loop-less-2
+    loop-again-2
     same-length
     returns
     same-length-2
