@@ -25,6 +25,7 @@ use Rattle.walking.specs.declared.Outcome.{Outcome}
 use Rattle.walking.specs.Fills.{told}
 use Rattle.walking.specs.Groups.{groupsOn}
 use Rattle.walking.specs.End.{Logged, Ended}
+use Rattle.walking.proofs.Fills.{told-none, told-found}
 use Rattle.readings.specs.ReadGiven.{timesNeeded, earlier, roomNumber, Built, Given}
 
 pub given-refused : {g : Reading} {r : Answer} {number place : ℕ} (log times : List ℕ) → g ≡ refuses number place → r ≡ refusal number place → Given g r log log times times
@@ -127,14 +128,11 @@ given-copied p c n whole built bytes need log log′ times times′ b small fits
 fill-by : (b : Bool) (x : Reading) (f : Fault) (m q : ℕ) → told m ≡ f → q ≡ cond b m 0 → (q ≡ 0 → ⊥) → unmisplaced (cond b f none) x ≡ refuses 14 (q - 1)
 fill-by false x f m q e a z = absurd (z a)
 fill-by true x f m q e a z =
-    let k : told m ≡ found 14 (q - 1) = rw (ne-eqb m 0 (λ w. z (a ∙ w))) (ap (λ (j : ℕ). found 14 (j - 1)) (sym a)) in
-    ap (λ (y : Fault). unmisplaced y x) (sym e ∙ k)
+    ap (λ (y : Fault). unmisplaced y x) (sym e ∙ told-found m (λ w. z (a ∙ w)) ∙ ap (λ (j : ℕ). found 14 (j - 1)) (sym a))
 
 none-by : (b : Bool) (x : Reading) (f : Fault) (m : ℕ) → told m ≡ f → cond b m 0 ≡ 0 → unmisplaced (cond b f none) x ≡ x
 none-by false x f m e a = refl
-none-by true x f m e a =
-    let k : told m ≡ none = rw (eq-eqb m 0 a) refl in
-    ap (λ (y : Fault). unmisplaced y x) (sym e ∙ k)
+none-by true x f m e a = ap (λ (y : Fault). unmisplaced y x) (sym e ∙ told-none m a)
 
 -- what the groups brought
 pub built-of : {ks : List Kind} {p : Plan} {c : List ℕ} {n : ℕ} {r : Outcome} {out : List ℕ} (l : Logged ks p c n r out) → Built (logOf (l .items)) out (r .bytes)

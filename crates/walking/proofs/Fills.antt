@@ -6,20 +6,27 @@ use mathlib.Core.Bool.{Bool, true, false, cond, _||_, not}
 use mathlib.Core.Path.{_≡_, refl, sym, ap, _∙_}
 use mathlib.Core.List.{List, [], _∷_, _++_, flatMap}
 use lib.Dec.{eqb}
-use borrow.Author.Tests.{ne-eqb}
+use borrow.Author.Tests.{eq-eqb, ne-eqb}
 use Rattle.format.specs.Word.{isFill, busOf}
 use Rattle.format.specs.Reader.{Slot}
-use Rattle.format.specs.Group.{found}
+use Rattle.format.specs.Group.{none, found}
 use Rattle.format.specs.Read.{anyData, misplacedIn, misplaced}
 use Rattle.format.specs.declared.Plan.{Plan}
 use Rattle.format.specs.Laws.Tests.{clash, or-false}
 use Rattle.walking.specs.declared.fill.Fills.{Fills}
-use Rattle.walking.specs.Fills.{noFill, onSlot, orPlace, fillsIn, fillsOver, earliest}
+use Rattle.walking.specs.Fills.{noFill, onSlot, orPlace, fillsIn, fillsOver, told, earliest}
 
 -- a yes or a no
 pub yes-or-no : {A : Type 0} (b : Bool) → (b ≡ true → A) → (b ≡ false → A) → A
 yes-or-no true f g = f refl
 yes-or-no false f g = g refl
+
+-- what a place one up tells
+pub told-none : (m : ℕ) → m ≡ 0 → told m ≡ none
+told-none m e = rw (eq-eqb m 0 e) refl
+
+pub told-found : (m : ℕ) → (m ≡ 0 → ⊥) → told m ≡ found 14 (m - 1)
+told-found m z = rw (ne-eqb m 0 z) refl
 
 one-up : (a : ℕ) → eqb (suc a) 0 ≡ false
 one-up a = ne-eqb (suc a) 0 (λ e. absurd (omega arith))
@@ -140,7 +147,7 @@ module _ (p : Plan) where
   found-at : (a b : ℕ) → earliest (saw a (suc b)) ≡ found 14 b
   found-at a b =
       let e : suc b - 1 ≡ b = omega arith in
-      rw (one-up b, e) refl
+      told-found (suc b) (λ z. absurd (omega arith)) ∙ ap (found 14) e
 
   ends-found : (i : ℕ) (ss : List Slot) (gs : List (List Slot)) (a b : ℕ) (f : Fills) → f ≡ saw (suc a) (suc b) → anyData ss ≡ false
       → anyData (flat gs) ≡ false → earliest (fillsOver p gs (fillsIn p i ss f)) ≡ found 14 b
