@@ -1,33 +1,32 @@
 -- The refusals behind the groups, and what is handed over.
-use Prim.Native.Nat.{ℕ, zero, suc, _+_, _*_, _-_, _/_, _%_, _≤_, _<_}
+use Prim.Native.Nat.{ℕ, _+_, _*_, _-_, _/_, _%_, _≤_, _<_}
 use native.Mathlib.Nat.{mul-le-mul-right, div-add-mod'}
 use native.Mathlib.Omega.{arith}
 use mathlib.Core.Bool.{Bool, true, false, cond, _&&_}
 use mathlib.Core.Path.{_≡_, refl, sym, ap, ap₂, subst, _∙_}
-use mathlib.Core.List.{List, [], _∷_, _++_}
+use mathlib.Core.List.{List, _++_}
 use lib.ListN.{length, take, drop}
-use lib.Dec.{leb, eqb, ltb}
+use lib.Dec.{leb}
 use borrow.Author.Tests.{le-leb, lt-leb, leb-true, eq-eqb, ne-eqb}
 use Rattle.format.specs.Lists.{list}
 use Rattle.format.specs.Log.{logOf}
 use Rattle.format.specs.Plan.{groupWords, legal}
-use Rattle.format.specs.Group.{Fault, none, found, groupTime, groupSlots}
-use Rattle.format.specs.Read.{Got, got, stopped, Reading, gives, refuses, roomed, unmisplaced, settled, reading, readGroups, misplaced}
-use Rattle.format.specs.Answer.{success, refusal, over, readAnswer, logAfter, timesAfter}
+use Rattle.format.specs.Group.{Fault, none, found, groupTime}
+use Rattle.format.specs.Read.{Got, Reading, gives, refuses, roomed, unmisplaced, settled, reading, readGroups, misplaced}
+use Rattle.format.specs.Answer.{success, refusal}
 use Rattle.format.specs.declared.Answer.{Answer}
-use Rattle.format.specs.declared.Item.{Item}
 use Rattle.format.specs.declared.Kind.{Kind}
 use Rattle.format.specs.declared.Held.the-variants.{Nothing}
 use Rattle.format.specs.declared.Plan.{Plan}
 use Rattle.format.specs.Laws.Lists.{length-list}
 use Rattle.format.specs.Laws.Legal.{Legal, legal-is}
-use Rattle.format.specs.Laws.Tests.{clash}
 use Rattle.group.specs.Shape.{Shape}
-use Rattle.readings.specs.declared.reading.Outcome.{Outcome}
-use Rattle.readings.specs.ReadFills.{earliest}
-use Rattle.readings.specs.ReadGroups.{groupsOn}
-use Rattle.readings.specs.ReadEnd.{EndsAs}
-use Rattle.readings.specs.ReadGiven.{timesNeeded, earlier, roomNumber, Built, Enough, Given}
+use Rattle.walking.specs.declared.Outcome.{Outcome}
+use Rattle.walking.specs.Fills.{told}
+use Rattle.walking.specs.Groups.{groupsOn}
+use Rattle.walking.specs.End.{Logged, Ended}
+use Rattle.walking.proofs.Fills.{told-none, told-found}
+use Rattle.readings.specs.ReadGiven.{timesNeeded, earlier, roomNumber, Built, Given}
 
 pub given-refused : {g : Reading} {r : Answer} {number place : ℕ} (log times : List ℕ) → g ≡ refuses number place → r ≡ refusal number place → Given g r log log times times
 given-refused {g} {r} log times e a = subst (λ (x : Reading). Given x r log log times times) (sym e) (a, refl, refl)
@@ -126,49 +125,35 @@ given-copied p c n whole built bytes need log log′ times times′ b small fits
     (et ∙ ap (λ (k : ℕ). list (λ g. groupTime p c (g * groupWords p)) 0 k ++ drop k times) e ∙ ap (λ (k : ℕ). table ++ drop k times) (sym t))
 
 -- misplaced fill, as it was found
-fill-by : (b : Bool) (x : Reading) (f : Fault) (m q : ℕ) → earliest (record { first = 0; misplaced = m }) ≡ f → q ≡ cond b m 0 → (q ≡ 0 → ⊥)
-    → unmisplaced (cond b f none) x ≡ refuses 14 (q - 1)
+fill-by : (b : Bool) (x : Reading) (f : Fault) (m q : ℕ) → told m ≡ f → q ≡ cond b m 0 → (q ≡ 0 → ⊥) → unmisplaced (cond b f none) x ≡ refuses 14 (q - 1)
 fill-by false x f m q e a z = absurd (z a)
 fill-by true x f m q e a z =
-    let k : earliest (record { first = 0; misplaced = m }) ≡ found 14 (q - 1) = rw (ne-eqb m 0 (λ w. z (a ∙ w))) (ap (λ (j : ℕ). found 14 (j - 1)) (sym a)) in
-    ap (λ (y : Fault). unmisplaced y x) (sym e ∙ k)
+    ap (λ (y : Fault). unmisplaced y x) (sym e ∙ told-found m (λ w. z (a ∙ w)) ∙ ap (λ (j : ℕ). found 14 (j - 1)) (sym a))
 
-none-by : (b : Bool) (x : Reading) (f : Fault) (m : ℕ) → earliest (record { first = 0; misplaced = m }) ≡ f → cond b m 0 ≡ 0 → unmisplaced (cond b f none) x ≡ x
+none-by : (b : Bool) (x : Reading) (f : Fault) (m : ℕ) → told m ≡ f → cond b m 0 ≡ 0 → unmisplaced (cond b f none) x ≡ x
 none-by false x f m e a = refl
-none-by true x f m e a =
-    let k : earliest (record { first = 0; misplaced = m }) ≡ none = rw (eq-eqb m 0 a) refl in
-    ap (λ (y : Fault). unmisplaced y x) (sym e ∙ k)
+none-by true x f m e a = ap (λ (y : Fault). unmisplaced y x) (sym e ∙ told-none m a)
 
 -- what the groups brought
-pub record Log (p : Plan) (c : List ℕ) (n : ℕ) (g : Got) (r : Outcome) (out : List ℕ) : Type 0 where
-  pub items : List Item
-  pub is : g ≡ got items
-  pub built : Built (logOf items) out (r .bytes)
-  pub fill : earliest (record { first = 0; misplaced = r .misplaced }) ≡ misplaced p (groupsOn p c 0 n)
+pub built-of : {ks : List Kind} {p : Plan} {c : List ℕ} {n : ℕ} {r : Outcome} {out : List ℕ} (l : Logged ks p c n r out) → Built (logOf (l .items)) out (r .bytes)
+built-of l = record { size = l .bytes; is = l .log }
 
-pub log-of : (p : Plan) (c : List ℕ) (n : ℕ) (g : Got) (r : Outcome) (out : List ℕ) → EndsAs p c n g r out → r .number ≡ 0 → Log p c n g r out
-log-of p c n (got is) r out e z = record {
-  items = is;
-  is = refl;
-  built = record { size = e .1; is = λ h. ap (λ (k : ℕ). take k out) (e .1) ∙ e .3 (rw (e .1) at h) };
-  fill = e .2;
-}
-log-of p c n (stopped k q) r out e z = absurd (e .2 (sym (e .0) ∙ z))
-
-module _ (p : Plan) (ks : List Kind) (c : List ℕ) (n logRoom timeRoom : ℕ) (closed : Bool) where
+module _ (p : Plan) (c : List ℕ) (n logRoom timeRoom : ℕ) (closed : Bool) where
   abbrev answers : Got → Reading
   answers g = settled p c n logRoom timeRoom closed g
 
-  pub stops-settled : (g : Got) (r : Outcome) (out : List ℕ) → EndsAs p c n g r out → (r .number ≡ 0 → ⊥) → answers g ≡ refuses (r .number) (r .place)
-  stops-settled (got is) r out e z = absurd (z (e .0))
-  stops-settled (stopped k q) r out e z = sym (ap₂ refuses (e .0) (e .1))
+  module _ {ks : List Kind} {r : Outcome} {out : List ℕ} where
+    pub stops-settled : Ended ks p c n r out → (r .number ≡ 0 → ⊥) → answers (readGroups p ks c n 0 Nothing 0) ≡ refuses (r .number) (r .place)
+    stops-settled e z = ap answers (e .refused z .is)
 
-  module _ (g : Got) (r : Outcome) (out : List ℕ) (l : Log p c n g r out) where
-    pub fill-settled : (q : ℕ) → q ≡ cond closed (r .misplaced) 0 → (q ≡ 0 → ⊥) → answers g ≡ refuses 14 (q - 1)
-    fill-settled q e z = rw (l .is) (fill-by closed (roomed p c n logRoom timeRoom (logOf (l .items))) (misplaced p (groupsOn p c 0 n)) (r .misplaced) q (l .fill) e z)
+    module _ (l : Logged ks p c n r out) (q : ℕ) (e : q ≡ cond closed (r .misplaced) 0) where
+      pub fill-settled : (q ≡ 0 → ⊥) → answers (readGroups p ks c n 0 Nothing 0) ≡ refuses 14 (q - 1)
+      fill-settled z =
+          ap answers (l .is) ∙ fill-by closed (roomed p c n logRoom timeRoom (logOf (l .items))) (misplaced p (groupsOn p c 0 n)) (r .misplaced) q (l .fill) e z
 
-    pub log-settled : (q : ℕ) → q ≡ cond closed (r .misplaced) 0 → q ≡ 0 → answers g ≡ roomed p c n logRoom timeRoom (logOf (l .items))
-    log-settled q e z = rw (l .is) (none-by closed (roomed p c n logRoom timeRoom (logOf (l .items))) (misplaced p (groupsOn p c 0 n)) (r .misplaced) (l .fill) (sym e ∙ z))
+      pub log-settled : q ≡ 0 → answers (readGroups p ks c n 0 Nothing 0) ≡ roomed p c n logRoom timeRoom (logOf (l .items))
+      log-settled z =
+          ap answers (l .is) ∙ none-by closed (roomed p c n logRoom timeRoom (logOf (l .items))) (misplaced p (groupsOn p c 0 n)) (r .misplaced) (l .fill) (sym e ∙ z)
 
 -- ---- "Reading checks 1, 8"
 

@@ -1,9 +1,8 @@
 -- A small capture has a small log: at most 26 bits a word.
 use Prim.Native.Nat.{ℕ, zero, suc, _+_, _*_, _/_, _%_, _^_, _≤_, _<_}
 use native.Mathlib.Omega.{arith}
-use mathlib.Core.Bool.{Bool, true, false, cond}
 use mathlib.Core.Path.{_≡_, refl, sym, ap, _∙_}
-use mathlib.Core.List.{List, [], _∷_, _++_, flatMap, map}
+use mathlib.Core.List.{List, [], _∷_, _++_, flatMap}
 use lib.ListN.{length, getD, replicate, length-append, length-replicate, length-map}
 use Rattle.format.specs.Bits.{bitsOf, packed}
 use Rattle.format.specs.Word.{Part, wordAt, isFill, partOf}
@@ -13,13 +12,12 @@ use Rattle.format.specs.Log.{logOf}
 use Rattle.format.specs.Plan.{groupWords, lead, slots, placeOf}
 use Rattle.format.specs.Group.{groupSlots}
 use Rattle.format.specs.Reader.{Slot, dataOf}
-use Rattle.format.specs.Read.{got, readGroups, slotsFrom}
+use Rattle.format.specs.Read.{slotsFrom}
 use Rattle.format.specs.declared.Tag.the-variants.{Untagged, At}
 use Rattle.format.specs.declared.Response.the-variants.{Untimed, After}
 use Rattle.format.specs.declared.Item.{Item}
 use Rattle.format.specs.declared.Item.the-variants.{Command, Status, Data, BusError, Arinc, Notice, User, Overflow}
 use Rattle.format.specs.declared.Kind.{Kind}
-use Rattle.format.specs.declared.Held.the-variants.{Nothing}
 use Rattle.format.specs.declared.Plan.{Plan}
 use Rattle.format.specs.Laws.Lists.{all-append, all-list, length-list}
 use Rattle.format.specs.Laws.Log.Fields.{Packs, packs, length-bits, length-bytes}
@@ -27,7 +25,7 @@ use Rattle.format.specs.Laws.Log.Sizes.{bits-low, items-low, fields-length}
 use Rattle.format.specs.Laws.Accepted.Faultless.{accepted-parts}
 use Rattle.group.specs.Shape.{Shape}
 use Rattle.readings.specs.ReadGiven.{Enough}
-use Rattle.readings.proofs.ReadFills.{yes-or-no}
+use Rattle.walking.proofs.Fills.{yes-or-no}
 use Rattle.taking.proofs.Slots.{slots-few}
 use Rattle.readings.proofs.ReadGiven.{whole-groups}
 

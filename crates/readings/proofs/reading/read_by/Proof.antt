@@ -1,12 +1,8 @@
 use mathlib.Core.Path.{_≡_}
-use Rattle.readings.proofs.ReadGiven.{given-refused, some-words, whole-groups, log-of, stops-settled, fill-settled, log-settled}
-use Rattle.format.specs.declared.Held.the-variants.{Nothing}
-use Rattle.format.specs.Read.{readGroups}
-use Rattle.format.specs.Plan.{groupWords}
+use Rattle.readings.proofs.ReadGiven.{given-refused, some-words, whole-groups, built-of, stops-settled, fill-settled, log-settled}
 use Rattle.format.specs.Log.{logOf}
 use lib.ListN.{length}
 use native.Mathlib.Omega.{arith}
-use Prim.Native.Nat.{_*_, _/_}
 use borrow.Author.Needs.{needs}
 use Rattle.readings.proofs.reading.read_by.Statement.{statement}
 use Rattle.readings.proofs.reading.read_by.Tie as tie
@@ -14,9 +10,9 @@ use Rattle.readings.proofs.reading.read_by.Reads as reads
 use Rattle.readings.proofs.reading.read_by.Lts as lts
 use Rattle.plans.proofs.group_words.Reads as group-words-reads
 use Rattle.plans.proofs.slots.Reads as slots-reads
+use Rattle.walking.proofs.read_groups.Reads as read-groups-reads
 use Rattle.readings.proofs.reading.asked.Reads as asked-reads
 use Rattle.readings.proofs.reading.give.Reads as give-reads
-use Rattle.readings.proofs.reading.read_groups.Reads as read-groups-reads
 use Rattle.readings.proofs.reading.refusal.Reads as refusal-reads
 
 -- src/reading.rt:348:34
@@ -49,7 +45,7 @@ same-length c = search needs
 
 -- src/reading.rt:352:9
 returns : tie.Need-returns
-returns c = given-refused (c .before .before .before .before .before .before .before .before .before .before .before .before .before .args .log .now) (c .before .before .before .before .before .before .before .before .before .before .before .before .before .args .times .now) (stops-settled (c .before .before .before .before .before .before .before .before .before .before .before .before .before .args .plan) (c .before .before .before .before .before .before .before .before .before .before .before .before .before .args .kinds) (c .before .before .before .before .before .before .before .before .before .before .before .before .before .args .capture .now) (length (c .before .before .before .before .before .before .before .before .before .before .before .before .before .args .capture .now) / (3 * groupWords (c .before .before .before .before .before .before .before .before .before .before .before .before .before .args .plan))) (length (c .before .before .before .before .before .before .before .before .before .before .before .before .before .args .log .now)) (length (c .before .before .before .before .before .before .before .before .before .before .before .before .before .args .times .now)) (c .before .before .before .before .before .before .before .before .before .before .before .before .before .args .closed) (readGroups (c .before .before .before .before .before .before .before .before .before .before .before .before .before .args .plan) (c .before .before .before .before .before .before .before .before .before .before .before .before .before .args .kinds) (c .before .before .before .before .before .before .before .before .before .before .before .before .before .args .capture .now) (length (c .before .before .before .before .before .before .before .before .before .before .before .before .before .args .capture .now) / (3 * groupWords (c .before .before .before .before .before .before .before .before .before .before .before .before .before .args .plan))) 0 Nothing 0) (c .before .before .before .before .before .read-groups .result) (c .before .before .before .before .before .read-groups .last .1 .1 .1 .1 .1 .0) (rw (c .before .before .before .before .before .before .before .before .group-words .ensures .0) at (c .before .before .before .before .before .read-groups .ensures)) (c .before .if1 .taken)) (c .refusal .ensures)
+returns c = given-refused (c .before .before .before .before .before .before .before .before .before .before .before .before .before .args .log .now) (c .before .before .before .before .before .before .before .before .before .before .before .before .before .args .times .now) (stops-settled _ _ _ (length (c .before .before .before .before .before .before .before .before .before .before .before .before .before .args .log .now)) (length (c .before .before .before .before .before .before .before .before .before .before .before .before .before .args .times .now)) (c .before .before .before .before .before .before .before .before .before .before .before .before .before .args .closed) (rw (c .before .before .before .before .before .before .before .before .group-words .ensures .0) at (c .before .before .before .before .before .read-groups .ensures)) (c .before .if1 .taken)) (c .refusal .ensures)
 
 -- src/reading.rt:354:9
 asked-requires : tie.Need-asked-requires
@@ -69,11 +65,11 @@ same-length-2 c = search needs
 
 -- src/reading.rt:356:9
 returns-2 : tie.Need-returns-2
-returns-2 c = given-refused (c .before .before .before .before .before .before .before .before .before .before .before .before .before .before .before .args .log .now) (c .before .before .before .before .before .before .before .before .before .before .before .before .before .before .before .args .times .now) (fill-settled (c .before .before .before .before .before .before .before .before .before .before .before .before .before .before .before .args .plan) (c .before .before .before .before .before .before .before .before .before .before .before .before .before .before .before .args .kinds) (c .before .before .before .before .before .before .before .before .before .before .before .before .before .before .before .args .capture .now) (length (c .before .before .before .before .before .before .before .before .before .before .before .before .before .before .before .args .capture .now) / (3 * groupWords (c .before .before .before .before .before .before .before .before .before .before .before .before .before .before .before .args .plan))) (length (c .before .before .before .before .before .before .before .before .before .before .before .before .before .before .before .args .log .now)) (length (c .before .before .before .before .before .before .before .before .before .before .before .before .before .before .before .args .times .now)) (c .before .before .before .before .before .before .before .before .before .before .before .before .before .before .before .args .closed) (readGroups (c .before .before .before .before .before .before .before .before .before .before .before .before .before .before .before .args .plan) (c .before .before .before .before .before .before .before .before .before .before .before .before .before .before .before .args .kinds) (c .before .before .before .before .before .before .before .before .before .before .before .before .before .before .before .args .capture .now) (length (c .before .before .before .before .before .before .before .before .before .before .before .before .before .before .before .args .capture .now) / (3 * groupWords (c .before .before .before .before .before .before .before .before .before .before .before .before .before .before .before .args .plan))) 0 Nothing 0) (c .before .before .before .before .before .before .before .read-groups .result) (c .before .before .before .before .before .before .before .read-groups .last .1 .1 .1 .1 .1 .0) (log-of (c .before .before .before .before .before .before .before .before .before .before .before .before .before .before .before .args .plan) (c .before .before .before .before .before .before .before .before .before .before .before .before .before .before .before .args .capture .now) (length (c .before .before .before .before .before .before .before .before .before .before .before .before .before .before .before .args .capture .now) / (3 * groupWords (c .before .before .before .before .before .before .before .before .before .before .before .before .before .before .before .args .plan))) (readGroups (c .before .before .before .before .before .before .before .before .before .before .before .before .before .before .before .args .plan) (c .before .before .before .before .before .before .before .before .before .before .before .before .before .before .before .args .kinds) (c .before .before .before .before .before .before .before .before .before .before .before .before .before .before .before .args .capture .now) (length (c .before .before .before .before .before .before .before .before .before .before .before .before .before .before .before .args .capture .now) / (3 * groupWords (c .before .before .before .before .before .before .before .before .before .before .before .before .before .before .before .args .plan))) 0 Nothing 0) (c .before .before .before .before .before .before .before .read-groups .result) (c .before .before .before .before .before .before .before .read-groups .last .1 .1 .1 .1 .1 .0) (rw (c .before .before .before .before .before .before .before .before .before .before .group-words .ensures .0) at (c .before .before .before .before .before .before .before .read-groups .ensures)) (c .before .before .before .if1 .left)) (c .before .before .asked .result) (c .before .before .asked .ensures) (c .before .if2 .taken)) (c .refusal2 .ensures)
+returns-2 c = let e = rw (c .before .before .before .before .before .before .before .before .before .before .group-words .ensures .0) at (c .before .before .before .before .before .before .before .read-groups .ensures) in given-refused (c .before .before .before .before .before .before .before .before .before .before .before .before .before .before .before .args .log .now) (c .before .before .before .before .before .before .before .before .before .before .before .before .before .before .before .args .times .now) (fill-settled _ _ _ (length (c .before .before .before .before .before .before .before .before .before .before .before .before .before .before .before .args .log .now)) (length (c .before .before .before .before .before .before .before .before .before .before .before .before .before .before .before .args .times .now)) (c .before .before .before .before .before .before .before .before .before .before .before .before .before .before .before .args .closed) (e .logged (c .before .before .before .if1 .left)) (c .before .before .asked .result) (c .before .before .asked .ensures) (c .before .if2 .taken)) (c .refusal2 .ensures)
 
 -- src/reading.rt:358:5
 give-requires : tie.Need-give-requires
-give-requires c κs = let l = (log-of (c .before .before .before .before .before .before .before .before .before .before .before .before .before .before .before .before .before .args .plan) (c .before .before .before .before .before .before .before .before .before .before .before .before .before .before .before .before .before .args .capture .now) (length (c .before .before .before .before .before .before .before .before .before .before .before .before .before .before .before .before .before .args .capture .now) / (3 * groupWords (c .before .before .before .before .before .before .before .before .before .before .before .before .before .before .before .before .before .args .plan))) (readGroups (c .before .before .before .before .before .before .before .before .before .before .before .before .before .before .before .before .before .args .plan) (c .before .before .before .before .before .before .before .before .before .before .before .before .before .before .before .before .before .args .kinds) (c .before .before .before .before .before .before .before .before .before .before .before .before .before .before .before .before .before .args .capture .now) (length (c .before .before .before .before .before .before .before .before .before .before .before .before .before .before .before .before .before .args .capture .now) / (3 * groupWords (c .before .before .before .before .before .before .before .before .before .before .before .before .before .before .before .before .before .args .plan))) 0 Nothing 0) (c .before .before .before .before .before .before .before .before .before .read-groups .result) (c .before .before .before .before .before .before .before .before .before .read-groups .last .1 .1 .1 .1 .1 .0) (rw (c .before .before .before .before .before .before .before .before .before .before .before .before .group-words .ensures .0) at (c .before .before .before .before .before .before .before .before .before .read-groups .ensures)) (c .before .before .before .before .before .if1 .left)) in let e = c .before .before .before .before .before .before .before .before .before .before .before .before .group-words .ensures .0 in ((c .before .before .before .before .before .before .before .before .before .before .before .before .before .before .before .before .before .pre .0 .0, rw e (omega (arith, whole-groups (c .before .before .before .before .before .before .before .before .before .before .before .before .before .before .before .before .before .args .plan) (length (c .before .before .before .before .before .before .before .before .before .before .before .before .before .before .before .before .before .args .capture .now)) (c .before .before .before .before .before .before .before .before .before .before .before .before .before .before .before .before .before .pre .0 .2))), c .before .before .before .before .before .before .before .before .before .before .before .before .before .before .before .before .before .pre .0 .1), λ h k. let w = c .before .before .before .before .before .before .before .before .before .before .before .before .before .before .before .before .before .pre .1 .room (l .items) (l .is) (omega (arith, l .built .size, h)) (omega (arith, l .built .size, k)) in let s : length (c .before .before .before .before .before .before .before .before .before .read-groups .last .1 .1 .1 .1 .1 .0) ≡ length (c .before .before .before .before .before .before .before .before .before .before .before .before .before .before .before .before .before .args .built .now) = c .before .before .before .before .before .before .before .before .built .given in omega (arith, w, s, l .built .size))
+give-requires c κs = let r = rw (c .before .before .before .before .before .before .before .before .before .before .before .before .group-words .ensures .0) at (c .before .before .before .before .before .before .before .before .before .read-groups .ensures) in let l = r .logged (c .before .before .before .before .before .if1 .left) in let e = c .before .before .before .before .before .before .before .before .before .before .before .before .group-words .ensures .0 in ((c .before .before .before .before .before .before .before .before .before .before .before .before .before .before .before .before .before .pre .0 .0, rw e (omega (arith, whole-groups (c .before .before .before .before .before .before .before .before .before .before .before .before .before .before .before .before .before .args .plan) (length (c .before .before .before .before .before .before .before .before .before .before .before .before .before .before .before .before .before .args .capture .now)) (c .before .before .before .before .before .before .before .before .before .before .before .before .before .before .before .before .before .pre .0 .2))), c .before .before .before .before .before .before .before .before .before .before .before .before .before .before .before .before .before .pre .0 .1), λ h k. let w = c .before .before .before .before .before .before .before .before .before .before .before .before .before .before .before .before .before .pre .1 .room (l .items) (l .is) (omega (arith, l .bytes, h)) (omega (arith, l .bytes, k)) in let s : length (c .before .before .before .before .before .before .before .before .before .read-groups .last .1 .1 .1 .1 .1 .0) ≡ length (c .before .before .before .before .before .before .before .before .before .before .before .before .before .before .before .before .before .args .built .now) = c .before .before .before .before .before .before .before .before .built .given in omega (arith, w, s, l .bytes))
 
 -- src/reading.rt:343:1
 same-length-3 : tie.Need-same-length-3
@@ -89,7 +85,7 @@ same-length-5 c = search needs
 
 -- src/reading.rt:343:1
 returns-3 : tie.Need-returns-3
-returns-3 c = let l = (log-of (c .before .before .before .before .before .before .before .before .before .before .before .before .before .before .before .before .before .before .before .before .before .before .args .plan) (c .before .before .before .before .before .before .before .before .before .before .before .before .before .before .before .before .before .before .before .before .before .before .args .capture .now) (length (c .before .before .before .before .before .before .before .before .before .before .before .before .before .before .before .before .before .before .before .before .before .before .args .capture .now) / (3 * groupWords (c .before .before .before .before .before .before .before .before .before .before .before .before .before .before .before .before .before .before .before .before .before .before .args .plan))) (readGroups (c .before .before .before .before .before .before .before .before .before .before .before .before .before .before .before .before .before .before .before .before .before .before .args .plan) (c .before .before .before .before .before .before .before .before .before .before .before .before .before .before .before .before .before .before .before .before .before .before .args .kinds) (c .before .before .before .before .before .before .before .before .before .before .before .before .before .before .before .before .before .before .before .before .before .before .args .capture .now) (length (c .before .before .before .before .before .before .before .before .before .before .before .before .before .before .before .before .before .before .before .before .before .before .args .capture .now) / (3 * groupWords (c .before .before .before .before .before .before .before .before .before .before .before .before .before .before .before .before .before .before .before .before .before .before .args .plan))) 0 Nothing 0) (c .before .before .before .before .before .before .before .before .before .before .before .before .before .before .read-groups .result) (c .before .before .before .before .before .before .before .before .before .before .before .before .before .before .read-groups .last .1 .1 .1 .1 .1 .0) (rw (c .before .before .before .before .before .before .before .before .before .before .before .before .before .before .before .before .before .group-words .ensures .0) at (c .before .before .before .before .before .before .before .before .before .before .before .before .before .before .read-groups .ensures)) (c .before .before .before .before .before .before .before .before .before .before .if1 .left)) in rw (log-settled (c .before .before .before .before .before .before .before .before .before .before .before .before .before .before .before .before .before .before .before .before .before .before .args .plan) (c .before .before .before .before .before .before .before .before .before .before .before .before .before .before .before .before .before .before .before .before .before .before .args .kinds) (c .before .before .before .before .before .before .before .before .before .before .before .before .before .before .before .before .before .before .before .before .before .before .args .capture .now) (length (c .before .before .before .before .before .before .before .before .before .before .before .before .before .before .before .before .before .before .before .before .before .before .args .capture .now) / (3 * groupWords (c .before .before .before .before .before .before .before .before .before .before .before .before .before .before .before .before .before .before .before .before .before .before .args .plan))) (length (c .before .before .before .before .before .before .before .before .before .before .before .before .before .before .before .before .before .before .before .before .before .before .args .log .now)) (length (c .before .before .before .before .before .before .before .before .before .before .before .before .before .before .before .before .before .before .before .before .before .before .args .times .now)) (c .before .before .before .before .before .before .before .before .before .before .before .before .before .before .before .before .before .before .before .before .before .before .args .closed) (readGroups (c .before .before .before .before .before .before .before .before .before .before .before .before .before .before .before .before .before .before .before .before .before .before .args .plan) (c .before .before .before .before .before .before .before .before .before .before .before .before .before .before .before .before .before .before .before .before .before .before .args .kinds) (c .before .before .before .before .before .before .before .before .before .before .before .before .before .before .before .before .before .before .before .before .before .before .args .capture .now) (length (c .before .before .before .before .before .before .before .before .before .before .before .before .before .before .before .before .before .before .before .before .before .before .args .capture .now) / (3 * groupWords (c .before .before .before .before .before .before .before .before .before .before .before .before .before .before .before .before .before .before .before .before .before .before .args .plan))) 0 Nothing 0) (c .before .before .before .before .before .before .before .before .before .before .before .before .before .before .read-groups .result) (c .before .before .before .before .before .before .before .before .before .before .before .before .before .before .read-groups .last .1 .1 .1 .1 .1 .0) l (c .before .before .before .before .before .before .before .before .before .asked .result) (c .before .before .before .before .before .before .before .before .before .asked .ensures) (c .before .before .before .before .before .before .before .before .if2 .left)) (rw (c .before .before .before .before .before .before .before .before .before .before .before .before .before .before .before .before .before .group-words .ensures .0) at (c .before .before .before .before .give .ensures (logOf (l .items)) (l .built)))
+returns-3 c = let r = rw (c .before .before .before .before .before .before .before .before .before .before .before .before .before .before .before .before .before .group-words .ensures .0) at (c .before .before .before .before .before .before .before .before .before .before .before .before .before .before .read-groups .ensures) in let l = r .logged (c .before .before .before .before .before .before .before .before .before .before .if1 .left) in rw (log-settled _ _ _ (length (c .before .before .before .before .before .before .before .before .before .before .before .before .before .before .before .before .before .before .before .before .before .before .args .log .now)) (length (c .before .before .before .before .before .before .before .before .before .before .before .before .before .before .before .before .before .before .before .before .before .before .args .times .now)) (c .before .before .before .before .before .before .before .before .before .before .before .before .before .before .before .before .before .before .before .before .before .before .args .closed) l (c .before .before .before .before .before .before .before .before .before .asked .result) (c .before .before .before .before .before .before .before .before .before .asked .ensures) (c .before .before .before .before .before .before .before .before .if2 .left)) (rw (c .before .before .before .before .before .before .before .before .before .before .before .before .before .before .before .before .before .group-words .ensures .0) at (c .before .before .before .before .give .ensures (logOf (l .items)) (built-of l)))
 
 pub read-by-spec : {M : Type 1} → statement M
 read-by-spec =
