@@ -1,5 +1,6 @@
 -- The data slots of a group, one after the other.
 use Prim.Native.Nat.{ℕ, zero, suc, _+_, _-_, _^_, _≤_, _<_}
+use native.Mathlib.Decide.{decLt}
 use native.Mathlib.Omega.{arith}
 use mathlib.Core.Bool.{Bool, true, false}
 use mathlib.Core.Path.{_≡_, refl, sym, ap, subst, _∙_}
@@ -15,7 +16,7 @@ use Rattle.format.specs.declared.Held.{Held}
 use Rattle.format.specs.declared.Plan.{Plan}
 use Rattle.group.specs.declared.reading.Position.{Position}
 use Rattle.reader.specs.Holding.{heldOf}
-use Rattle.taking.specs.Slots.{wordIn, slotsOn, Ahead}
+use Rattle.taking.specs.Slots.{placeIn, wordIn, slotsOn, Ahead}
 use Rattle.taking.specs.declared.Taken.{Taken}
 use Rattle.taking.specs.Taken.{Unfilled, Took}
 use Rattle.taking.proofs.Slots.{slots-all, slots-next, slots-none}
@@ -25,12 +26,13 @@ use Rattle.format.specs.Laws.Tests.{clash}
 use Rattle.format.specs.Laws.Lists.{flatMap-append}
 use Rattle.walking.proofs.Fills.{yes-or-no}
 use lib.Dec.{eqb}
-use borrow.Author.Tests.{eqb-true}
+use borrow.Author.Tests.{eq-eqb, eqb-true, ne-eqb}
 use Rattle.walking.specs.declared.slot.Pass.{Pass}
+use Rattle.walking.specs.declared.slot.Past.{Past}
 use Rattle.walking.specs.declared.fill.Fills.{Fills}
 use Rattle.walking.specs.Fills.{fillsIn, onData, quiet}
 use Rattle.pen.specs.Pen.{Wrote}
-use Rattle.walking.specs.Pass.{slotPass, slotOut, takenFrom, itemsPass, Sound, RanTo, Along}
+use Rattle.walking.specs.Pass.{slotPass, slotOut, takenFrom, itemsPass, Along, PastFill, RanTo, Sound}
 use Rattle.walking.proofs.Pass.{along-step, along-stop}
 
 pub ahead-in : {p : Plan} {c : List ℕ} {g s : ℕ} {q : Position} (n : ℕ) → s + n ≤ slots p → Ahead p c g s 0 q → Ahead p c g s n q
@@ -54,6 +56,31 @@ quiet-is f i w e =
     yes-or-no (eqb (f .first) 0) (λ b. clash (rw (a, b) at e))
     (λ b. yes-or-no (eqb i 0) (λ d. clash (rw (a, b, d) at e)) (λ d. (eqb-true w fill a, b, d))))
     (λ a. clash (rw a at e))
+
+pub quiet-here : (f : Fills) (i w : ℕ) → (f .first ≡ 0 → ⊥) → (i ≡ 0 → ⊥) → w ≡ fill → quiet f i w ≡ true
+quiet-here f i w a b e = rw (eq-eqb w fill e, ne-eqb (f .first) 0 a, ne-eqb i 0 b) refl
+
+pub first-not-quiet : (f : Fills) (i w : ℕ) → f .first ≡ 0 → quiet f i w ≡ false
+first-not-quiet f i w a = yes-or-no (eqb w fill) (λ e. rw (e, eq-eqb (f .first) 0 a) refl) (λ e. rw e refl)
+
+pub front-not-quiet : (f : Fills) (i w : ℕ) → i ≡ 0 → quiet f i w ≡ false
+front-not-quiet f i w a =
+    yes-or-no (eqb w fill) (λ e. yes-or-no (eqb (f .first) 0) (λ d. rw (e, d) refl) (λ d. rw (e, d, eq-eqb i 0 a) refl)) (λ e. rw e refl)
+
+pub data-not-quiet : (f : Fills) (i w : ℕ) → (w ≡ fill → ⊥) → quiet f i w ≡ false
+data-not-quiet f i w a = rw (ne-eqb w fill a) refl
+
+-- P from i on, up to one further
+pub upto-more : (P : ℕ → Type 0) (i s : ℕ) → ((k : ℕ) → i ≤ k → k < s → P k) → P s → (k : ℕ) → i ≤ k → k < s + 1 → P k
+upto-more P i s f here k l u = go (decLt k s)
+  where
+    go : Dec (k < s) → P k
+    go (yes h) = f k l h
+    go (no h) = let z : s ≡ k = omega arith in subst P z here
+
+fill-low : fill < 2 ^ 24
+unfolding fill wordOf
+fill-low = omega arith
 
 quiet-pass : (ks : List Kind) (parity : Bool) (i place w : ℕ) (x : Pass) → x .bad ≡ false → quiet (x .fills) i w ≡ true → x ≡ slotPass ks parity i place w x
 unfolding slotPass
@@ -96,6 +123,9 @@ module _ (ks : List Kind) (p : Plan) (c : List ℕ) (g : ℕ) (x₀ : Pass) (out
     brought = record { sound = s; long = refl; wrote = λ bits y. subst (λ (l : List ℕ). Wrote l out₀ (x₀ .pen)) (sym (append-nil bits)) y };
     few = omega arith;
   }
+
+  pub passed-still : (i : ℕ) {x : Pass} {out out′ : List ℕ} → out′ ≡ out → Passed i x out → Passed i x out′
+  passed-still i {x} e a = subst (λ (o : List ℕ). Passed i x o) (sym e) a
 
   -- the next slot
   next : (i : ℕ) {x : Pass} {out : List ℕ} → i < slots p → Passed i x out → Along ks p (groupSlots p c g) x₀ out₀ i (slot p c g (lead p + i) ∷ slotsOn p c g (i + 1)) x out
@@ -172,7 +202,21 @@ module _ (ks : List Kind) (p : Plan) (c : List ℕ) (g : ℕ) (x₀ : Pass) (out
         few = omega (arith, a .few, k .few, k .onward);
       }
 
-  pub passed-quiet : (i : ℕ) {x : Pass} {out : List ℕ} {place word : ℕ} → i < slots p → Passed i x out
-      → place ≡ g + placeOf p (lead p + i) → word ≡ wordAt c place → word < 2 ^ 24 → quiet (x .fills) i word ≡ true → Passed (i + 1) x out
-  passed-quiet i {x} {out} {place} {word} h a e w low q =
-      passed-more i h a e w low (quiet-pass ks (p .parity) i place word x (a .brought .sound .good) q) (quiet-out ks (p .parity) i word x out q) (a .brought .sound .good)
+  passed-quiet : (i : ℕ) {x : Pass} {out : List ℕ} → i < slots p → Passed i x out → quiet (x .fills) i (wordIn p c g i) ≡ true → Passed (i + 1) x out
+  passed-quiet i {x} {out} h a q =
+      let low : wordIn p c g i < 2 ^ 24 = rw (quiet-is (x .fills) i (wordIn p c g i) q .0) fill-low in
+      passed-more i h a refl refl low (quiet-pass ks (p .parity) i (placeIn p g i) (wordIn p c g i) x (a .brought .sound .good) q)
+      (quiet-out ks (p .parity) i (wordIn p c g i) x out q) (a .brought .sound .good)
+
+  passed-quiets : (n i : ℕ) {x : Pass} {out : List ℕ} → i + n ≤ slots p → Passed i x out → ((k : ℕ) → i ≤ k → k < i + n → quiet (x .fills) k (wordIn p c g k) ≡ true)
+      → Passed (i + n) x out
+  passed-quiets zero i {x} {out} h a q = let z : i ≡ i + 0 = omega arith in subst (λ (k : ℕ). Passed k x out) z a
+  passed-quiets (suc n) i {x} {out} h a q =
+      let z : i + 1 + n ≡ i + suc n = omega arith in
+      subst (λ (k : ℕ). Passed k x out) z
+      (passed-quiets n (i + 1) (omega arith) (passed-quiet i (omega arith) a (q i (omega arith) (omega arith))) (λ k l u. q k (omega arith) (omega arith)))
+
+  pub passed-fill : (i : ℕ) {x : Pass} {out : List ℕ} {r : Past} → Passed i x out → PastFill p c g (x .fills) i r → Passed (r .slot) x out
+  passed-fill i {x} {out} {r} a f =
+      let z : i + (r .slot - i) ≡ r .slot = omega (arith, f .onward) in
+      subst (λ (k : ℕ). Passed k x out) z (passed-quiets (r .slot - i) i (omega (arith, f .room)) a (λ k l u. f .quiets k l (omega (arith, f .onward))))

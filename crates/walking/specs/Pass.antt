@@ -13,14 +13,17 @@ use Rattle.format.specs.declared.Plan.{Plan}
 use Rattle.reader.specs.declared.Step.{Step}
 use Rattle.reader.specs.Holding.{heldOf, Sane}
 use Rattle.reader.specs.Step.{stepOf}
-use Rattle.format.specs.Plan.{slots}
+use Rattle.format.specs.Plan.{lead, slots}
 use Rattle.group.specs.declared.reading.Position.{Position}
+use Rattle.group.specs.Position.{positionOf}
+use Rattle.taking.specs.Slots.{wordIn}
 use Rattle.taking.specs.declared.Taken.{Taken}
 use Rattle.taking.specs.Taken.{Took}
 use Rattle.walking.specs.declared.fill.Fills.{Fills}
 use Rattle.pen.specs.declared.Pen.{Pen}
 use Rattle.walking.specs.declared.slot.Pass.{Pass}
-use Rattle.walking.specs.Fills.{oddFill, onFill, onData, fillsIn}
+use Rattle.walking.specs.declared.slot.Past.{Past}
+use Rattle.walking.specs.Fills.{oddFill, onFill, onData, fillsIn, quiet}
 use Rattle.pen.specs.Pen.{penPut, penIn, Wrote}
 
 -- fill is looked at and dropped
@@ -61,6 +64,14 @@ slotPass ks parity i place word x = cond (isFill word) (fillPass parity i place 
 unfoldable pub slotOut : List Kind → Bool → ℕ → Pass → List ℕ → List ℕ
 slotOut ks parity word x out =
     cond (isFill word) out (passOut out x (wordStep ks parity word x))
+
+-- from the slot i on, up to the slot reached, there is only fill that changes nothing, and there it ends
+pub record PastFill (p : Plan) (c : List ℕ) (g : ℕ) (f : Fills) (i : ℕ) (r : Past) : Type 0 where
+  pub onward : i ≤ r .slot
+  pub room : r .slot ≤ slots p
+  pub at : r .at ≡ positionOf p g (lead p + r .slot)
+  pub quiets : (k : ℕ) → i ≤ k → k < r .slot → quiet f k (wordIn p c g k) ≡ true
+  pub ends : r .slot < slots p → quiet f (r .slot) (wordIn p c g (r .slot)) ≡ false
 
 -- items that were taken whole, nothing being held
 abbrev pub takenFrom : Pass → ℕ → Position → Taken

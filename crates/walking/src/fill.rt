@@ -1,7 +1,7 @@
 // Fill seen from slot to slot: where the earliest misplaced one stands (document 01, "Groups").
 ghost use mathlib.Core.Path.{_≡_};
 ghost use Prim.Native.Nat.{_<_};
-ghost use Rattle.walking.specs.Fills.{oddFill, onData, onFill, orPlace, quiet};
+ghost use Rattle.walking.specs.Fills.{oddFill, onData, onFill, orPlace};
 
 // Where fill stood so far, each place one up, 0 for none: the first fill of all, and the earliest that is misplaced.
 pub(crate) struct Fills {
@@ -49,17 +49,4 @@ pub(crate) fn is_odd_fill(i: usize, bus: u32) -> bool
     ensures { λ r. ⌜ r ≡ oddFill i bus ⌝ }
 {
     i == 0 || bus != 0
-}
-
-// Fill that changes nothing: on bus 0, not the first of all, nor in the first slot of its group.
-pub(crate) fn is_quiet(fills: Fills, i: usize, word: u32) -> bool
-    ensures { λ r. ⌜ r ≡ quiet fills i word ⌝ }
-{
-    if word != word::fill() {
-        return false;
-    }
-    if fills.first == 0 {
-        return false;
-    }
-    i != 0
 }

@@ -10,10 +10,9 @@ ghost use Rattle.group.specs.Shape.{Shape};
 ghost use Rattle.reader.specs.Holding.{heldOf, Sane};
 ghost use Rattle.taking.specs.Slots.{Ahead};
 ghost use Rattle.walking.specs.Fills.{fillsIn};
-ghost use Rattle.walking.specs.Pass.{FromPass, RanTo, Sound, Strings, itemsPass, passOut, slotOut, slotPass, stepOut, stepPass, stepPen};
+ghost use Rattle.walking.specs.Pass.{FromPass, PastFill, RanTo, Sound, Strings, itemsPass, passOut, slotOut, slotPass, stepOut, stepPass, stepPen};
 use crate::fill::Fills;
 use crate::fill::is_odd_fill;
-use crate::fill::is_quiet;
 use crate::fill::on_data;
 use crate::fill::on_fill;
 use format::Kind;
@@ -33,6 +32,12 @@ pub(crate) struct Pass {
     pub(crate) pen: Pen,
     pub(crate) fills: Fills,
     pub(crate) bad: bool,
+}
+
+// A slot, and where it stands.
+struct Past {
+    slot: usize,
+    at: Position,
 }
 
 // The bits of the items that a word finished.
@@ -109,6 +114,38 @@ fn on_slot(
     on_step(pass, place, step, out)
 }
 
+// The slot i, or the first one behind it that has another word than fill that changes nothing: fill on bus 0, not the first of
+// all, nor in the first slot of its group.
+fn past_fill(
+    fills: Fills,
+    plan: Plan,
+    count: usize,
+    capture: &[u8],
+    group: usize,
+    i: usize,
+    at: Position,
+) -> Past
+    requires { ⌜ Ahead plan (now capture) group i 0 at × (count ≡ slots plan) ⌝ }
+    ensures { λ r. ⌜ PastFill plan (now (capture .entry)) group fills i r ⌝ }
+{
+    let mut slot = i;
+    let mut at = at;
+    if fills.first == 0 {
+        return Past { slot: slot, at: at };
+    }
+    if slot == 0 {
+        return Past { slot: slot, at: at };
+    }
+    while slot < count {
+        if word::word_at(capture, 3 * at.place) != word::fill() {
+            break;
+        }
+        at = reading::next_slot(plan, at);
+        slot += 1;
+    }
+    Past { slot: slot, at: at }
+}
+
 // Items taken whole from the slot i on, if nothing is held.
 fn items_from(
     pass: Pass,
@@ -172,10 +209,10 @@ pub(crate) fn on_group(
     let mut at = reading::first_slot(plan, group);
     let mut i: usize = 0;
     while i < count {
-        let word = word::word_at(capture, 3 * at.place);
-        if is_quiet(pass.fills, i, word) {
-            at = reading::next_slot(plan, at);
-            i += 1;
+        let past = past_fill(pass.fills, plan, count, capture, group, i, at);
+        if i < past.slot {
+            at = past.at;
+            i = past.slot;
             continue;
         }
         let taken = items_from(pass, kinds, plan, count, capture, group, i, at, out);
@@ -185,6 +222,7 @@ pub(crate) fn on_group(
             i = taken.slot;
             continue;
         }
+        let word = word::word_at(capture, 3 * at.place);
         pass = on_slot(pass, kinds, plan.parity, i, at.place, word, out);
         if pass.bad {
             return pass;
