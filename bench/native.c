@@ -1,0 +1,33 @@
+/* The entry points as the kit's module has them: the answer's address is handed over first. That is how C returns a struct of this
+ * size on x86-64; on another processor this stands between. */
+#include "../include/vinculampe.h"
+
+#define PLAN uint32_t words, uint32_t tracks, uint32_t frame_time, uint32_t crc, uint32_t parity, const uint8_t *kinds, size_t kinds_len
+#define RUN(kind, name) kind uint8_t *name, size_t name##_len
+
+void module_vin_compose(vin_answer *answer, PLAN, RUN(const, log), RUN(const, times), RUN(, out));
+void module_vin_read(vin_answer *answer, PLAN, RUN(const, capture), RUN(, log), RUN(, times));
+void module_vin_read_closed(vin_answer *answer, PLAN, RUN(const, capture), RUN(, log), RUN(, times));
+
+#define GIVEN words, tracks, frame_time, crc, parity, kinds, kinds_len
+
+vin_answer vin_compose(PLAN, RUN(const, log), RUN(const, times), RUN(, out))
+{
+    vin_answer answer;
+    module_vin_compose(&answer, GIVEN, log, log_len, times, times_len, out, out_len);
+    return answer;
+}
+
+vin_answer vin_read(PLAN, RUN(const, capture), RUN(, log), RUN(, times))
+{
+    vin_answer answer;
+    module_vin_read(&answer, GIVEN, capture, capture_len, log, log_len, times, times_len);
+    return answer;
+}
+
+vin_answer vin_read_closed(PLAN, RUN(const, capture), RUN(, log), RUN(, times))
+{
+    vin_answer answer;
+    module_vin_read_closed(&answer, GIVEN, capture, capture_len, log, log_len, times, times_len);
+    return answer;
+}
