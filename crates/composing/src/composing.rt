@@ -1,6 +1,6 @@
 // Composing (document 01, "Groups" and "Answers by number"): from a log and its frame times to the bytes of the groups.
 
-ghost use mathlib.Core.Bool.{cond, true};
+ghost use mathlib.Core.Bool.{cond, false, true};
 ghost use mathlib.Core.Path.{_≡_};
 ghost use Prim.Native.Nat.{ℕ, min, _+_, _*_, _<_, _≤_};
 ghost use lib.ListN.{getD, length};
@@ -15,7 +15,8 @@ use crc;
 use format::Answer;
 use format::Kind;
 use format::Plan;
-use framing::write_group;
+use framing::write_checked_group;
+use framing::write_plain_group;
 use houselog::Tally;
 use itemwords::lay;
 use plans::group_words;
@@ -44,14 +45,17 @@ fn time_of(times: &[u64], group: usize) -> u64
     if group < times.len() { times[group] } else { 0 }
 }
 
-fn least(a: usize, b: usize) -> usize
-    ensures { λ r. ⌜ r ≡ min a b ⌝ }
+// Where a group's words end: with its share, or with the last of all.
+fn share_end(from: usize, share: usize, words: usize) -> usize
+    requires { ⌜ (from ≤ 15420) × (share ≤ 2044) ⌝ }
+    ensures { λ r. ⌜ r ≡ min (from + share) words ⌝ }
 {
-    if a < b { a } else { b }
+    let end = from + share;
+    if end < words { end } else { words }
 }
 
-// Every group, each in its own part of the output.
-fn write_by(
+// Every group of a plan with CRC, each in its own part of the output.
+fn write_checked(
     plan: Plan,
     words: &[u32],
     times: &[u64],
@@ -62,7 +66,7 @@ fn write_by(
 )
     requires { ⌜ Shape plan × (length (now words) ≤ 15420) × Unsent plan (now words) × ((g : ℕ) → getD (now times) g 0 < timeEnd) ⌝ }
     requires { ⌜ (groups ≡ groupsFor plan (length (now words))) × (groups * (3 * groupWords plan) ≤ length (now out)) ⌝ }
-    requires { ⌜ (plan .crc ≡ true → now tables ≡ entries) × (plan .crc ≡ true → now far ≡ farEntries) ⌝ }
+    requires { ⌜ (plan .crc ≡ true) × (now tables ≡ entries) × (now far ≡ farEntries) ⌝ }
     ensures { λ _. ⌜ now (out .exit) ≡ over (captureOf plan (now (times .entry)) (now (words .entry))) (now (out .entry)) ⌝ }
 {
     let share = slots(plan);
@@ -72,9 +76,9 @@ fn write_by(
         let start = group * size;
         let end = start + size;
         let from = group * share;
-        let to = least(from + share, words.len());
+        let to = share_end(from, share, words.len());
         let time = time_of(times, group);
-        write_group(
+        write_checked_group(
             &mut out[start..end],
             tables,
             far,
@@ -82,6 +86,27 @@ fn write_by(
             time,
             &words[from..to],
         );
+        group += 1;
+    }
+}
+
+// The same for a plan without CRC.
+fn write_plain(plan: Plan, words: &[u32], times: &[u64], groups: usize, out: &mut [u8])
+    requires { ⌜ Shape plan × (length (now words) ≤ 15420) × Unsent plan (now words) × ((g : ℕ) → getD (now times) g 0 < timeEnd) ⌝ }
+    requires { ⌜ (groups ≡ groupsFor plan (length (now words))) × (groups * (3 * groupWords plan) ≤ length (now out)) ⌝ }
+    requires { ⌜ plan .crc ≡ false ⌝ }
+    ensures { λ _. ⌜ now (out .exit) ≡ over (captureOf plan (now (times .entry)) (now (words .entry))) (now (out .entry)) ⌝ }
+{
+    let share = slots(plan);
+    let size = 3 * group_words(plan);
+    let mut group = 0;
+    while group < groups {
+        let start = group * size;
+        let end = start + size;
+        let from = group * share;
+        let to = share_end(from, share, words.len());
+        let time = time_of(times, group);
+        write_plain_group(&mut out[start..end], plan, time, &words[from..to]);
         group += 1;
     }
 }
@@ -95,10 +120,9 @@ fn write_groups(plan: Plan, words: &[u32], times: &[u64], groups: usize, out: &m
     if plan.crc {
         let tables = crc::tables();
         let far = crc::far_tables();
-        write_by(plan, words, times, groups, out, &tables, &far);
+        write_checked(plan, words, times, groups, out, &tables, &far);
     } else {
-        let none = [0u32; 768];
-        write_by(plan, words, times, groups, out, &none, &none);
+        write_plain(plan, words, times, groups, out);
     }
 }
 
@@ -173,6 +197,15 @@ fn compose_in(
 }
 
 // No long row is cleared for a short log.
+fn compose_tiny(plan: Plan, kinds: [Kind; 16], log: &[u8], times: &[u64], out: &mut [u8]) -> Answer
+    requires { ⌜ (legal plan kinds ≡ true) × (length (now log) ≤ 40) ⌝ }
+    ensures { λ r. ⌜ (r ≡ composeAnswer (composed plan kinds (now (log .entry)) (now (times .entry)) (length (now (out .entry)))))
+        × (now (out .exit) ≡ outAfter (composed plan kinds (now (log .entry)) (now (times .entry)) (length (now (out .entry)))) (now (out .entry))) ⌝ }
+{
+    let mut row = [0u32; 24];
+    compose_in(plan, kinds, log, times, out, &mut row)
+}
+
 fn compose_small(plan: Plan, kinds: [Kind; 16], log: &[u8], times: &[u64], out: &mut [u8]) -> Answer
     requires { ⌜ (legal plan kinds ≡ true) × (length (now log) ≤ 512) ⌝ }
     ensures { λ r. ⌜ (r ≡ composeAnswer (composed plan kinds (now (log .entry)) (now (times .entry)) (length (now (out .entry)))))
@@ -212,6 +245,9 @@ pub fn compose(plan: Plan, kinds: [Kind; 16], log: &[u8], times: &[u64], out: &m
         × (now (out .exit) ≡ outAfter (composed plan kinds (now (log .entry)) (now (times .entry)) (length (now (out .entry)))) (now (out .entry))) ⌝ }
 {
     if legal(plan, kinds) {
+        if log.len() <= 40 {
+            return compose_tiny(plan, kinds, log, times, out);
+        }
         if log.len() <= 512 {
             return compose_small(plan, kinds, log, times, out);
         }

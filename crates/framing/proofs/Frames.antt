@@ -8,13 +8,12 @@ use lib.ListN.{length}
 use Rattle.format.specs.Word.{sync}
 use Rattle.format.specs.Plan.{rows, groupWords}
 use Rattle.format.specs.Group.{frame, group}
-use Rattle.format.specs.Check.{checkOf, checkWord}
+use Rattle.format.specs.Check.{checkWord}
 use Rattle.format.specs.Lists.{list}
 use Rattle.format.specs.declared.Plan.{Plan}
 use Rattle.crc.specs.Running.{nextCheck, checkFrom}
-use Rattle.crc.proofs.Running.{from-append, check-is-from}
 use Rattle.group.specs.Shape.{Shape}
-use Rattle.framing.specs.Writing.{rowWord, front, checkIf}
+use Rattle.framing.specs.Writing.{rowWord, front}
 use Rattle.framing.proofs.Laws.{blocks-more, length-list, frame-length, group-length}
 
 module _ (p : Plan) (dealt : List ℕ) (t : ℕ) where
@@ -40,14 +39,6 @@ sync-below = omega arith
 pub check-one : (w : ℕ) → nextCheck 0 w ≡ checkFrom 0 (w ∷ [])
 unfolding checkFrom
 check-one w = refl
-
--- of words and then others, if it is chosen
-pub check-on : (chosen : Bool) (r : ℕ) (ws vs : List ℕ) → checkIf chosen (checkIf chosen r ws) vs ≡ checkIf chosen r (ws ++ vs)
-check-on true r ws vs = sym (from-append r ws vs)
-check-on false r ws vs = refl
-
-pub check-chosen : {chosen : Bool} (ws : List ℕ) → chosen ≡ true → checkIf chosen 0 ws ≡ checkOf ws
-check-chosen ws e = rw e (sym (check-is-from ws))
 
 -- the first n frames
 unfoldable pub framesOf : Plan → List ℕ → ℕ → List ℕ

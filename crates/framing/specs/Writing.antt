@@ -1,13 +1,11 @@
--- What the parts of the writer cite: runs of a track's rows, a frame up to its row n, and the check if it is chosen.
+-- What the parts of the writer cite: runs of a track's rows, and a frame up to its row n.
 use Prim.Native.Nat.{ℕ, _+_, _*_, _/_, _-_, _^_, _<_, _≤_}
-use mathlib.Core.Bool.{Bool, cond}
 use mathlib.Core.List.{List, _∷_}
 use lib.ListN.{getD, length}
 use Rattle.format.specs.Word.{sent, sync, fill}
 use Rattle.format.specs.Lawful.{buses}
 use Rattle.format.specs.Lists.{list, All}
 use Rattle.format.specs.declared.Plan.{Plan}
-use Rattle.crc.specs.Running.{checkFrom}
 
 -- words that leave bit 1 to the parity, where it is chosen
 abbrev pub Unsent : Plan → List ℕ → Type 0
@@ -40,7 +38,3 @@ pub record Run (p : Plan) (ws : List ℕ) (first n : ℕ) (out : List ℕ) : Typ
   pub ends : n * p .tracks + first < length ws + p .tracks
   pub short : n < 512
   pub room : 3 * n ≤ length out
-
--- the check of words after words whose check is r, if it is chosen
-abbrev pub checkIf : Bool → ℕ → List ℕ → ℕ
-checkIf chosen r ws = cond chosen (checkFrom r ws) r

@@ -1,8 +1,8 @@
 // Writing (document 01, "Groups"): each frame goes into its own part of the group's bytes.
 
 ghost use mathlib.Core.Path.{_≡_};
-ghost use mathlib.Core.Bool.{true};
-ghost use mathlib.Core.List.{[], _∷_, _++_, flatMap};
+ghost use mathlib.Core.Bool.{false, true};
+ghost use mathlib.Core.List.{_++_, flatMap};
 ghost use Prim.Native.Nat.{_+_, _*_, _^_, _≤_, _<_};
 ghost use lib.ListN.{length, take, drop};
 ghost use Rattle.format.specs.Word.{bytesOf, sent, fill};
@@ -12,7 +12,7 @@ ghost use Rattle.format.specs.Plan.{rows, lead, slots, groupWords};
 ghost use Rattle.format.specs.Group.{timeWords, frame, group};
 ghost use Rattle.crc.specs.Running.{checkFrom, entries, farEntries};
 ghost use Rattle.group.specs.Shape.{Shape, dealtOf};
-ghost use Rattle.framing.specs.Writing.{Run, Unsent, front, sentRows, sameRows, rowsWith, checkIf};
+ghost use Rattle.framing.specs.Writing.{Run, Unsent, front, sentRows, sameRows, rowsWith};
 use crc;
 use format::Plan;
 use word;
@@ -111,28 +111,6 @@ fn put_checked(
     check
 }
 
-// A run with or without a check.
-fn put_run(
-    out: &mut [u8],
-    tables: &[u32; 768],
-    far: &[u32; 768],
-    plan: Plan,
-    words: &[u32],
-    first: usize,
-    rows: usize,
-    before: u32,
-) -> u32
-    requires { ⌜ Shape plan × Run plan (now words) first rows (now out) × (before < 2 ^ 16) × (plan .crc ≡ true → now tables ≡ entries) × (plan .crc ≡ true → now far ≡ farEntries) ⌝ }
-    ensures { λ r. ⌜ (r ≡ checkIf (plan .crc) before (sentRows plan (now (words .entry)) first rows)) × (r < 2 ^ 16)
-        × (now (out .exit) ≡ flatMap bytesOf (sentRows plan (now (words .entry)) first rows) ++ drop (3 * rows) (now (out .entry))) ⌝ }
-{
-    if plan.crc {
-        return put_checked(out, tables, far, plan, words, first, rows, before);
-    }
-    put_rows(out, plan, words, first, rows);
-    before
-}
-
 fn fill_rows(out: &mut [u8], fill: u32, rows: usize)
     requires { ⌜ (3 * rows ≤ length (now out)) × (rows < 512) × (fill < 2 ^ 24) ⌝ }
     ensures { λ _. ⌜ now (out .exit) ≡ flatMap bytesOf (sameRows fill rows) ++ drop (3 * rows) (now (out .entry)) ⌝ }
@@ -161,8 +139,52 @@ fn check_fill(tables: &[u32; 768], far: &[u32; 768], fill: u32, rows: usize, bef
     check
 }
 
-// The rows past the last dealt word.
-fn fill_run(
+// The sync word, rows with time words, rows with data, rows of fill: a frame less its check word.
+fn write_plain_front(out: &mut [u8], plan: Plan, times: &[u32; 3], words: &[u32], track: usize)
+    requires { ⌜ Shape plan × (3 * plan .words ≤ length (now out)) × Unsent plan (now times) × (length (now times) ≡ 3) × Unsent plan (now words) × (length (now words) ≤ slots plan) × (track < plan .tracks) ⌝ }
+    ensures { λ _. ⌜ now (out .exit) ≡ flatMap bytesOf (front plan (take (lead plan) (now (times .entry)) ++ now (words .entry)) track (rows plan)) ++ drop (3 * (1 + rows plan)) (now (out .entry)) ⌝ }
+{
+    let rows = dealt_rows(plan);
+    let lead = lead_count(plan);
+    let timed = rows_with(plan, track, lead);
+    let dealt = rows_with(plan, track, lead + words.len());
+    let sync = word::sync();
+    word::put_word(out, 0, sync);
+    put_rows(&mut out[3..], plan, times, track, timed);
+    let first = timed * plan.tracks + track - lead;
+    let at = 3 * (1 + timed);
+    put_rows(&mut out[at..], plan, words, first, dealt - timed);
+    let end = 3 * (1 + dealt);
+    let fill = word::sent(plan.parity, word::fill());
+    fill_rows(&mut out[end..], fill, rows - dealt);
+}
+
+// The frame of a plan without CRC.
+fn write_plain_frame(out: &mut [u8], plan: Plan, time: u64, words: &[u32], track: usize)
+    requires { ⌜ Shape plan × (3 * plan .words ≤ length (now out)) × Unsent plan (now words) × (length (now words) ≤ slots plan) × (track < plan .tracks) × (time < timeEnd) × (plan .crc ≡ false) ⌝ }
+    ensures { λ _. ⌜ now (out .exit) ≡ flatMap bytesOf (frame plan (dealtOf plan time (now (words .entry))) track) ++ drop (3 * plan .words) (now (out .entry)) ⌝ }
+{
+    let times = time_words(time);
+    write_plain_front(out, plan, &times, words, track);
+}
+
+// The stored words of a group without CRC, tracks in order: each track's frame is lent its own part.
+pub fn write_plain_group(out: &mut [u8], plan: Plan, time: u64, words: &[u32])
+    requires { ⌜ Shape plan × (3 * groupWords plan ≤ length (now out)) × (length (now words) ≤ slots plan) × Unsent plan (now words) × (time < timeEnd) × (plan .crc ≡ false) ⌝ }
+    ensures { λ _. ⌜ now (out .exit) ≡ flatMap bytesOf (group plan (dealtOf plan time (now (words .entry)))) ++ drop (3 * groupWords plan) (now (out .entry)) ⌝ }
+{
+    let size = 3 * plan.words;
+    let mut track = 0;
+    while track < plan.tracks {
+        let start = track * size;
+        let end = start + size;
+        write_plain_frame(&mut out[start..end], plan, time, words, track);
+        track += 1;
+    }
+}
+
+// Rows of fill, as it is sent, and the check after them.
+fn fill_checked(
     out: &mut [u8],
     tables: &[u32; 768],
     far: &[u32; 768],
@@ -170,32 +192,17 @@ fn fill_run(
     rows: usize,
     before: u32,
 ) -> u32
-    requires { ⌜ (3 * rows ≤ length (now out)) × (rows < 512) × (before < 2 ^ 16) × (plan .crc ≡ true → now tables ≡ entries) × (plan .crc ≡ true → now far ≡ farEntries) ⌝ }
-    ensures { λ r. ⌜ (r ≡ checkIf (plan .crc) before (sameRows (sent (plan .parity) fill) rows)) × (r < 2 ^ 16)
+    requires { ⌜ (3 * rows ≤ length (now out)) × (rows < 512) × (before < 2 ^ 16) × (now tables ≡ entries) × (now far ≡ farEntries) ⌝ }
+    ensures { λ r. ⌜ (r ≡ checkFrom before (sameRows (sent (plan .parity) fill) rows)) × (r < 2 ^ 16)
         × (now (out .exit) ≡ flatMap bytesOf (sameRows (sent (plan .parity) fill) rows) ++ drop (3 * rows) (now (out .entry))) ⌝ }
 {
     let fill = word::sent(plan.parity, word::fill());
     fill_rows(out, fill, rows);
-    if plan.crc {
-        return check_fill(tables, far, fill, rows, before);
-    }
-    before
+    check_fill(tables, far, fill, rows, before)
 }
 
-// The check of a frame's first word, if it is chosen.
-fn check_first(tables: &[u32; 768], chosen: bool, word: u32) -> u32
-    requires { ⌜ (chosen ≡ true → now tables ≡ entries) × (word < 2 ^ 24) ⌝ }
-    ensures { λ r. ⌜ (r ≡ checkIf chosen 0 (word ∷ [])) × (r < 2 ^ 16) ⌝ }
-{
-    if chosen {
-        return crc::step(tables, 0, word);
-    }
-    0
-}
-
-// The frame less its check word: the sync word, rows with time words, rows with data, rows of fill.
-// Gives the check of what it wrote, if it is chosen.
-fn write_front(
+// A frame less its check word as above, and the check of it.
+fn write_checked_front(
     out: &mut [u8],
     tables: &[u32; 768],
     far: &[u32; 768],
@@ -204,8 +211,8 @@ fn write_front(
     words: &[u32],
     track: usize,
 ) -> u32
-    requires { ⌜ Shape plan × (3 * plan .words ≤ length (now out)) × Unsent plan (now times) × (length (now times) ≡ 3) × Unsent plan (now words) × (length (now words) ≤ slots plan) × (track < plan .tracks) × (plan .crc ≡ true → now tables ≡ entries) × (plan .crc ≡ true → now far ≡ farEntries) ⌝ }
-    ensures { λ r. ⌜ (r ≡ checkIf (plan .crc) 0 (front plan (take (lead plan) (now (times .entry)) ++ now (words .entry)) track (rows plan))) × (r < 2 ^ 16)
+    requires { ⌜ Shape plan × (3 * plan .words ≤ length (now out)) × Unsent plan (now times) × (length (now times) ≡ 3) × Unsent plan (now words) × (length (now words) ≤ slots plan) × (track < plan .tracks) × (now tables ≡ entries) × (now far ≡ farEntries) ⌝ }
+    ensures { λ r. ⌜ (r ≡ checkFrom 0 (front plan (take (lead plan) (now (times .entry)) ++ now (words .entry)) track (rows plan))) × (r < 2 ^ 16)
         × (now (out .exit) ≡ flatMap bytesOf (front plan (take (lead plan) (now (times .entry)) ++ now (words .entry)) track (rows plan)) ++ drop (3 * (1 + rows plan)) (now (out .entry))) ⌝ }
 {
     let rows = dealt_rows(plan);
@@ -214,11 +221,11 @@ fn write_front(
     let dealt = rows_with(plan, track, lead + words.len());
     let sync = word::sync();
     word::put_word(out, 0, sync);
-    let mut check = check_first(tables, plan.crc, sync);
-    check = put_run(&mut out[3..], tables, far, plan, times, track, timed, check);
+    let mut check = crc::step(tables, 0, sync);
+    check = put_checked(&mut out[3..], tables, far, plan, times, track, timed, check);
     let first = timed * plan.tracks + track - lead;
     let at = 3 * (1 + timed);
-    check = put_run(
+    check = put_checked(
         &mut out[at..],
         tables,
         far,
@@ -229,10 +236,11 @@ fn write_front(
         check,
     );
     let end = 3 * (1 + dealt);
-    fill_run(&mut out[end..], tables, far, plan, rows - dealt, check)
+    fill_checked(&mut out[end..], tables, far, plan, rows - dealt, check)
 }
 
-fn write_frame(
+// The frame of a plan with CRC.
+fn write_checked_frame(
     out: &mut [u8],
     tables: &[u32; 768],
     far: &[u32; 768],
@@ -241,19 +249,17 @@ fn write_frame(
     words: &[u32],
     track: usize,
 )
-    requires { ⌜ Shape plan × (3 * plan .words ≤ length (now out)) × Unsent plan (now words) × (length (now words) ≤ slots plan) × (track < plan .tracks) × (time < timeEnd) × (plan .crc ≡ true → now tables ≡ entries) × (plan .crc ≡ true → now far ≡ farEntries) ⌝ }
+    requires { ⌜ Shape plan × (3 * plan .words ≤ length (now out)) × Unsent plan (now words) × (length (now words) ≤ slots plan) × (track < plan .tracks) × (time < timeEnd) × (plan .crc ≡ true) × (now tables ≡ entries) × (now far ≡ farEntries) ⌝ }
     ensures { λ _. ⌜ now (out .exit) ≡ flatMap bytesOf (frame plan (dealtOf plan time (now (words .entry))) track) ++ drop (3 * plan .words) (now (out .entry)) ⌝ }
 {
     let times = time_words(time);
-    let check = write_front(out, tables, far, plan, &times, words, track);
-    if plan.crc {
-        let word = word::sent(plan.parity, word::join(0, 3, check));
-        word::put_word(out, 3 * (plan.words - 1), word);
-    }
+    let check = write_checked_front(out, tables, far, plan, &times, words, track);
+    let word = word::sent(plan.parity, word::join(0, 3, check));
+    word::put_word(out, 3 * (plan.words - 1), word);
 }
 
-// The stored words of a group, tracks in order: each track's frame is lent its own part. The tables count with CRC only.
-pub fn write_group(
+// The stored words of a group with CRC, as above.
+pub fn write_checked_group(
     out: &mut [u8],
     tables: &[u32; 768],
     far: &[u32; 768],
@@ -261,7 +267,7 @@ pub fn write_group(
     time: u64,
     words: &[u32],
 )
-    requires { ⌜ Shape plan × (3 * groupWords plan ≤ length (now out)) × (length (now words) ≤ slots plan) × Unsent plan (now words) × (time < timeEnd) × (plan .crc ≡ true → now tables ≡ entries) × (plan .crc ≡ true → now far ≡ farEntries) ⌝ }
+    requires { ⌜ Shape plan × (3 * groupWords plan ≤ length (now out)) × (length (now words) ≤ slots plan) × Unsent plan (now words) × (time < timeEnd) × (plan .crc ≡ true) × (now tables ≡ entries) × (now far ≡ farEntries) ⌝ }
     ensures { λ _. ⌜ now (out .exit) ≡ flatMap bytesOf (group plan (dealtOf plan time (now (words .entry)))) ++ drop (3 * groupWords plan) (now (out .entry)) ⌝ }
 {
     let size = 3 * plan.words;
@@ -269,7 +275,7 @@ pub fn write_group(
     while track < plan.tracks {
         let start = track * size;
         let end = start + size;
-        write_frame(&mut out[start..end], tables, far, plan, time, words, track);
+        write_checked_frame(&mut out[start..end], tables, far, plan, time, words, track);
         track += 1;
     }
 }

@@ -2,12 +2,14 @@
 use Prim.Native.Nat.{ℕ, zero, suc, _+_, _*_, _/_, _%_, _^_, _-_, _≤_, _<_}
 use native.Mathlib.Omega.{arith}
 use native.Mathlib.Nat.{div-one}
+use native.Mathlib.Decide.{decLt}
 use mathlib.Core.Bool.{Bool, true, false, cond}
 use mathlib.Core.Path.{_≡_, refl, ap, sym, _∙_}
 use mathlib.Core.List.{List, _++_, map}
 use lib.Dec.{eqb}
 use lib.ListN.{length, length-append}
 use borrow.Author.Tests.{ne-eqb}
+use Rattle.format.specs.Bits.{bytesBits}
 use Rattle.format.specs.Item.{busOfItem, inTime, itemWords, sided, standsOn, tagInTime, tagParts}
 use Rattle.format.specs.Log.{Next, field, has, itemAt, onPlan, wrong}
 use Rattle.format.specs.Plan.{isUsed, kindOn}
@@ -19,8 +21,9 @@ use Rattle.format.specs.declared.Tag.{Tag}
 use Rattle.format.specs.declared.Tag.the-variants.{At}
 use Rattle.format.specs.declared.Response.{Response}
 use Rattle.format.specs.declared.Item.the-variants.{Command, Status, Data, BusError, Arinc, Notice, User, Overflow}
-use Rattle.houselog.specs.Cursor.{Ending}
+use Rattle.houselog.specs.Cursor.{Ending, Window}
 use Rattle.houselog.specs.Found.{timeAt}
+use Rattle.houselog.proofs.Items.{command-cut, command-tag-cut, status-cut, status-response-cut}
 use Rattle.itemwords.specs.declared.item.Laid.{Laid}
 use Rattle.itemwords.specs.Laid.{faulty, isArinc, isMil, Lays, laid, refused, Puts, Tags, timely, late}
 use Rattle.itemwords.proofs.Row.{puts-more}
@@ -117,19 +120,32 @@ module _ (s : List ℕ) (p w : ℕ) (f : Ending s (p + 46) w) where
       let a : p + 46 - 0 - 14 ≡ p + 32 = omega arith in
       ap (λ (k : ℕ). field s k 14) (sym a) ∙ f 0 14 (omega arith) ∙ ap (λ (k : ℕ). k % 2 ^ 14) (div-one w)
 
--- the kinds 3 and 4 have one shape
-pub three-or-four : (P : ℕ → Type 0) (k : ℕ) → 3 ≤ k → k ≤ 4 → P 3 → P 4 → P k
-three-or-four P zero h g a b = absurd (omega arith)
-three-or-four P (suc zero) h g a b = absurd (omega arith)
-three-or-four P (suc (suc zero)) h g a b = absurd (omega arith)
-three-or-four P (suc (suc (suc zero))) h g a b = a
-three-or-four P (suc (suc (suc (suc zero)))) h g a b = b
-three-or-four P (suc (suc (suc (suc (suc k))))) h g a b = absurd (omega arith)
-
 -- no item is of another kind
 pub unknown : (s : List ℕ) (p k : ℕ) → (k ≡ 1 → ⊥) → (k ≡ 2 → ⊥) → (k ≡ 3 → ⊥) → (k ≡ 4 → ⊥) → (k ≡ 5 → ⊥) → (k ≡ 6 → ⊥) → (k ≡ 7 → ⊥) → (k ≡ 8 → ⊥) → itemAt s p k ≡ wrong
 unfolding itemAt
 unknown s p k a b c d e f g h = simp (ne-eqb k 1 a, ne-eqb k 2 b, ne-eqb k 3 c, ne-eqb k 4 d, ne-eqb k 5 e, ne-eqb k 6 f, ne-eqb k 7 g, ne-eqb k 8 h)
+
+pub none-higher : (s : List ℕ) (p k : ℕ) → 8 < k → itemAt s p k ≡ wrong
+none-higher s p k h = unknown s p k (λ z. omega (arith, z)) (λ z. omega (arith, z)) (λ z. omega (arith, z)) (λ z. omega (arith, z)) (λ z. omega (arith, z)) (λ z. omega (arith, z)) (λ z. omega (arith, z)) (λ z. omega (arith, z))
+
+pub none-zero : (s : List ℕ) (p k : ℕ) → k ≡ 0 → itemAt s p k ≡ wrong
+none-zero s p k h = unknown s p k (λ z. omega (arith, z)) (λ z. omega (arith, z)) (λ z. omega (arith, z)) (λ z. omega (arith, z)) (λ z. omega (arith, z)) (λ z. omega (arith, z)) (λ z. omega (arith, z)) (λ z. omega (arith, z))
+
+-- a tag or a response time that is cut, or the word before it
+module _ (log : List ℕ) (p l w : ℕ) (f : Window (bytesBits log) p w) (h : p + l ≡ length log * 8) (b : w / 2 ^ 54 % 2 ≡ 1) where
+  pub tagged-cut : l < 72 → itemAt (bytesBits log) p 1 ≡ wrong
+  tagged-cut c = go (decLt l 26)
+    where
+      go : Dec (l < 26) → itemAt (bytesBits log) p 1 ≡ wrong
+      go (yes d) = command-cut log p l w f h d
+      go (no d) = command-tag-cut log p l w f h (omega arith) b c
+
+  pub timed-cut : l < 40 → itemAt (bytesBits log) p 2 ≡ wrong
+  timed-cut c = go (decLt l 26)
+    where
+      go : Dec (l < 26) → itemAt (bytesBits log) p 2 ≡ wrong
+      go (yes d) = status-cut log p l w f h d
+      go (no d) = status-response-cut log p l w f h (omega arith) b c
 
 -- a bit of the window, as a side of the bus and as a user word's label
 pub side-is : (label x : ℕ) → x < 2 → label - 4 * x ≡ sided label (eqb x 1)

@@ -2,4 +2,5 @@
 pub mod Row
 pub mod Words
 pub mod Laying
+pub mod Single
 pub mod Logged

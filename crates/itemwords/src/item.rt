@@ -12,6 +12,7 @@ ghost use Rattle.format.specs.Word.{wordOf};
 ghost use Rattle.format.specs.declared.Kind.{Kind};
 ghost use Rattle.houselog.specs.Cursor.{Window};
 ghost use Rattle.itemwords.specs.Laid.{Ended, Lays, Puts, Tags, faulty, isArinc, isMil};
+ghost use Rattle.itemwords.specs.Single.{Single, singleBits, singleLabel, singleStands, timedKind};
 use format::Kind;
 use format::is_used;
 use houselog::Cursor;
@@ -82,7 +83,7 @@ fn side_in(w: u64, label: u32) -> u32
     label - 4 * (w / 36028797018963968 % 2) as u32
 }
 
-// The word of a command or a status, which have a mark; and of a data word or a bus error.
+// The word of a command or a status, which have a mark.
 fn marked_word(w: u64, label: u32) -> u32
     requires { ⌜ (4 ≤ label) × (label < 16) ⌝ }
     ensures { λ r. ⌜ r ≡ wordOf (w / 2 ^ 56 % 2 ^ 4) (sided label (eqb (w / 2 ^ 55 % 2) 1)) (w / 2 ^ 38 % 2 ^ 16) ⌝ }
@@ -91,17 +92,6 @@ fn marked_word(w: u64, label: u32) -> u32
         bus_in(w),
         side_in(w, label),
         (w / 274877906944 % 65536) as u32,
-    )
-}
-
-fn plain_word(w: u64, label: u32) -> u32
-    requires { ⌜ (4 ≤ label) × (label < 16) ⌝ }
-    ensures { λ r. ⌜ r ≡ wordOf (w / 2 ^ 56 % 2 ^ 4) (sided label (eqb (w / 2 ^ 55 % 2) 1)) (w / 2 ^ 39 % 2 ^ 16) ⌝ }
-{
-    word::join(
-        bus_in(w),
-        side_in(w, label),
-        (w / 549755813888 % 65536) as u32,
     )
 }
 
@@ -130,7 +120,7 @@ fn lay_tag(words: &mut [u32], log: &[u8], bus: u32, at: usize, count: usize) -> 
     fault(4)
 }
 
-// An item of each kind, of which `left` bits are left from `at` on and w is the window there; `kind` is its bus's.
+// Items of which `left` bits are left from `at` on and w is the window there; `kind` is their bus's. First a command with its tag.
 fn command(
     words: &mut [u32],
     log: &[u8],
@@ -141,28 +131,20 @@ fn command(
     w: u64,
 ) -> Laid
     requires { ⌜ Window (bytesBits (now log)) at w ⌝ }
-    requires { ⌜ (at + left ≡ length (now log) * 8) × (length (now log) ≤ 32768) × (count + 5 ≤ length (now words)) ⌝ }
+    requires { ⌜ (at + left ≡ length (now log) * 8) × (length (now log) ≤ 32768) × (count + 5 ≤ length (now words)) × (w / 2 ^ 54 % 2 ≡ 1) ⌝ }
     ensures { λ r. ⌜ ((ks : List Kind) → kindOn ks (w / 2 ^ 56 % 2 ^ 4) ≡ kind → Lays (onPlan ks) at count (length (now (log .entry)) * 8) (itemAt (bytesBits (now (log .entry))) at 1) (now (words .entry)) (now (words .exit)) r) ⌝ }
 {
-    if left < 26 {
+    if left < 72 {
         return fault(2);
     }
-    if w / 18014398509481984 % 2 == 1 {
-        if left < 72 {
-            return fault(2);
-        }
-        if is_1553(kind) {
-            let first = lay_one(words, at, count, marked_word(w, 15));
-            return lay_tag(words, log, bus_in(w), at + 26, first.count);
-        }
-        return fault(3);
-    }
     if is_1553(kind) {
-        return lay_one(words, at + 26, count, marked_word(w, 15));
+        let first = lay_one(words, at, count, marked_word(w, 15));
+        return lay_tag(words, log, bus_in(w), at + 26, first.count);
     }
     fault(3)
 }
 
+// A status with its response time.
 fn status(
     words: &mut [u32],
     log: &[u8],
@@ -173,52 +155,47 @@ fn status(
     w: u64,
 ) -> Laid
     requires { ⌜ Window (bytesBits (now log)) at w ⌝ }
-    requires { ⌜ (at + left ≡ length (now log) * 8) × (length (now log) ≤ 32768) × (count + 5 ≤ length (now words)) ⌝ }
+    requires { ⌜ (at + left ≡ length (now log) * 8) × (length (now log) ≤ 32768) × (count + 5 ≤ length (now words)) × (w / 2 ^ 54 % 2 ≡ 1) ⌝ }
     ensures { λ r. ⌜ ((ks : List Kind) → kindOn ks (w / 2 ^ 56 % 2 ^ 4) ≡ kind → Lays (onPlan ks) at count (length (now (log .entry)) * 8) (itemAt (bytesBits (now (log .entry))) at 2) (now (words .entry)) (now (words .exit)) r) ⌝ }
 {
-    if left < 26 {
+    if left < 40 {
         return fault(2);
     }
-    if w / 18014398509481984 % 2 == 1 {
-        if left < 40 {
-            return fault(2);
-        }
-        if is_1553(kind) {
-            let micro = (w / 16777216 % 16384) as u32;
-            if micro < 10000 {
-                let first = lay_one(words, at, count, word::join(bus_in(w), 4, micro));
-                return lay_one(words, at + 40, first.count, marked_word(w, 14));
-            }
-            return fault(4);
-        }
-        return fault(3);
-    }
     if is_1553(kind) {
-        return lay_one(words, at + 26, count, marked_word(w, 14));
+        let micro = (w / 16777216 % 16384) as u32;
+        if micro < 10000 {
+            let first = lay_one(words, at, count, word::join(bus_in(w), 4, micro));
+            return lay_one(words, at + 40, first.count, marked_word(w, 14));
+        }
+        return fault(4);
     }
     fault(3)
 }
 
-// A data word or a bus error, by the kind's number; together, since both come at random in a message's midst.
 fn data(
     words: &mut [u32],
     log: &[u8],
     kind: Kind,
-    number: u64,
     at: usize,
     left: usize,
     count: usize,
     w: u64,
 ) -> Laid
     requires { ⌜ Window (bytesBits (now log)) at w ⌝ }
-    requires { ⌜ (at + left ≡ length (now log) * 8) × (length (now log) ≤ 32768) × (count + 5 ≤ length (now words)) × (3 ≤ number) × (number ≤ 4) ⌝ }
-    ensures { λ r. ⌜ ((ks : List Kind) → kindOn ks (w / 2 ^ 56 % 2 ^ 4) ≡ kind → Lays (onPlan ks) at count (length (now (log .entry)) * 8) (itemAt (bytesBits (now (log .entry))) at number) (now (words .entry)) (now (words .exit)) r) ⌝ }
+    requires { ⌜ (at + left ≡ length (now log) * 8) × (length (now log) ≤ 32768) × (count + 5 ≤ length (now words)) ⌝ }
+    ensures { λ r. ⌜ ((ks : List Kind) → kindOn ks (w / 2 ^ 56 % 2 ^ 4) ≡ kind → Lays (onPlan ks) at count (length (now (log .entry)) * 8) (itemAt (bytesBits (now (log .entry))) at 3) (now (words .entry)) (now (words .exit)) r) ⌝ }
 {
     if left < 25 {
         return fault(2);
     }
     if is_1553(kind) {
-        return lay_one(words, at + 25, count, plain_word(w, (16 - number) as u32));
+        let information = (w / 549755813888 % 65536) as u32;
+        return lay_one(
+            words,
+            at + 25,
+            count,
+            word::join(bus_in(w), side_in(w, 13), information),
+        );
     }
     fault(3)
 }
@@ -304,59 +281,113 @@ fn notice(
     fault(3)
 }
 
-fn user(
+// Of the kinds that have one word and no time behind it: how many bits they have, their label, and where they may stand.
+fn single_bits(number: u64) -> usize
+    ensures { λ r. ⌜ (r ≡ singleBits number) × (24 ≤ r) × (r ≤ 26) ⌝ }
+{
+    if number < 3 {
+        return 26;
+    }
+    if number == 8 {
+        return 24;
+    }
+    25
+}
+
+fn single_label(w: u64, number: u64) -> u32
+    requires { ⌜ (0 < number) × (number ≤ 8) ⌝ }
+    ensures { λ r. ⌜ (r ≡ singleLabel number (eqb (w / 2 ^ 55 % 2) 1)) × (r < 16) ⌝ }
+{
+    if number == 8 {
+        return 0;
+    }
+    if number == 7 {
+        return 2 + (w / 36028797018963968 % 2) as u32;
+    }
+    side_in(w, (16 - number) as u32)
+}
+
+fn single_stands(kind: Kind, number: u64) -> bool
+    ensures { λ r. ⌜ r ≡ singleStands kind number ⌝ }
+{
+    if number < 7 {
+        return is_1553(kind);
+    }
+    is_used(kind)
+}
+
+// All of them by one way, without a jump by the kind: which one comes is a surprise, and a wrong guess costs more than this.
+fn single(
     words: &mut [u32],
     log: &[u8],
     kind: Kind,
+    number: u64,
     at: usize,
     left: usize,
     count: usize,
     w: u64,
 ) -> Laid
     requires { ⌜ Window (bytesBits (now log)) at w ⌝ }
-    requires { ⌜ (at + left ≡ length (now log) * 8) × (length (now log) ≤ 32768) × (count + 5 ≤ length (now words)) ⌝ }
-    ensures { λ r. ⌜ ((ks : List Kind) → kindOn ks (w / 2 ^ 56 % 2 ^ 4) ≡ kind → Lays (onPlan ks) at count (length (now (log .entry)) * 8) (itemAt (bytesBits (now (log .entry))) at 7) (now (words .entry)) (now (words .exit)) r) ⌝ }
+    requires { ⌜ (at + left ≡ length (now log) * 8) × (length (now log) ≤ 32768) × (count + 5 ≤ length (now words)) × Single number w ⌝ }
+    ensures { λ r. ⌜ ((ks : List Kind) → kindOn ks (w / 2 ^ 56 % 2 ^ 4) ≡ kind → Lays (onPlan ks) at count (length (now (log .entry)) * 8) (itemAt (bytesBits (now (log .entry))) at number) (now (words .entry)) (now (words .exit)) r) ⌝ }
 {
-    if left < 25 {
+    let bits = single_bits(number);
+    if left < bits {
         return fault(2);
     }
-    if is_used(kind) {
-        let label = 2 + (w / 36028797018963968 % 2) as u32;
-        let information = (w / 549755813888 % 65536) as u32;
+    if single_stands(kind, number) {
+        let information = ((w >> (64 - bits) as u32) % 65536) as u32;
         return lay_one(
             words,
-            at + 25,
+            at + bits,
             count,
-            word::join(bus_in(w), label, information),
+            word::join(bus_in(w), single_label(w, number), information),
         );
     }
     fault(3)
 }
 
-fn overflow(
+// Whether a command has its tag or a status its response time.
+fn is_timed(w: u64, number: u64) -> bool
+    ensures { λ r. ⌜ r ≡ timedKind number w ⌝ }
+{
+    number < 3 && w / 18014398509481984 % 2 == 1
+}
+
+// The item here, if it is neither a data word nor an ARINC word.
+fn lay_other(
     words: &mut [u32],
     log: &[u8],
     kind: Kind,
+    number: u64,
     at: usize,
     left: usize,
     count: usize,
     w: u64,
 ) -> Laid
     requires { ⌜ Window (bytesBits (now log)) at w ⌝ }
-    requires { ⌜ (at + left ≡ length (now log) * 8) × (length (now log) ≤ 32768) × (count + 5 ≤ length (now words)) ⌝ }
-    ensures { λ r. ⌜ ((ks : List Kind) → kindOn ks (w / 2 ^ 56 % 2 ^ 4) ≡ kind → Lays (onPlan ks) at count (length (now (log .entry)) * 8) (itemAt (bytesBits (now (log .entry))) at 8) (now (words .entry)) (now (words .exit)) r) ⌝ }
+    requires { ⌜ (at + left ≡ length (now log) * 8) × (length (now log) ≤ 32768) × (count + 5 ≤ length (now words)) × (number ≡ 3 → ⊥) × (number ≡ 5 → ⊥) ⌝ }
+    ensures { λ r. ⌜ ((ks : List Kind) → kindOn ks (w / 2 ^ 56 % 2 ^ 4) ≡ kind → Lays (onPlan ks) at count (length (now (log .entry)) * 8) (itemAt (bytesBits (now (log .entry))) at number) (now (words .entry)) (now (words .exit)) r) ⌝ }
 {
-    if left < 24 {
+    if number == 0 {
         return fault(2);
     }
-    if is_used(kind) {
-        let information = (w / 1099511627776 % 65536) as u32;
-        return lay_one(words, at + 24, count, word::join(bus_in(w), 0, information));
+    if is_timed(w, number) {
+        if number == 1 {
+            return command(words, log, kind, at, left, count, w);
+        }
+        return status(words, log, kind, at, left, count, w);
     }
-    fault(3)
+    if number == 6 {
+        return notice(words, log, kind, at, left, count, w);
+    }
+    if 8 < number {
+        return fault(2);
+    }
+    single(words, log, kind, number, at, left, count, w)
 }
 
-// The item here, by the number of its kind.
+// The item here, by the number of its kind: the words that come in runs first, so that the next one need not wait.
 pub fn lay_item(
     words: &mut [u32],
     log: &[u8],
@@ -371,16 +402,13 @@ pub fn lay_item(
     ensures { λ r. ⌜ ((ks : List Kind) → kindOn ks (w / 2 ^ 56 % 2 ^ 4) ≡ kind → Lays (onPlan ks) at count (length (now (log .entry)) * 8) (itemAt (bytesBits (now (log .entry))) at (w / 2 ^ 60)) (now (words .entry)) (now (words .exit)) r) ⌝ }
 {
     let number = w >> 60;
-    match number {
-        1 => command(words, log, kind, at, left, count, w),
-        2 => status(words, log, kind, at, left, count, w),
-        3 | 4 => data(words, log, kind, number, at, left, count, w),
-        5 => arinc(words, log, kind, at, left, count, w),
-        6 => notice(words, log, kind, at, left, count, w),
-        7 => user(words, log, kind, at, left, count, w),
-        8 => overflow(words, log, kind, at, left, count, w),
-        _ => fault(2),
+    if number == 3 {
+        return data(words, log, kind, at, left, count, w);
     }
+    if number == 5 {
+        return arinc(words, log, kind, at, left, count, w);
+    }
+    lay_other(words, log, kind, number, at, left, count, w)
 }
 
 // The end mark: 0, or 2 if "zero bits fill its last byte and nothing follows" does not hold.

@@ -1,6 +1,6 @@
-use Rattle.itemwords.proofs.Laying.{command-stands, no-place, tag-laid, words-laid}
+use Rattle.itemwords.proofs.Laying.{command-stands, no-place, tag-laid, tagged-cut}
 use Rattle.itemwords.specs.Laid.{cut}
-use Rattle.houselog.proofs.Items.{command-cut, command-plain, command-tag-cut, command-tag}
+use Rattle.houselog.proofs.Items.{command-tag}
 use Rattle.format.specs.Item.{busOfItem, inTime, itemWords}
 use mathlib.Core.List.{[], _∷_}
 use mathlib.Core.Path.{refl, sym, _∙_}
@@ -13,13 +13,7 @@ fault-requires : tie.Need-fault-requires
 fault-requires c κs = search needs
 
 returns : tie.Need-returns
-returns c = λ ks h. cut (command-cut (c .before .before .before .before .args .log .now) (c .before .before .before .before .args .at) (c .before .before .before .before .args .left) (c .before .before .before .before .args .w) (c .before .before .before .before .pre .0) (c .before .before .before .before .pre .1 .0) (c .before .if1 .taken)) (c .fault .ensures)
-
-fault-requires-2 : tie.Need-fault-requires-2
-fault-requires-2 c κs = search needs
-
-returns-2 : tie.Need-returns-2
-returns-2 c = λ ks h. cut (command-tag-cut (c .before .before .before .before .before .before .args .log .now) (c .before .before .before .before .before .before .args .at) (c .before .before .before .before .before .before .args .left) (c .before .before .before .before .before .before .args .w) (c .before .before .before .before .before .before .pre .0) (c .before .before .before .before .before .before .pre .1 .0) (c .before .before .before .if1 .left) (c .before .before .if2 .taken) (c .before .if3 .taken)) (c .fault2 .ensures)
+returns c = let a = c .before .before .before .before .args in let q = c .before .before .before .before .pre in λ ks h. cut (tagged-cut (a .log .now) (a .at) (a .left) (a .w) (q .0) (q .1 .0) (q .1 .3) (c .before .if1 .taken)) (c .fault .ensures)
 
 is-1553-requires : tie.Need-is-1553-requires
 is-1553-requires c κs = search needs
@@ -42,44 +36,17 @@ lay-tag-requires c κs = search needs
 same-length : tie.Need-same-length
 same-length c = search needs
 
-returns-3 : tie.Need-returns-3
+returns-2 : tie.Need-returns-2
 unfolding busOfItem inTime itemWords
-returns-3 c = λ ks h. tag-laid ks (c .before .before .before .before .before .before .before .before .before .before .before .before .before .before .before .before .before .args .kind) _ _ (command-tag (c .before .before .before .before .before .before .before .before .before .before .before .before .before .before .before .before .before .args .log .now) (c .before .before .before .before .before .before .before .before .before .before .before .before .before .before .before .before .before .args .at) (c .before .before .before .before .before .before .before .before .before .before .before .before .before .before .before .before .before .args .left) (c .before .before .before .before .before .before .before .before .before .before .before .before .before .before .before .before .before .args .w) (c .before .before .before .before .before .before .before .before .before .before .before .before .before .before .before .before .before .pre .0) (c .before .before .before .before .before .before .before .before .before .before .before .before .before .before .before .before .before .pre .1 .0) (c .before .before .before .before .before .before .before .before .before .before .before .before .if3 .left) (c .before .before .before .before .before .before .before .before .before .before .before .before .before .if2 .taken)) h (command-stands _ _ _ _ _ ∙ sym (c .before .before .before .before .before .before .before .before .before .before .before .is-1553 .ensures) ∙ c .before .before .before .before .before .before .before .before .before .before .if4 .taken) refl
+returns-2 c = let a = c .before .before .before .before .before .before .before .before .before .before .before .before .before .before .before .args in let q = c .before .before .before .before .before .before .before .before .before .before .before .before .before .before .before .pre in λ ks h. tag-laid ks (a .kind) _ _ (command-tag (a .log .now) (a .at) (a .left) (a .w) (q .0) (q .1 .0) (c .before .before .before .before .before .before .before .before .before .before .before .before .if1 .left) (q .1 .3)) h (command-stands _ _ _ _ _ ∙ sym (c .before .before .before .before .before .before .before .before .before .before .before .is-1553 .ensures) ∙ c .before .before .before .before .before .before .before .before .before .before .if2 .taken) refl
     (c .before .before .before .before .before .before .before .before .marked-word .result ∷ []) (rw (c .before .before .before .before .before .before .before .before .marked-word .ensures, c .before .before .before .bus-in .ensures .0)) refl (c .before .before .before .before .before .before .before .lay-one .ensures .2) (omega arith) (c .before .before .lay-tag .ensures) (omega arith) (omega arith)
 
-fault-requires-3 : tie.Need-fault-requires-3
-fault-requires-3 c κs = search needs
+fault-requires-2 : tie.Need-fault-requires-2
+fault-requires-2 c κs = search needs
 
-returns-4 : tie.Need-returns-4
+returns-3 : tie.Need-returns-3
 unfolding busOfItem inTime itemWords
-returns-4 c = λ ks h. no-place ks (c .before .before .before .before .before .before .before .before .args .kind) _ _ (command-tag (c .before .before .before .before .before .before .before .before .args .log .now) (c .before .before .before .before .before .before .before .before .args .at) (c .before .before .before .before .before .before .before .before .args .left) (c .before .before .before .before .before .before .before .before .args .w) (c .before .before .before .before .before .before .before .before .pre .0) (c .before .before .before .before .before .before .before .before .pre .1 .0) (c .before .before .before .if3 .left) (c .before .before .before .before .if2 .taken)) h (command-stands _ _ _ _ _ ∙ sym (c .before .before .is-1553 .ensures) ∙ c .before .if4 .left) (c .fault3 .ensures)
-
-is-1553-requires-2 : tie.Need-is-1553-requires-2
-is-1553-requires-2 c κs = search needs
-
-add-lay-one : tie.Need-add-lay-one
-add-lay-one c = search needs
-
-marked-word-requires-2 : tie.Need-marked-word-requires-2
-marked-word-requires-2 c κs = search needs
-
-lay-one-requires-2 : tie.Need-lay-one-requires-2
-lay-one-requires-2 c κs = search needs
-
-same-length-2 : tie.Need-same-length-2
-same-length-2 c = search needs
-
-returns-5 : tie.Need-returns-5
-unfolding busOfItem inTime itemWords
-returns-5 c = λ ks h. words-laid ks (c .before .before .before .before .before .before .before .before .before .before .before .args .kind) _ _ (command-plain (c .before .before .before .before .before .before .before .before .before .before .before .args .log .now) (c .before .before .before .before .before .before .before .before .before .before .before .args .at) (c .before .before .before .before .before .before .before .before .before .before .before .args .left) (c .before .before .before .before .before .before .before .before .before .before .before .args .w) (c .before .before .before .before .before .before .before .before .before .before .before .pre .0) (c .before .before .before .before .before .before .before .before .before .before .before .pre .1 .0) (c .before .before .before .before .before .before .before .before .if1 .left) (c .before .before .before .before .before .before .before .if2 .left)) h (command-stands _ _ _ _ _ ∙ sym (c .before .before .before .before .before .before .is-15532 .ensures) ∙ c .before .before .before .before .before .if5 .taken) refl
-    (c .before .before .before .marked-word2 .result ∷ []) (rw (c .before .before .before .marked-word2 .ensures)) (c .before .before .lay-one2 .ensures .0) (c .before .before .lay-one2 .ensures .1) (c .before .before .lay-one2 .ensures .2) (omega arith) (omega arith)
-
-fault-requires-4 : tie.Need-fault-requires-4
-fault-requires-4 c κs = search needs
-
-returns-6 : tie.Need-returns-6
-unfolding busOfItem inTime itemWords
-returns-6 c = λ ks h. no-place ks (c .before .before .before .before .before .before .before .args .kind) _ _ (command-plain (c .before .before .before .before .before .before .before .args .log .now) (c .before .before .before .before .before .before .before .args .at) (c .before .before .before .before .before .before .before .args .left) (c .before .before .before .before .before .before .before .args .w) (c .before .before .before .before .before .before .before .pre .0) (c .before .before .before .before .before .before .before .pre .1 .0) (c .before .before .before .before .if1 .left) (c .before .before .before .if2 .left)) h (command-stands _ _ _ _ _ ∙ sym (c .before .before .is-15532 .ensures) ∙ c .before .if5 .left) (c .fault4 .ensures)
+returns-3 c = let a = c .before .before .before .before .before .before .args in let q = c .before .before .before .before .before .before .pre in λ ks h. no-place ks (a .kind) _ _ (command-tag (a .log .now) (a .at) (a .left) (a .w) (q .0) (q .1 .0) (c .before .before .before .if1 .left) (q .1 .3)) h (command-stands _ _ _ _ _ ∙ sym (c .before .before .is-1553 .ensures) ∙ c .before .if2 .left) (c .fault2 .ensures)
 
 pub command-spec : {M : Type 1} → statement M
 command-spec =
@@ -87,8 +54,6 @@ command-spec =
     (tie.spec
     fault-requires
     returns
-    fault-requires-2
-    returns-2
     is-1553-requires
     marked-word-requires
     lay-one-requires
@@ -96,14 +61,6 @@ command-spec =
     add-lay-tag
     lay-tag-requires
     same-length
-    returns-3
-    fault-requires-3
-    returns-4
-    is-1553-requires-2
-    add-lay-one
-    marked-word-requires-2
-    lay-one-requires-2
-    same-length-2
-    returns-5
-    fault-requires-4
-    returns-6)
+    returns-2
+    fault-requires-2
+    returns-3)

@@ -1,7 +1,7 @@
-use Rattle.itemwords.proofs.Laying.{no-place, status-stands, too-late, words-laid}
+use Rattle.itemwords.proofs.Laying.{no-place, status-stands, timed-cut, too-late, words-laid}
 use Rattle.itemwords.proofs.Row.{puts-more}
 use Rattle.itemwords.specs.Laid.{cut}
-use Rattle.houselog.proofs.Items.{status-cut, status-plain, status-response-cut, status-response}
+use Rattle.houselog.proofs.Items.{status-response}
 use Rattle.format.specs.Item.{busOfItem, inTime, itemWords}
 use borrow.Author.Tests.{lt-ltb, le-ltb}
 use mathlib.Core.List.{[], _∷_}
@@ -15,13 +15,7 @@ fault-requires : tie.Need-fault-requires
 fault-requires c κs = search needs
 
 returns : tie.Need-returns
-returns c = λ ks h. cut (status-cut (c .before .before .before .before .args .log .now) (c .before .before .before .before .args .at) (c .before .before .before .before .args .left) (c .before .before .before .before .args .w) (c .before .before .before .before .pre .0) (c .before .before .before .before .pre .1 .0) (c .before .if1 .taken)) (c .fault .ensures)
-
-fault-requires-2 : tie.Need-fault-requires-2
-fault-requires-2 c κs = search needs
-
-returns-2 : tie.Need-returns-2
-returns-2 c = λ ks h. cut (status-response-cut (c .before .before .before .before .before .before .args .log .now) (c .before .before .before .before .before .before .args .at) (c .before .before .before .before .before .before .args .left) (c .before .before .before .before .before .before .args .w) (c .before .before .before .before .before .before .pre .0) (c .before .before .before .before .before .before .pre .1 .0) (c .before .before .before .if1 .left) (c .before .before .if2 .taken) (c .before .if3 .taken)) (c .fault2 .ensures)
+returns c = let a = c .before .before .before .before .args in let q = c .before .before .before .before .pre in λ ks h. cut (timed-cut (a .log .now) (a .at) (a .left) (a .w) (q .0) (q .1 .0) (q .1 .3) (c .before .if1 .taken)) (c .fault .ensures)
 
 is-1553-requires : tie.Need-is-1553-requires
 is-1553-requires c κs = search needs
@@ -50,51 +44,24 @@ lay-one-requires-2 c κs = search needs
 same-length : tie.Need-same-length
 same-length c = search needs
 
+returns-2 : tie.Need-returns-2
+unfolding busOfItem inTime itemWords
+returns-2 c = let a = c .before .before .before .before .before .before .before .before .before .before .before .before .before .before .before .before .before .args in let q = c .before .before .before .before .before .before .before .before .before .before .before .before .before .before .before .before .before .pre in λ ks h. words-laid ks (a .kind) _ _ (status-response (a .log .now) (a .at) (a .left) (a .w) (q .0) (q .1 .0) (c .before .before .before .before .before .before .before .before .before .before .before .before .before .before .if1 .left) (q .1 .3)) h (status-stands _ _ _ _ _ ∙ sym (c .before .before .before .before .before .before .before .before .before .before .before .before .before .is-1553 .ensures) ∙ c .before .before .before .before .before .before .before .before .before .before .before .before .if2 .taken) (lt-ltb _ _ (c .before .before .before .before .before .before .before .before .before .before .before .if3 .taken))
+    (c .before .before .before .before .before .before .before .before .join .result ∷ c .before .before .before .marked-word .result ∷ []) (rw (c .before .before .before .before .before .before .before .before .join .ensures, c .before .before .before .before .before .before .before .before .before .bus-in .ensures .0, c .before .before .before .marked-word .ensures)) (c .before .before .lay-one2 .ensures .0) (omega (arith, c .before .before .lay-one2 .ensures .1)) (puts-more (c .before .before .before .before .before .before .before .lay-one .ensures .2) (c .before .before .lay-one2 .ensures .2) (omega arith)) (omega arith) (omega arith)
+
+fault-requires-2 : tie.Need-fault-requires-2
+fault-requires-2 c κs = search needs
+
 returns-3 : tie.Need-returns-3
 unfolding busOfItem inTime itemWords
-returns-3 c = λ ks h. words-laid ks (c .before .before .before .before .before .before .before .before .before .before .before .before .before .before .before .before .before .before .before .args .kind) _ _ (status-response (c .before .before .before .before .before .before .before .before .before .before .before .before .before .before .before .before .before .before .before .args .log .now) (c .before .before .before .before .before .before .before .before .before .before .before .before .before .before .before .before .before .before .before .args .at) (c .before .before .before .before .before .before .before .before .before .before .before .before .before .before .before .before .before .before .before .args .left) (c .before .before .before .before .before .before .before .before .before .before .before .before .before .before .before .before .before .before .before .args .w) (c .before .before .before .before .before .before .before .before .before .before .before .before .before .before .before .before .before .before .before .pre .0) (c .before .before .before .before .before .before .before .before .before .before .before .before .before .before .before .before .before .before .before .pre .1 .0) (c .before .before .before .before .before .before .before .before .before .before .before .before .before .before .if3 .left) (c .before .before .before .before .before .before .before .before .before .before .before .before .before .before .before .if2 .taken)) h (status-stands _ _ _ _ _ ∙ sym (c .before .before .before .before .before .before .before .before .before .before .before .before .before .is-1553 .ensures) ∙ c .before .before .before .before .before .before .before .before .before .before .before .before .if4 .taken) (lt-ltb _ _ (c .before .before .before .before .before .before .before .before .before .before .before .if5 .taken))
-    (c .before .before .before .before .before .before .before .before .join .result ∷ c .before .before .before .marked-word .result ∷ []) (rw (c .before .before .before .before .before .before .before .before .join .ensures, c .before .before .before .before .before .before .before .before .before .bus-in .ensures .0, c .before .before .before .marked-word .ensures)) (c .before .before .lay-one2 .ensures .0) (omega (arith, c .before .before .lay-one2 .ensures .1)) (puts-more (c .before .before .before .before .before .before .before .lay-one .ensures .2) (c .before .before .lay-one2 .ensures .2) (omega arith)) (omega arith) (omega arith)
+returns-3 c = let a = c .before .before .before .before .before .before .before .args in let q = c .before .before .before .before .before .before .before .pre in λ ks h. too-late ks (a .kind) _ _ (status-response (a .log .now) (a .at) (a .left) (a .w) (q .0) (q .1 .0) (c .before .before .before .before .if1 .left) (q .1 .3)) h (status-stands _ _ _ _ _ ∙ sym (c .before .before .before .is-1553 .ensures) ∙ c .before .before .if2 .taken) (le-ltb _ _ (c .before .if3 .left)) (c .fault2 .ensures)
 
 fault-requires-3 : tie.Need-fault-requires-3
 fault-requires-3 c κs = search needs
 
 returns-4 : tie.Need-returns-4
 unfolding busOfItem inTime itemWords
-returns-4 c = λ ks h. too-late ks (c .before .before .before .before .before .before .before .before .before .args .kind) _ _ (status-response (c .before .before .before .before .before .before .before .before .before .args .log .now) (c .before .before .before .before .before .before .before .before .before .args .at) (c .before .before .before .before .before .before .before .before .before .args .left) (c .before .before .before .before .before .before .before .before .before .args .w) (c .before .before .before .before .before .before .before .before .before .pre .0) (c .before .before .before .before .before .before .before .before .before .pre .1 .0) (c .before .before .before .before .if3 .left) (c .before .before .before .before .before .if2 .taken)) h (status-stands _ _ _ _ _ ∙ sym (c .before .before .before .is-1553 .ensures) ∙ c .before .before .if4 .taken) (le-ltb _ _ (c .before .if5 .left)) (c .fault3 .ensures)
-
-fault-requires-4 : tie.Need-fault-requires-4
-fault-requires-4 c κs = search needs
-
-returns-5 : tie.Need-returns-5
-unfolding busOfItem inTime itemWords
-returns-5 c = λ ks h. no-place ks (c .before .before .before .before .before .before .before .before .args .kind) _ _ (status-response (c .before .before .before .before .before .before .before .before .args .log .now) (c .before .before .before .before .before .before .before .before .args .at) (c .before .before .before .before .before .before .before .before .args .left) (c .before .before .before .before .before .before .before .before .args .w) (c .before .before .before .before .before .before .before .before .pre .0) (c .before .before .before .before .before .before .before .before .pre .1 .0) (c .before .before .before .if3 .left) (c .before .before .before .before .if2 .taken)) h (status-stands _ _ _ _ _ ∙ sym (c .before .before .is-1553 .ensures) ∙ c .before .if4 .left) (c .fault4 .ensures)
-
-is-1553-requires-2 : tie.Need-is-1553-requires-2
-is-1553-requires-2 c κs = search needs
-
-add-lay-one-2 : tie.Need-add-lay-one-2
-add-lay-one-2 c = search needs
-
-marked-word-requires-2 : tie.Need-marked-word-requires-2
-marked-word-requires-2 c κs = search needs
-
-lay-one-requires-3 : tie.Need-lay-one-requires-3
-lay-one-requires-3 c κs = search needs
-
-same-length-2 : tie.Need-same-length-2
-same-length-2 c = search needs
-
-returns-6 : tie.Need-returns-6
-unfolding busOfItem inTime itemWords
-returns-6 c = λ ks h. words-laid ks (c .before .before .before .before .before .before .before .before .before .before .before .args .kind) _ _ (status-plain (c .before .before .before .before .before .before .before .before .before .before .before .args .log .now) (c .before .before .before .before .before .before .before .before .before .before .before .args .at) (c .before .before .before .before .before .before .before .before .before .before .before .args .left) (c .before .before .before .before .before .before .before .before .before .before .before .args .w) (c .before .before .before .before .before .before .before .before .before .before .before .pre .0) (c .before .before .before .before .before .before .before .before .before .before .before .pre .1 .0) (c .before .before .before .before .before .before .before .before .if1 .left) (c .before .before .before .before .before .before .before .if2 .left)) h (status-stands _ _ _ _ _ ∙ sym (c .before .before .before .before .before .before .is-15532 .ensures) ∙ c .before .before .before .before .before .if6 .taken) refl
-    (c .before .before .before .marked-word2 .result ∷ []) (rw (c .before .before .before .marked-word2 .ensures)) (c .before .before .lay-one3 .ensures .0) (c .before .before .lay-one3 .ensures .1) (c .before .before .lay-one3 .ensures .2) (omega arith) (omega arith)
-
-fault-requires-5 : tie.Need-fault-requires-5
-fault-requires-5 c κs = search needs
-
-returns-7 : tie.Need-returns-7
-unfolding busOfItem inTime itemWords
-returns-7 c = λ ks h. no-place ks (c .before .before .before .before .before .before .before .args .kind) _ _ (status-plain (c .before .before .before .before .before .before .before .args .log .now) (c .before .before .before .before .before .before .before .args .at) (c .before .before .before .before .before .before .before .args .left) (c .before .before .before .before .before .before .before .args .w) (c .before .before .before .before .before .before .before .pre .0) (c .before .before .before .before .before .before .before .pre .1 .0) (c .before .before .before .before .if1 .left) (c .before .before .before .if2 .left)) h (status-stands _ _ _ _ _ ∙ sym (c .before .before .is-15532 .ensures) ∙ c .before .if6 .left) (c .fault5 .ensures)
+returns-4 c = let a = c .before .before .before .before .before .before .args in let q = c .before .before .before .before .before .before .pre in λ ks h. no-place ks (a .kind) _ _ (status-response (a .log .now) (a .at) (a .left) (a .w) (q .0) (q .1 .0) (c .before .before .before .if1 .left) (q .1 .3)) h (status-stands _ _ _ _ _ ∙ sym (c .before .before .is-1553 .ensures) ∙ c .before .if2 .left) (c .fault3 .ensures)
 
 pub status-spec : {M : Type 1} → statement M
 status-spec =
@@ -102,8 +69,6 @@ status-spec =
     (tie.spec
     fault-requires
     returns
-    fault-requires-2
-    returns-2
     is-1553-requires
     cast-micro
     bus-in-requires
@@ -113,16 +78,8 @@ status-spec =
     marked-word-requires
     lay-one-requires-2
     same-length
+    returns-2
+    fault-requires-2
     returns-3
     fault-requires-3
-    returns-4
-    fault-requires-4
-    returns-5
-    is-1553-requires-2
-    add-lay-one-2
-    marked-word-requires-2
-    lay-one-requires-3
-    same-length-2
-    returns-6
-    fault-requires-5
-    returns-7)
+    returns-4)

@@ -9,8 +9,8 @@ use native.Mathlib.Omega.{arith}
 use native.Mathlib.Nat.{zero-mul}
 use Prim.Native.Nat.{ℕ, _+_, _*_, _-_, _≤_, _<_}
 use borrow.Author.Needs.{needs}
-use Rattle.composing.proofs.composing.write_by.Statement.{statement}
-use Rattle.composing.proofs.composing.write_by.Tie as tie
+use Rattle.composing.proofs.composing.write_checked.Statement.{statement}
+use Rattle.composing.proofs.composing.write_checked.Tie as tie
 
 abbrev Inv-loop : tie.InvT-loop
 Inv-loop plan words times groups out₀ tables far share size group₀ out group = (group ≤ groups) × Written (groupsTo plan times words group) (group * groupWords plan) out₀ out
@@ -54,49 +54,47 @@ add-end c = omega (arith, room c)
 mul-from : tie.Need-mul-from Inv-loop μ-loop
 mul-from c = omega (arith, begins c)
 
-add-least : tie.Need-add-least Inv-loop μ-loop
-add-least c = omega (arith, begins c, c .before .before .before .slots .ensures .2)
-
-least-requires : tie.Need-least-requires Inv-loop μ-loop
-least-requires c κs = search needs
+share-end-requires : tie.Need-share-end-requires Inv-loop μ-loop
+share-end-requires c κs = (omega (arith, begins c, c .before .before .before .before .before .before .before .pre .0 .1), c .before .before .before .slots .ensures .2)
 
 time-of-requires : tie.Need-time-of-requires Inv-loop μ-loop
 time-of-requires c κs = search needs
 
-sub-write-group : tie.Need-sub-write-group Inv-loop μ-loop
-sub-write-group c = search needs
+sub-write-checked-group : tie.Need-sub-write-checked-group Inv-loop μ-loop
+sub-write-checked-group c = search needs
 
-part-write-group-start : tie.Need-part-write-group-start Inv-loop μ-loop
-part-write-group-start c = search needs
+part-write-checked-group-start : tie.Need-part-write-checked-group-start Inv-loop μ-loop
+part-write-checked-group-start c = search needs
 
-part-write-group-end : tie.Need-part-write-group-end Inv-loop μ-loop
-part-write-group-end c = omega (arith, room (c .before .before), written-length (c .before .before .before .loop .inv .1))
+part-write-checked-group-end : tie.Need-part-write-checked-group-end Inv-loop μ-loop
+part-write-checked-group-end c = omega (arith, room (c .before .before), written-length (c .before .before .before .loop .inv .1))
 
-mul-write-group : tie.Need-mul-write-group Inv-loop μ-loop
-mul-write-group c = omega (arith, begins (c .before .before .before), c .before .before .before .before .before .before .before .before .before .before .pre .0 .1)
+mul-write-checked-group : tie.Need-mul-write-checked-group Inv-loop μ-loop
+mul-write-checked-group c = omega (arith, begins (c .before .before .before), c .before .before .before .before .before .before .before .before .before .before .pre .0 .1)
 
-sub-write-group-2 : tie.Need-sub-write-group-2 Inv-loop μ-loop
-sub-write-group-2 c = omega (arith, begins (c .before .before .before), c .before .before .least .ensures)
+sub-write-checked-group-2 : tie.Need-sub-write-checked-group-2 Inv-loop μ-loop
+sub-write-checked-group-2 c = omega (arith, begins (c .before .before .before), c .before .before .share-end .ensures)
 
-part-write-group-start-2 : tie.Need-part-write-group-start-2 Inv-loop μ-loop
-part-write-group-start-2 c = omega (arith, begins (c .before .before .before), c .before .before .least .ensures)
+part-write-checked-group-start-2 : tie.Need-part-write-checked-group-start-2 Inv-loop μ-loop
+part-write-checked-group-start-2 c = omega (arith, begins (c .before .before .before), c .before .before .share-end .ensures)
 
-part-write-group-end-2 : tie.Need-part-write-group-end-2 Inv-loop μ-loop
-part-write-group-end-2 c = omega (arith, c .before .before .least .ensures)
+part-write-checked-group-end-2 : tie.Need-part-write-checked-group-end-2 Inv-loop μ-loop
+part-write-checked-group-end-2 c = omega (arith, c .before .before .share-end .ensures)
 
-write-group-requires : tie.Need-write-group-requires Inv-loop μ-loop
-write-group-requires c κs =
+write-checked-group-requires : tie.Need-write-checked-group-requires Inv-loop μ-loop
+write-checked-group-requires c κs =
     let a = c .before .before .before .before .before .before .before .before .before .before .before .args in
     let q = c .before .before .before .before .before .before .before .before .before .before .before .pre in
     let o = c .before .before .before .before .before .loop in
     let s = c .before .before .before .before .before .before .before .slots in (
       q .0 .0,
       simp (length-take, length-drop) (omega (arith, c .before .before .before .before .before .before .group-words .ensures .0, room (c .before .before .before .before), written-length (o .inv .1))),
-      simp (length-take, length-drop) (omega (arith, s .ensures .0, c .before .before .before .least .ensures)),
-      all-take (c .before .before .before .least .result - o .group * s .result) (all-drop (o .group * s .result) (q .0 .2)),
+      simp (length-take, length-drop) (omega (arith, s .ensures .0, c .before .before .before .share-end .ensures)),
+      all-take (c .before .before .before .share-end .result - o .group * s .result) (all-drop (o .group * s .result) (q .0 .2)),
       rw (c .before .before .time-of .ensures) (q .0 .3 (o .group)),
       q .1 .1 .0,
       q .1 .1 .1,
+      q .1 .1 .2,
     )
 
 add-group : tie.Need-add-group Inv-loop μ-loop
@@ -110,13 +108,13 @@ loop-again c =
     let a = c .before .before .before .before .before .before .before .before .before .before .before .before .before .before .args in
     let q = c .before .before .before .before .before .before .before .before .before .before .before .before .before .before .pre in
     let o = c .before .before .before .before .before .before .before .before .loop in
-    let w = c .before .before .write-group in
+    let w = c .before .before .write-checked-group in
     let n = groupWords (a .plan) in
     let R = c .before .before .before .before .before .before .before .before .before .group-words .result in
     let e : R ≡ n = c .before .before .before .before .before .before .before .before .before .group-words .ensures .0 in
     let start : o .group * (3 * R) ≡ 3 * (o .group * n) = ap (λ (k : ℕ). o .group * (3 * k)) e ∙ omega arith in
     let r = room (c .before .before .before .before .before .before .before) in
-    let share = share-taken (c .before .before .before .before .before .before .before .before .before .before .slots .result) (o .group * c .before .before .before .before .before .before .before .before .before .before .slots .result) (c .before .before .before .before .before .before .least .result) (a .words .now) (c .before .before .before .before .before .before .least .ensures) in (
+    let share = share-taken (c .before .before .before .before .before .before .before .before .before .before .slots .result) (o .group * c .before .before .before .before .before .before .before .before .before .before .slots .result) (c .before .before .before .before .before .before .share-end .result) (a .words .now) (c .before .before .before .before .before .before .share-end .ensures) in (
       omega arith,
       rw (groups-more (a .plan) (a .times .now) (a .words .now) (o .group))
           (written-part (o .group * (3 * R)) (o .group * (3 * R) + 3 * R - o .group * (3 * R)) _ (o .inv .1) start (group-count (a .plan) _ (q .0 .0)) (omega (arith, e)) (omega (arith, r)) (omega arith)
@@ -133,8 +131,8 @@ returns c =
     let e : o .group ≡ a .groups = omega arith in
     written-all _ (o .inv .1) (groups-all (a .plan) (a .times .now) (a .words .now) (o .group) (e ∙ c .before .before .before .before .before .before .before .pre .1 .0 .0))
 
-pub write-by-spec : {M : Type 1} → statement M
-write-by-spec =
+pub write-checked-spec : {M : Type 1} → statement M
+write-checked-spec =
     tie.close
     (tie.spec
     Inv-loop
@@ -146,17 +144,16 @@ write-by-spec =
     mul-start
     add-end
     mul-from
-    add-least
-    least-requires
+    share-end-requires
     time-of-requires
-    sub-write-group
-    part-write-group-start
-    part-write-group-end
-    mul-write-group
-    sub-write-group-2
-    part-write-group-start-2
-    part-write-group-end-2
-    write-group-requires
+    sub-write-checked-group
+    part-write-checked-group-start
+    part-write-checked-group-end
+    mul-write-checked-group
+    sub-write-checked-group-2
+    part-write-checked-group-start-2
+    part-write-checked-group-end-2
+    write-checked-group-requires
     add-group
     loop-less
     loop-again

@@ -9,15 +9,15 @@ use Rattle.format.specs.Group.{frame}
 use Rattle.group.specs.Shape.{dealtOf}
 use Rattle.framing.proofs.Words.{Written, written-is, written-none, written-length, written-part}
 use Rattle.framing.proofs.Frames.{framesOf, frames-none, frames-more, frames-all, frame-count}
-use Rattle.framing.proofs.write_group.Statement.{statement}
-use Rattle.framing.proofs.write_group.Tie as tie
+use Rattle.framing.proofs.write_plain_group.Statement.{statement}
+use Rattle.framing.proofs.write_plain_group.Tie as tie
 
 abbrev Inv-loop : tie.InvT-loop
-Inv-loop out₀ tables far plan time words size track₀ out track =
+Inv-loop out₀ plan time words size track₀ out track =
     (track ≤ plan .tracks) × Written (framesOf plan (dealtOf plan time words) track) (track * plan .words) out₀ out
 
 abbrev μ-loop : tie.MeasureT-loop
-μ-loop out₀ tables far plan time words size track₀ out track = plan .tracks - track
+μ-loop out₀ plan time words size track₀ out track = plan .tracks - track
 
 -- at the loop, the function's entry and the words dealt
 abbrev entry : tie.At-loop Inv-loop μ-loop → tie.Start Inv-loop μ-loop
@@ -42,19 +42,19 @@ mul-start c = omega (arith, room c)
 add-end : tie.Need-add-end Inv-loop μ-loop
 add-end c = omega (arith, room c)
 
-sub-write-frame : tie.Need-sub-write-frame Inv-loop μ-loop
-sub-write-frame c = search needs
+sub-write-plain-frame : tie.Need-sub-write-plain-frame Inv-loop μ-loop
+sub-write-plain-frame c = search needs
 
-part-write-frame-start : tie.Need-part-write-frame-start Inv-loop μ-loop
-part-write-frame-start c = search needs
+part-write-plain-frame-start : tie.Need-part-write-plain-frame-start Inv-loop μ-loop
+part-write-plain-frame-start c = search needs
 
-part-write-frame-end : tie.Need-part-write-frame-end Inv-loop μ-loop
-part-write-frame-end c = omega (arith, room c, written-length (c .before .before .loop .inv .1))
+part-write-plain-frame-end : tie.Need-part-write-plain-frame-end Inv-loop μ-loop
+part-write-plain-frame-end c = omega (arith, room c, written-length (c .before .before .loop .inv .1))
 
-write-frame-requires : tie.Need-write-frame-requires Inv-loop μ-loop
-write-frame-requires c κs =
+write-plain-frame-requires : tie.Need-write-plain-frame-requires Inv-loop μ-loop
+write-plain-frame-requires c κs =
     let q = entry (c .before .before .before) .pre in
-    (q .0, simp (length-take, length-drop) (omega (arith, room (c .before), written-length (c .before .before .before .loop .inv .1))), q .3, q .2, omega (arith, c .before .if1 .taken), q .4, q .5, q .6)
+    (q .0, simp (length-take, length-drop) (omega (arith, room (c .before), written-length (c .before .before .before .loop .inv .1))), q .3, q .2, omega (arith, c .before .if1 .taken), q .4, q .5)
 
 add-track : tie.Need-add-track Inv-loop μ-loop
 add-track c = search needs
@@ -70,7 +70,7 @@ loop-again c =
     let size = 3 * s .args .plan .words in (
       omega arith,
       rw (frames-more (s .args .plan) (dealt s) (o .track))
-          (written-part (o .track * size) (o .track * size + size - o .track * size) (frame (s .args .plan) (dealt s) (o .track)) (o .inv .1) (omega arith) (frame-count (s .args .plan) (dealt s) (o .track) (s .pre .0)) (omega arith) (omega arith) (omega arith) (c .before .before .write-frame .ensures)),
+          (written-part (o .track * size) (o .track * size + size - o .track * size) (frame (s .args .plan) (dealt s) (o .track)) (o .inv .1) (omega arith) (frame-count (s .args .plan) (dealt s) (o .track) (s .pre .0)) (omega arith) (omega arith) (omega arith) (c .before .before .write-plain-frame .ensures)),
     )
 
 same-length : tie.Need-same-length Inv-loop μ-loop
@@ -82,8 +82,8 @@ returns c =
     let e : c .before .before .loop .track ≡ s .args .plan .tracks = omega arith in
     written-is (c .before .before .loop .inv .1) (frames-all (s .args .plan) (dealt s) (c .before .before .loop .track) e) (ap (λ n. n * s .args .plan .words) e)
 
-pub write-group-spec : {M : Type 1} → statement M
-write-group-spec =
+pub write-plain-group-spec : {M : Type 1} → statement M
+write-plain-group-spec =
     tie.close
     (tie.spec
     Inv-loop
@@ -92,10 +92,10 @@ write-group-spec =
     loop-holds
     mul-start
     add-end
-    sub-write-frame
-    part-write-frame-start
-    part-write-frame-end
-    write-frame-requires
+    sub-write-plain-frame
+    part-write-plain-frame-start
+    part-write-plain-frame-end
+    write-plain-frame-requires
     add-track
     loop-less
     loop-again
