@@ -22,10 +22,10 @@ use Rattle.format.specs.Laws.Lists.{length-list}
 use Rattle.format.specs.Laws.Legal.{Legal, legal-is}
 use Rattle.group.specs.Shape.{Shape}
 use Rattle.walking.specs.declared.Outcome.{Outcome}
-use Rattle.walking.specs.Fills.{told}
+use Rattle.walking.specs.Misplaced.{told}
 use Rattle.walking.specs.Groups.{groupsOn}
 use Rattle.walking.specs.End.{Logged, Ended}
-use Rattle.walking.proofs.Fills.{told-none, told-found}
+use Rattle.walking.proofs.Misplaced.{told-none, told-found}
 use Rattle.readings.specs.ReadGiven.{timesNeeded, earlier, roomNumber, Built, Given}
 
 pub given-refused : {g : Reading} {r : Answer} {number place : ℕ} (log times : List ℕ) → g ≡ refuses number place → r ≡ refusal number place → Given g r log log times times

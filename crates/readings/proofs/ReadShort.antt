@@ -25,7 +25,7 @@ use Rattle.format.specs.Laws.Log.Sizes.{bits-low, items-low, fields-length}
 use Rattle.format.specs.Laws.Accepted.Faultless.{accepted-parts}
 use Rattle.group.specs.Shape.{Shape}
 use Rattle.readings.specs.ReadGiven.{Enough}
-use Rattle.walking.proofs.Fills.{yes-or-no}
+use Rattle.taking.proofs.Items.{yes-or-no}
 use Rattle.taking.proofs.Slots.{slots-few}
 use Rattle.readings.proofs.ReadGiven.{whole-groups}
 

@@ -38,7 +38,8 @@ use Rattle.taking.specs.Taken.{Unfilled, Went, Ended, Takes}
 use Rattle.reader.proofs.Going.{half-goes-on, tag-begins, tag-goes-on}
 use Rattle.taking.proofs.Slots.{slots-next, bus-low, label-low, info-low, fill-label}
 
-yes-or-no : {A : Type 0} (b : Bool) → (b ≡ true → A) → (b ≡ false → A) → A
+-- a yes or a no
+pub yes-or-no : {A : Type 0} (b : Bool) → (b ≡ true → A) → (b ≡ false → A) → A
 yes-or-no true f g = f refl
 yes-or-no false f g = g refl
 

@@ -18,17 +18,17 @@ use Rattle.format.specs.Laws.Lists.{flatMap-append}
 use Rattle.reader.specs.declared.Step.{Step}
 use Rattle.reader.specs.Holding.{heldOf}
 use Rattle.reader.specs.Meaning.{Brings, Closes}
-use Rattle.walking.specs.declared.slot.Pass.{Pass}
-use Rattle.walking.specs.declared.fill.Fills.{Fills}
+use Rattle.dataslots.specs.declared.Pass.{Pass}
+use Rattle.dataslots.specs.declared.fill.Fills.{Fills}
 use Rattle.walking.specs.declared.Walk.{Walk}
-use Rattle.walking.specs.Fills.{told}
+use Rattle.walking.specs.Misplaced.{told}
 use Rattle.pen.specs.Pen.{closedIn, closedSize, Wrote}
 use Rattle.pen.proofs.Writing.{wrote-none, closed-size, closed-long, closed-log}
-use Rattle.walking.specs.Pass.{Strings, stepPen, stepOut}
+use Rattle.dataslots.specs.Pass.{Strings, stepPen, stepOut}
 use Rattle.walking.specs.Groups.{groupsOn, Through, Walked}
 use Rattle.walking.specs.End.{Ended}
-use Rattle.walking.proofs.Fills.{fills-say-misplaced}
-use Rattle.walking.proofs.Pass.{step-bits, step-wrote}
+use Rattle.walking.proofs.Misplaced.{fills-say-misplaced}
+use Rattle.dataslots.proofs.OneSlot.{step-bits, step-wrote}
 
 -- ---- the cut item
 

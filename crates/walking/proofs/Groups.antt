@@ -24,11 +24,12 @@ use Rattle.group.specs.Faults.{faultOf}
 use Rattle.group.proofs.ReadingNumbers.{number-none, number-found}
 use Rattle.reader.specs.Holding.{flat, heldOf}
 use Rattle.reader.proofs.Meaning.{nothing-is-sane, nothing-is-held}
-use Rattle.walking.specs.declared.slot.Pass.{Pass}
-use Rattle.walking.specs.declared.fill.Fills.{Fills}
-use Rattle.walking.specs.Fills.{noFill, fillsIn, fillsOver}
+use Rattle.dataslots.specs.declared.Pass.{Pass}
+use Rattle.dataslots.specs.declared.fill.Fills.{Fills}
+use Rattle.dataslots.specs.Fills.{fillsIn}
+use Rattle.walking.specs.Misplaced.{noFill, fillsOver}
 use Rattle.pen.specs.Pen.{Wrote}
-use Rattle.walking.specs.Pass.{Brought, RanTo}
+use Rattle.dataslots.specs.Pass.{Brought, RanTo}
 use Rattle.walking.specs.Groups.{startPass, groupsOn, Over, Through}
 
 -- ---- from group to group

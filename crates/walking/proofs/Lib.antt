@@ -1,6 +1,4 @@
 -- The laws of the walk over the groups.
-pub mod Fills
-pub mod Pass
-pub mod Slots
+pub mod Misplaced
 pub mod Groups
 pub mod End

@@ -10,7 +10,7 @@ use Rattle.format.specs.declared.Item.{Item}
 use Rattle.format.specs.declared.Held.the-variants.{Nothing}
 use Rattle.format.specs.declared.Plan.{Plan}
 use Rattle.walking.specs.declared.Outcome.{Outcome}
-use Rattle.walking.specs.Fills.{told}
+use Rattle.walking.specs.Misplaced.{told}
 use Rattle.walking.specs.Groups.{groupsOn}
 
 -- n groups bring items: the length of their log, the log itself if the array has room for it, and the earliest misplaced fill

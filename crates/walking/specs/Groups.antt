@@ -14,10 +14,10 @@ use Rattle.format.specs.declared.Held.the-variants.{Nothing}
 use Rattle.format.specs.declared.Plan.{Plan}
 use Rattle.pen.specs.Pen.{start}
 use Rattle.reader.specs.Holding.{flat, heldOf}
-use Rattle.walking.specs.declared.slot.Pass.{Pass}
+use Rattle.dataslots.specs.declared.Pass.{Pass}
 use Rattle.walking.specs.declared.Walk.{Walk}
-use Rattle.walking.specs.Fills.{noFill, fillsOver}
-use Rattle.walking.specs.Pass.{Brought}
+use Rattle.walking.specs.Misplaced.{noFill, fillsOver}
+use Rattle.dataslots.specs.Pass.{Brought}
 
 -- before the first group
 abbrev pub startPass : Pass

@@ -1,8 +1,5 @@
 // A reading's walk over the groups of a capture (document 01, "Groups" and "Answers by number"): the log of their items and the
 // earliest misplaced fill, or the first refusal from 9 to 13.
-mod fill;
-mod slot;
-
 ghost use mathlib.Core.Path.{_≡_};
 ghost use mathlib.Core.Bool.{true};
 ghost use Prim.Native.Nat.{_*_, _≤_};
@@ -12,10 +9,10 @@ ghost use Rattle.format.specs.Plan.{groupWords, slots};
 ghost use Rattle.group.specs.Shape.{Shape};
 ghost use Rattle.walking.specs.End.{Ended};
 ghost use Rattle.walking.specs.Groups.{startPass, Walked};
-use crate::fill::Fills;
-use crate::slot::Pass;
-use crate::slot::on_group;
-use crate::slot::put_step;
+use dataslots::Pass;
+use dataslots::fill::Fills;
+use dataslots::on_group;
+use dataslots::put_step;
 use format::Kind;
 use format::Plan;
 use group::reading;

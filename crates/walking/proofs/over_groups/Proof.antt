@@ -12,7 +12,7 @@ use Rattle.walking.proofs.over_groups.Tie as tie
 use Rattle.walking.proofs.over_groups.Reads as reads
 use Rattle.walking.proofs.over_groups.Lts as lts
 use Rattle.group.proofs.reading.first_fault.Reads as first-fault-reads
-use Rattle.walking.proofs.slot.on_group.Reads as on-group-reads
+use Rattle.dataslots.proofs.on_group.Reads as on-group-reads
 use Rattle.walking.proofs.start_pass.Reads as start-pass-reads
 
 abbrev Inv-loop : tie.InvT-loop

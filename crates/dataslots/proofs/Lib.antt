@@ -1,0 +1,3 @@
+-- The laws of the data slots of a group.
+pub mod OneSlot
+pub mod Slots
