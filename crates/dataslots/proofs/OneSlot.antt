@@ -15,7 +15,7 @@ use Rattle.format.specs.declared.Held.{Held}
 use Rattle.format.specs.declared.Plan.{Plan}
 use Rattle.format.specs.Laws.Tests.{clash}
 use Rattle.format.specs.Laws.Lists.{flatMap-append}
-use Rattle.reader.specs.declared.Step.{Step}
+use Rattle.starting.specs.declared.Step.{Step}
 use Rattle.reader.specs.Holding.{heldOf, Sane}
 use Rattle.reader.specs.Step.{stepOf}
 use Rattle.reader.specs.Meaning.{Means, Brings}

@@ -10,7 +10,7 @@ use Rattle.format.specs.Reader.{Slot, Ran, badAt, ran, run, more, feed, since}
 use Rattle.format.specs.declared.Kind.{Kind}
 use Rattle.format.specs.declared.Item.{Item}
 use Rattle.format.specs.declared.Plan.{Plan}
-use Rattle.reader.specs.declared.Step.{Step}
+use Rattle.starting.specs.declared.Step.{Step}
 use Rattle.reader.specs.Holding.{heldOf, Sane}
 use Rattle.reader.specs.Step.{stepOf}
 use Rattle.format.specs.Plan.{lead, slots}

@@ -10,9 +10,11 @@ use Rattle.format.specs.Read.{finish}
 use Rattle.format.specs.declared.Base.the-variants as base
 use Rattle.format.specs.declared.Held.{Held}
 use Rattle.format.specs.declared.Held.the-variants.{Nothing, Taggable, Half, TagHigh, TagLow, Answering}
-use Rattle.reader.specs.declared.Holding.{Holding}
-use Rattle.reader.specs.Holding.{flat, heldOf, Fits, Sane, numberOf, untagged}
-use Rattle.reader.specs.Step.{refusal, ended, baseWidth, closing}
+use Rattle.starting.specs.declared.Holding.{Holding}
+use Rattle.starting.specs.Holding.{flat, numberOf, untagged}
+use Rattle.reader.specs.Holding.{heldOf, Fits, Sane}
+use Rattle.starting.specs.Step.{refusal, ended}
+use Rattle.reader.specs.Step.{baseWidth, closing}
 use Rattle.format.specs.Laws.Tests.{bit-low}
 use Rattle.reader.proofs.Flat.{sane-ind}
 

@@ -12,9 +12,10 @@ use Rattle.format.specs.declared.Base.{Base}
 use Rattle.format.specs.declared.Base.the-variants as base
 use Rattle.format.specs.declared.Held.{Held}
 use Rattle.format.specs.declared.Held.the-variants.{Nothing, Taggable, Half, TagHigh, TagLow, Answering}
-use Rattle.reader.specs.declared.Holding.{Holding}
-use Rattle.reader.specs.Holding.{flat, heldOf, baseOf, Fits, BaseFits, Sane, numberOf, untagged}
-use Rattle.reader.specs.Step.{ended}
+use Rattle.starting.specs.declared.Holding.{Holding}
+use Rattle.starting.specs.Holding.{flat, numberOf, untagged}
+use Rattle.reader.specs.Holding.{heldOf, baseOf, Fits, BaseFits, Sane}
+use Rattle.starting.specs.Step.{ended}
 
 pub base-bus-small : (x : Base) → BaseFits x → baseBus x < 16
 base-bus-small (base.Command bus b word) f = f .0

@@ -1,8 +1,5 @@
 -- Laws over plain numbers and lists; `Meaning` has those that a caller cites.
-pub mod Labels
 pub mod Flat
-pub mod Starting
-pub mod Openers
 pub mod Going
 pub mod Unawaited
 pub mod Ending

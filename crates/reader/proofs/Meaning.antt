@@ -15,8 +15,9 @@ use Rattle.format.specs.declared.Held.the-variants.{Nothing, Taggable, Half, Ta
 use Rattle.format.specs.Read.{Got, got, stopped, finish}
 use Rattle.format.specs.Reader.{withTag}
 use Rattle.format.specs.declared.Tag.the-variants.{Untagged}
-use Rattle.reader.specs.declared.Holding.{Holding}
-use Rattle.reader.specs.Holding.{flat, heldOf, Sane, Fits, numberOf, widthOf}
+use Rattle.starting.specs.declared.Holding.{Holding}
+use Rattle.starting.specs.Holding.{flat, numberOf, widthOf}
+use Rattle.reader.specs.Holding.{heldOf, Sane, Fits}
 use Rattle.reader.specs.Step.{cut, stepOf, closing}
 use Rattle.reader.specs.Meaning.{Brings, Means, Closes}
 use Rattle.format.specs.Laws.Log.Fields.{Narrow}

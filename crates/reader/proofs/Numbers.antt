@@ -11,7 +11,7 @@ use Rattle.format.specs.Laws.Bits.{bits-cat}
 use Rattle.format.specs.Laws.Log.Fields.{Narrow}
 use Rattle.format.specs.Item.{Field, itemFields, itemBits}
 use Rattle.format.specs.declared.Item.{Item}
-use Rattle.reader.specs.Holding.{numberOf, widthOf}
+use Rattle.starting.specs.Holding.{numberOf, widthOf}
 
 unfoldable pub fieldBits : List Field → List ℕ
 fieldBits [] = []

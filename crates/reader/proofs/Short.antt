@@ -19,10 +19,11 @@ use Rattle.format.specs.declared.Base.{Base}
 use Rattle.format.specs.declared.Base.the-variants as base
 use Rattle.format.specs.declared.Held.{Held}
 use Rattle.format.specs.declared.Held.the-variants.{Nothing, Taggable, Half, TagHigh, TagLow, Answering}
-use Rattle.reader.specs.Holding.{Fits, BaseFits, widthOf}
+use Rattle.starting.specs.Holding.{widthOf}
+use Rattle.reader.specs.Holding.{Fits, BaseFits}
 use Rattle.reader.specs.Step.{cut}
 use Rattle.format.specs.Laws.Tests.{and-true, bit-low}
-use Rattle.reader.proofs.Labels.{lower, upper}
+use Rattle.starting.proofs.Labels.{lower, upper}
 use Rattle.format.specs.Laws.Log.Fields.{Narrow}
 
 abbrev pub Short : Held → Fed → Type 0

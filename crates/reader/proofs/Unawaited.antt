@@ -15,10 +15,12 @@ use Rattle.format.specs.declared.Base.{Base}
 use Rattle.format.specs.declared.Base.the-variants as base
 use Rattle.format.specs.declared.Held.{Held}
 use Rattle.format.specs.declared.Held.the-variants.{Nothing, Taggable, Half, TagHigh, TagLow, Answering}
-use Rattle.reader.specs.declared.Holding.{Holding}
-use Rattle.reader.specs.Holding.{flat, heldOf, Fits, BaseFits, Sane, numberOf, untagged}
-use Rattle.reader.specs.Step.{refusal, ended, begun, stepOf, baseWidth}
-use Rattle.reader.proofs.Labels.{lower, upper}
+use Rattle.starting.specs.declared.Holding.{Holding}
+use Rattle.starting.specs.Holding.{flat, numberOf, untagged}
+use Rattle.reader.specs.Holding.{heldOf, Fits, BaseFits, Sane}
+use Rattle.starting.specs.Step.{refusal, ended, begun}
+use Rattle.reader.specs.Step.{stepOf, baseWidth}
+use Rattle.starting.proofs.Labels.{lower, upper}
 use Rattle.format.specs.Laws.Tests.{bit-low}
 use Rattle.reader.proofs.Flat.{base-bus-small, sane-ind, ends-both}
 

@@ -1,5 +1,4 @@
--- What is held as three numbers, and what a word brings as two strings of log bits.
+-- What three numbers hold, what a word brings to it, and what that means to a caller.
 pub mod Holding
 pub mod Step
 pub mod Meaning
-pub mod Opening

@@ -10,7 +10,7 @@ use Rattle.format.specs.Read.{Got, got, stopped}
 use Rattle.format.specs.declared.Item.{Item}
 use Rattle.format.specs.declared.Held.{Held}
 use Rattle.format.specs.declared.Held.the-variants.{Nothing}
-use Rattle.reader.specs.declared.Step.{Step}
+use Rattle.starting.specs.declared.Step.{Step}
 use Rattle.reader.specs.Holding.{heldOf, Sane}
 
 -- the items that are finished are the bits of the two strings, and h is held

@@ -13,13 +13,15 @@ use Rattle.format.specs.declared.Held.the-variants.{Nothing}
 use Rattle.format.specs.declared.Plan.{Plan}
 use Rattle.group.specs.declared.reading.Position.{Position}
 use Rattle.group.specs.Position.{positionOf}
-use Rattle.reader.specs.declared.Holding.{Holding}
-use Rattle.reader.specs.declared.Step.{Step}
-use Rattle.reader.specs.Holding.{flat, heldOf, Sane}
-use Rattle.reader.specs.Opening.{opens, singleOf}
-use Rattle.reader.specs.Step.{begun, holding, stepOf}
-use Rattle.reader.proofs.Openers.{Says, opens-says}
-use Rattle.reader.proofs.Starting.{command-is-held, high-syllable-is-held, notice-ends, response-is-held}
+use Rattle.starting.specs.declared.Holding.{Holding}
+use Rattle.starting.specs.declared.Step.{Step}
+use Rattle.starting.specs.Holding.{flat}
+use Rattle.reader.specs.Holding.{heldOf, Sane}
+use Rattle.starting.specs.Opening.{opens, singleOf}
+use Rattle.starting.specs.Step.{begun, holding}
+use Rattle.reader.specs.Step.{stepOf}
+use Rattle.starting.proofs.Openers.{Says, opens-says}
+use Rattle.starting.proofs.Begun.{command-is-held, high-syllable-is-held, notice-ends, response-is-held}
 use Rattle.taking.specs.Slots.{Ahead, placeIn, topOf, wordIn}
 use Rattle.taking.specs.Taken.{Opened, Takes, Went}
 use Rattle.taking.proofs.Items.{Fedby, Still, begin-fill, begin-is, begin-sane, begin-widths, fed-at, half-still, other-label, still, takes-some, went-end, went-more, went-none}

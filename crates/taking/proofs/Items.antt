@@ -25,10 +25,12 @@ use Rattle.format.specs.declared.Plan.{Plan}
 use Rattle.format.specs.Laws.Tests.{and-true, clash}
 use Rattle.format.specs.Lists.{list}
 use Rattle.format.specs.Laws.Lists.{flatMap-append, getD-list}
-use Rattle.reader.specs.declared.Holding.{Holding}
-use Rattle.reader.specs.declared.Step.{Step}
-use Rattle.reader.specs.Holding.{flat, heldOf, Sane}
-use Rattle.reader.specs.Step.{stepOf, begun, closing, holding}
+use Rattle.starting.specs.declared.Holding.{Holding}
+use Rattle.starting.specs.declared.Step.{Step}
+use Rattle.starting.specs.Holding.{flat}
+use Rattle.reader.specs.Holding.{heldOf, Sane}
+use Rattle.starting.specs.Step.{begun, holding}
+use Rattle.reader.specs.Step.{stepOf, closing}
 use Rattle.reader.specs.Meaning.{Means, Brings, Closes}
 use Rattle.reader.proofs.Meaning.{feed-means, finish-means, nothing-is-held, nothing-is-sane}
 use Rattle.taking.specs.Slots.{placeIn, wordIn, slotsOn, topOf}

@@ -17,7 +17,7 @@ use Rattle.format.specs.declared.Held.the-variants.{Nothing}
 use Rattle.format.specs.declared.Plan.{Plan}
 use Rattle.format.specs.Laws.Bits.{bits-cat}
 use Rattle.format.specs.Laws.Lists.{flatMap-append}
-use Rattle.reader.specs.declared.Step.{Step}
+use Rattle.starting.specs.declared.Step.{Step}
 use Rattle.pen.specs.declared.Pen.{Pen}
 use Rattle.pen.specs.Pen.{Wrote, penIn, penPut}
 use Rattle.pen.proofs.Writing.{put-bits, put-long, wrote-more}

@@ -13,10 +13,10 @@ use Rattle.format.specs.declared.Kind.{Kind}
 use Rattle.format.specs.declared.Item.{Item}
 use Rattle.format.specs.declared.Held.the-variants.{Nothing}
 use Rattle.format.specs.declared.Plan.{Plan}
-use Rattle.reader.specs.declared.Holding.{Holding}
-use Rattle.reader.specs.declared.Step.{Step}
+use Rattle.starting.specs.declared.Holding.{Holding}
+use Rattle.starting.specs.declared.Step.{Step}
 use Rattle.reader.specs.Holding.{heldOf, Sane}
-use Rattle.reader.specs.Opening.{opens}
+use Rattle.starting.specs.Opening.{opens}
 use Rattle.group.specs.Position.{positionOf}
 use Rattle.pen.specs.declared.Pen.{Pen}
 use Rattle.pen.specs.Pen.{Wrote}

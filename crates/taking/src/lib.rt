@@ -11,7 +11,7 @@ ghost use Rattle.format.specs.Bits.{bitsOf};
 ghost use Rattle.format.specs.Plan.{kindOn, slots};
 ghost use Rattle.taking.specs.Slots.{Ahead, placeIn, topOf, wordIn};
 ghost use Rattle.reader.specs.Holding.{Sane};
-ghost use Rattle.reader.specs.Opening.{opens};
+ghost use Rattle.starting.specs.Opening.{opens};
 ghost use Rattle.taking.specs.Taken.{Opened, Puts, Short, Takes, Took, Went};
 use format::Kind;
 use format::Plan;
@@ -214,7 +214,7 @@ fn begun_at(
 {
     let next = reading::next_slot(plan, at);
     if opening == 1 {
-        let command = reader::command(0, 0, top / 16, top % 16, word % 65536);
+        let command = starting::command(0, 0, top / 16, top % 16, word % 65536);
         let held = command.held;
         return Begun {
             held: held,
@@ -223,7 +223,7 @@ fn begun_at(
             last: at.place,
         };
     }
-    let high = reader::syllable(0, 0, top / 16, top % 16, word % 65536);
+    let high = starting::syllable(0, 0, top / 16, top % 16, word % 65536);
     with_low(plan, capture, high.held, top, group, slot + 1, next)
 }
 
@@ -282,7 +282,7 @@ fn status_at(
     if 10000 <= word % 65536 {
         return none(at);
     }
-    let time = reader::response(0, 0, top / 16, word % 65536);
+    let time = starting::response(0, 0, top / 16, word % 65536);
     let next = reading::next_slot(plan, at);
     answered(plan, capture, time.held, group, slot + 1, next)
 }
@@ -317,9 +317,9 @@ fn item_at(
         return status_at(plan, capture, group, slot, at, word, top);
     }
     if opening == 4 {
-        if reader::is_pair(word % 65536) {
+        if starting::is_pair(word % 65536) {
             return Whole {
-                step: reader::notice(0, 0, top / 16, word % 65536),
+                step: starting::notice(0, 0, top / 16, word % 65536),
                 slots: 1,
                 at: reading::next_slot(plan, at),
                 last: at.place,
@@ -356,7 +356,7 @@ pub fn take(
     requires { ⌜ Ahead plan (now capture) group (from .slot) 0 (from .at) × (count ≡ slots plan) × (from .pen .bits < 2 ^ 59) ⌝ }
     ensures { λ r. ⌜ Took kinds plan (now (capture .entry)) group from (now (out .entry)) r (now (out .exit)) ⌝ }
 {
-    let openings = reader::openings();
+    let openings = starting::openings();
     let mut slot = from.slot;
     let mut at = from.at;
     let mut last = from.last;
@@ -364,9 +364,9 @@ pub fn take(
     while slot + 5 <= count {
         let word = word_of(plan, capture, group, slot, at);
         let top = top_of(plan.parity, word);
-        let opening = reader::opening(&openings, kinds[(top / 16) as usize], top % 16);
+        let opening = starting::opening(&openings, kinds[(top / 16) as usize], top % 16);
         if 8 <= opening {
-            let item = reader::single(opening, top / 16, word % 65536);
+            let item = starting::single(opening, top / 16, word % 65536);
             pen = pen.put(out, item.second, item.second_width);
             slot += 1;
             last = at.place;

@@ -15,7 +15,7 @@ use Rattle.format.specs.declared.Held.the-variants.{Nothing, Taggable, Half, Ta
 use Rattle.format.specs.declared.Plan.{Plan}
 use Rattle.format.specs.Laws.Tests.{clash}
 use Rattle.format.specs.Laws.Lists.{flatMap-append}
-use Rattle.reader.specs.declared.Step.{Step}
+use Rattle.starting.specs.declared.Step.{Step}
 use Rattle.reader.specs.Holding.{heldOf}
 use Rattle.reader.specs.Meaning.{Brings, Closes}
 use Rattle.dataslots.specs.declared.Pass.{Pass}

@@ -22,7 +22,8 @@ use Rattle.format.specs.Laws.Lists.{flatMap-append}
 use Rattle.group.specs.declared.reading.Fault.{Fault as Found}
 use Rattle.group.specs.Faults.{faultOf}
 use Rattle.group.proofs.ReadingNumbers.{number-none, number-found}
-use Rattle.reader.specs.Holding.{flat, heldOf}
+use Rattle.starting.specs.Holding.{flat}
+use Rattle.reader.specs.Holding.{heldOf}
 use Rattle.reader.proofs.Meaning.{nothing-is-sane, nothing-is-held}
 use Rattle.dataslots.specs.declared.Pass.{Pass}
 use Rattle.dataslots.specs.declared.fill.Fills.{Fills}

@@ -13,7 +13,8 @@ use Rattle.format.specs.declared.Item.{Item}
 use Rattle.format.specs.declared.Held.the-variants.{Nothing}
 use Rattle.format.specs.declared.Plan.{Plan}
 use Rattle.pen.specs.Pen.{start}
-use Rattle.reader.specs.Holding.{flat, heldOf}
+use Rattle.starting.specs.Holding.{flat}
+use Rattle.reader.specs.Holding.{heldOf}
 use Rattle.dataslots.specs.declared.Pass.{Pass}
 use Rattle.walking.specs.declared.Walk.{Walk}
 use Rattle.walking.specs.Misplaced.{noFill, fillsOver}

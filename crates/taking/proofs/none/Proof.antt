@@ -5,7 +5,7 @@ use Rattle.taking.proofs.none.Tie as tie
 use Rattle.taking.proofs.none.Reads as reads
 use Rattle.taking.proofs.none.Lts as lts
 use Rattle.reader.proofs.finish.Reads as finish-reads
-use Rattle.reader.proofs.nothing.Reads as nothing-reads
+use Rattle.starting.proofs.nothing.Reads as nothing-reads
 
 -- src/lib.rt:51:30
 nothing-requires : tie.Need-nothing-requires

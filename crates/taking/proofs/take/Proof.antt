@@ -2,8 +2,8 @@ use Rattle.taking.proofs.Taking.{item-short, put-puts, single-puts, too
 use Rattle.taking.proofs.Slots.{ahead-small, bus-is, dealt, next-here, pos}
 use Rattle.taking.proofs.First.{opened-says, single-takes}
 use Rattle.taking.specs.Taken.{Took}
-use Rattle.reader.specs.Opening.{opens}
-use Rattle.reader.specs.declared.Step.{Step}
+use Rattle.starting.specs.Opening.{opens}
+use Rattle.starting.specs.declared.Step.{Step}
 use Rattle.format.specs.Plan.{kindOn}
 use mathlib.Core.Path.{refl, ap, _∙_}
 use native.Mathlib.Omega.{arith}

@@ -5,7 +5,7 @@ use Rattle.walking.proofs.start_pass.Tie as tie
 use Rattle.walking.proofs.start_pass.Reads as reads
 use Rattle.walking.proofs.start_pass.Lts as lts
 use Rattle.pen.proofs.Pen.start.Reads as start-reads
-use Rattle.reader.proofs.nothing.Reads as nothing-reads
+use Rattle.starting.proofs.nothing.Reads as nothing-reads
 
 nothing-requires : tie.Need-nothing-requires
 nothing-requires c κs = search needs
