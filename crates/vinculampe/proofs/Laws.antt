@@ -6,5 +6,4 @@ pub use Rattle.format.specs.Laws.Log.Forth.{log-forth}
 pub use Rattle.format.specs.Laws.Tests.{and-true}
 pub use Rattle.format.specs.Laws.Word.Bytes.{all-bytes}
 pub use Rattle.composing.proofs.ComposeAnswer.{times-wrong}
-pub use Rattle.readings.proofs.ReadFront.{Front, front-none, front-long, front-more, list-none, take-more}
 pub use Rattle.readings.proofs.ReadGiven.{times-few}

@@ -21,7 +21,7 @@ use Rattle.format.specs.declared.Held.the-variants.{Nothing}
 use Rattle.format.specs.declared.Kind.{Kind}
 use Rattle.format.specs.declared.Plan.{Plan}
 use Rattle.readings.specs.ReadGiven.{Given, timesNeeded}
-use Rattle.vinculampe.specs.Numbers.{timeBytes}
+use Rattle.handed.specs.Numbers.{timeBytes}
 use Rattle.vinculampe.specs.Interface.{GivenBytes}
 use Rattle.vinculampe.proofs.Laws.{Legal, legal-is, and-true, length-list, times-few}
 

@@ -1,3 +1,2 @@
 -- What the C interface answers, from numbers and byte runs.
-pub mod Numbers
 pub mod Interface

@@ -9,18 +9,15 @@ ghost use Rattle.format.specs.Answer.{composeAnswer, outAfter, refusal};
 ghost use Rattle.format.specs.Read.{reading};
 ghost use Rattle.readings.specs.ReadGiven.{Given};
 ghost use Rattle.vinculampe.specs.Interface.{composedBytes, composedFrom, GivenBytes, readingFrom};
-use crate::numbers::kinds_from;
-use crate::numbers::named;
-use crate::numbers::plan_from;
-use crate::numbers::put_times;
-use crate::numbers::times_from;
+pub use composing::compose;
 use format::Answer;
 use format::Kind;
 use format::Plan;
-
-mod numbers;
-
-pub use composing::compose;
+use handed::kinds_from;
+use handed::named;
+use handed::plan_from;
+use handed::put_times;
+use handed::times_from;
 pub use readings::read;
 pub use readings::read_closed;
 

@@ -1,6 +1,7 @@
 use mathlib.Core.Path.{refl, sym, _∙_}
 use lib.ListN.{length}
-use Rattle.vinculampe.proofs.NamedKinds.{read-named, read-unnamed, sixteen}
+use Rattle.handed.proofs.NamedKinds.{sixteen}
+use Rattle.vinculampe.proofs.NamedKinds.{read-named, read-unnamed}
 use borrow.Author.Needs.{needs}
 use Rattle.vinculampe.proofs.read_numbers.Statement.{statement}
 use Rattle.vinculampe.proofs.read_numbers.Tie as tie

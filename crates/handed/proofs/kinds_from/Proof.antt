@@ -5,10 +5,10 @@ use native.Mathlib.Omega.{arith}
 use native.Mathlib.Numerals.{add-one}
 use lib.ListN.{length, length-set, take}
 use lib.Seq.{take-suc, take-suc-set, take-all}
-use Rattle.vinculampe.specs.Numbers.{kindOf}
+use Rattle.handed.specs.Numbers.{kindOf}
 use borrow.Author.Needs.{needs}
-use Rattle.vinculampe.proofs.numbers.kinds_from.Statement.{statement}
-use Rattle.vinculampe.proofs.numbers.kinds_from.Tie as tie
+use Rattle.handed.proofs.kinds_from.Statement.{statement}
+use Rattle.handed.proofs.kinds_from.Tie as tie
 
 abbrev Inv-loop : tie.InvT-loop
 Inv-loop numbers kinds₀ bus₀ kinds bus = (bus ≤ 16) × (length kinds ≡ 16) × (take bus kinds ≡ map kindOf (take bus numbers))

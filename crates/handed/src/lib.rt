@@ -5,7 +5,7 @@ ghost use mathlib.Core.List.{_++_, flatMap, map};
 ghost use Prim.Native.Nat.{_+_, _*_, _<_, _≤_};
 ghost use lib.ListN.{drop, length, take};
 ghost use Rattle.format.specs.Answer.{over};
-ghost use Rattle.vinculampe.specs.Numbers.{areKinds, halfAt, kindOf, named, planFrom, timeAt, timeBytes, timesFrom};
+ghost use Rattle.handed.specs.Numbers.{areKinds, halfAt, kindOf, named, planFrom, timeAt, timeBytes, timesFrom};
 use format::Kind;
 use format::Plan;
 

@@ -5,12 +5,12 @@ use native.Mathlib.Omega.{arith}
 use lib.ListN.{length, length-drop, take, drop}
 use lib.Seq.{length-take-le}
 use Rattle.format.specs.Answer.{over}
-use Rattle.vinculampe.specs.Numbers.{timeBytes}
-use Rattle.vinculampe.proofs.Times.{front-over, times-more}
-use Rattle.vinculampe.proofs.Laws.{Front, front-none, front-long}
+use Rattle.handed.specs.Numbers.{timeBytes}
+use Rattle.handed.proofs.Times.{front-over, times-more}
+use Rattle.format.specs.Laws.Front.{Front, front-none, front-long}
 use borrow.Author.Needs.{needs}
-use Rattle.vinculampe.proofs.numbers.put_times.Statement.{statement}
-use Rattle.vinculampe.proofs.numbers.put_times.Tie as tie
+use Rattle.handed.proofs.put_times.Statement.{statement}
+use Rattle.handed.proofs.put_times.Tie as tie
 
 abbrev Inv-loop : tie.InvT-loop
 Inv-loop row number bytes₀ index₀ bytes index = (index ≤ number) × (number ≤ length row) × (8 * number ≤ length bytes₀) × Front (flatMap timeBytes (take index row)) bytes₀ bytes (8 * index)

@@ -1,7 +1,7 @@
-use Rattle.vinculampe.specs.Numbers.{halfAt}
+use Rattle.handed.specs.Numbers.{halfAt}
 use borrow.Author.Needs.{needs}
-use Rattle.vinculampe.proofs.numbers.half_at.Statement.{statement}
-use Rattle.vinculampe.proofs.numbers.half_at.Tie as tie
+use Rattle.handed.proofs.half_at.Statement.{statement}
+use Rattle.handed.proofs.half_at.Tie as tie
 
 shared-slice-read-wide : tie.Need-shared-slice-read-wide
 shared-slice-read-wide c = search needs

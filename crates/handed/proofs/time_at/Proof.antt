@@ -1,7 +1,7 @@
-use Rattle.vinculampe.specs.Numbers.{timeAt}
+use Rattle.handed.specs.Numbers.{timeAt}
 use borrow.Author.Needs.{needs}
-use Rattle.vinculampe.proofs.numbers.time_at.Statement.{statement}
-use Rattle.vinculampe.proofs.numbers.time_at.Tie as tie
+use Rattle.handed.proofs.time_at.Statement.{statement}
+use Rattle.handed.proofs.time_at.Tie as tie
 
 half-at-requires : tie.Need-half-at-requires
 half-at-requires c κs = search needs

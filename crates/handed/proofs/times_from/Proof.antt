@@ -4,12 +4,13 @@ use native.Mathlib.Omega.{arith}
 use lib.ListN.{length}
 use Rattle.format.specs.Answer.{over}
 use Rattle.format.specs.Lists.{list}
-use Rattle.vinculampe.specs.Numbers.{timeAt}
-use Rattle.vinculampe.proofs.Times.{front-over}
-use Rattle.vinculampe.proofs.Laws.{Front, front-none, front-long, front-more, list-more}
+use Rattle.handed.specs.Numbers.{timeAt}
+use Rattle.handed.proofs.Times.{front-over}
+use Rattle.format.specs.Laws.Front.{Front, front-none, front-long, front-more}
+use Rattle.format.specs.Laws.Lists.{list-more}
 use borrow.Author.Needs.{needs}
-use Rattle.vinculampe.proofs.numbers.times_from.Statement.{statement}
-use Rattle.vinculampe.proofs.numbers.times_from.Tie as tie
+use Rattle.handed.proofs.times_from.Statement.{statement}
+use Rattle.handed.proofs.times_from.Tie as tie
 
 abbrev Inv-loop : tie.InvT-loop
 Inv-loop bytes row₀ number index₀ row index = (index ≤ number) × (number ≡ length bytes / 8) × (length bytes ≤ 8 * length row₀) × Front (list (λ k. timeAt bytes (8 * k)) 0 index) row₀ row index

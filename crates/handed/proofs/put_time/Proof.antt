@@ -1,10 +1,10 @@
 use native.Mathlib.Omega.{arith}
 use lib.ListN.{length-set}
-use Rattle.vinculampe.specs.Numbers.{timeBytes}
-use Rattle.vinculampe.proofs.Times.{eight-set}
+use Rattle.handed.specs.Numbers.{timeBytes}
+use Rattle.handed.proofs.Times.{eight-set}
 use borrow.Author.Needs.{needs}
-use Rattle.vinculampe.proofs.numbers.put_time.Statement.{statement}
-use Rattle.vinculampe.proofs.numbers.put_time.Tie as tie
+use Rattle.handed.proofs.put_time.Statement.{statement}
+use Rattle.handed.proofs.put_time.Tie as tie
 
 cast-bytes : tie.Need-cast-bytes
 cast-bytes c = search needs

@@ -1,7 +1,7 @@
 use borrow.Author.Tests.{le-leb, lt-leb, eq-eqb, ne-eqb}
 use borrow.Author.Needs.{needs}
-use Rattle.vinculampe.proofs.numbers.named.Statement.{statement}
-use Rattle.vinculampe.proofs.numbers.named.Tie as tie
+use Rattle.handed.proofs.named.Statement.{statement}
+use Rattle.handed.proofs.named.Tie as tie
 
 returns : tie.Need-returns
 returns c = simp (lt-leb _ _ (c .if1 .taken))

@@ -1,14 +1,15 @@
 -- Times as eight bytes each, put one behind the other.
-use Prim.Native.Nat.{ℕ, zero, suc, _+_, _*_, _/_, _%_, _^_, _≤_, _<_}
+use Prim.Native.Nat.{ℕ, _+_, _*_, _/_, _≤_, _<_}
 use native.Mathlib.Omega.{arith}
 use mathlib.Core.Path.{_≡_, refl, sym, ap, _∙_}
 use mathlib.Core.List.{List, [], _∷_, _++_, append-assoc, flatMap}
-use lib.ListN.{length, take, drop, set, getD, length-append, length-drop, take-append-drop}
-use lib.Seq.{take-at, drop-at, drop-drop, drop-append-le, length-take-le}
+use lib.ListN.{length, take, drop, set, getD, length-append}
+use lib.Seq.{take-at, drop-at, drop-drop}
 use borrow.Rule.Slice.PartMut.{putMid}
 use Rattle.format.specs.Answer.{over}
-use Rattle.vinculampe.specs.Numbers.{timeBytes, timesFrom}
-use Rattle.vinculampe.proofs.Laws.{Front, flatMap-append, length-list, take-more}
+use Rattle.handed.specs.Numbers.{timeBytes, timesFrom}
+use Rattle.format.specs.Laws.Front.{Front, take-more}
+use Rattle.format.specs.Laws.Lists.{flatMap-append, length-list}
 
 pub eight-set : (a b c d e f g h : ℕ) (s : List ℕ) → length s ≡ 8 → set (set (set (set (set (set (set (set s 0 a) 1 b) 2 c) 3 d) 4 e) 5 f) 6 g) 7 h ≡ a ∷ b ∷ c ∷ d ∷ e ∷ f ∷ g ∷ h ∷ []
 eight-set a b c d e f g h (x0 ∷ x1 ∷ x2 ∷ x3 ∷ x4 ∷ x5 ∷ x6 ∷ x7 ∷ []) z = refl

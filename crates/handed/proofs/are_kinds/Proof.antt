@@ -2,11 +2,11 @@ use Prim.Native.Nat.{_-_, _≤_}
 use mathlib.Core.Path.{_≡_, refl, sym, _∙_}
 use native.Mathlib.Omega.{arith}
 use lib.ListN.{length, drop}
-use Rattle.vinculampe.specs.Numbers.{areKinds}
-use Rattle.vinculampe.proofs.NamedKinds.{kind-bad, kind-good, kinds-end}
+use Rattle.handed.specs.Numbers.{areKinds}
+use Rattle.handed.proofs.NamedKinds.{kind-bad, kind-good, kinds-end}
 use borrow.Author.Needs.{needs}
-use Rattle.vinculampe.proofs.numbers.are_kinds.Statement.{statement}
-use Rattle.vinculampe.proofs.numbers.are_kinds.Tie as tie
+use Rattle.handed.proofs.are_kinds.Statement.{statement}
+use Rattle.handed.proofs.are_kinds.Tie as tie
 
 abbrev Inv-loop : tie.InvT-loop
 Inv-loop kinds bus₀ bus = (bus ≤ length kinds) × (areKinds kinds ≡ areKinds (drop bus kinds))

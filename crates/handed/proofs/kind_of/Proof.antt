@@ -1,6 +1,6 @@
 use borrow.Author.Tests.{ne-eqb}
-use Rattle.vinculampe.proofs.numbers.kind_of.Statement.{statement}
-use Rattle.vinculampe.proofs.numbers.kind_of.Tie as tie
+use Rattle.handed.proofs.kind_of.Statement.{statement}
+use Rattle.handed.proofs.kind_of.Tie as tie
 
 returns : tie.Need-returns
 returns c = rw (c .match .keys1)

@@ -1,0 +1,3 @@
+-- Laws over plain numbers and lists.
+pub mod NamedKinds
+pub mod Times

@@ -1,0 +1,2 @@
+-- A plan, kinds and times as C hands them over.
+pub mod Numbers
