@@ -5,6 +5,6 @@ fn main() {
     let mut buffer = [0; 32769];
     let size = io::read_full(0, &mut buffer);
     let mut text = [0; 262400];
-    let end = listing::list(&mut text, &buffer[..size]);
+    let end = log_text::list(&mut text, &buffer[..size]);
     io::write_all(1, &text[..end]);
 }

@@ -5,5 +5,5 @@ pub use Rattle.format.specs.Laws.Lists.{flatMap-append, length-list, list-more}
 pub use Rattle.format.specs.Laws.Log.Forth.{log-forth}
 pub use Rattle.format.specs.Laws.Tests.{and-true}
 pub use Rattle.format.specs.Laws.Word.Bytes.{all-bytes}
-pub use Rattle.composing.proofs.ComposeAnswer.{times-wrong}
-pub use Rattle.readings.proofs.ReadGiven.{times-few}
+pub use Rattle.compose.proofs.Answered.{times-wrong}
+pub use Rattle.read.proofs.Given.{times-few}

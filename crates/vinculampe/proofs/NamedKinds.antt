@@ -7,7 +7,7 @@ use Rattle.format.specs.Compose.{refused}
 use Rattle.format.specs.Read.{reading, refuses}
 use Rattle.format.specs.declared.Kind.{Kind}
 use Rattle.format.specs.declared.Plan.{Plan}
-use Rattle.handed.specs.Numbers.{kindOf, named, planFrom}
+use Rattle.from_c.specs.Numbers.{kindOf, named, planFrom}
 use Rattle.vinculampe.specs.Interface.{composedBytes, composedFrom, readingFrom}
 
 module _ (words tracks time crc parity : ℕ) (kinds : List ℕ) where

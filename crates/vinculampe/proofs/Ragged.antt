@@ -16,10 +16,10 @@ use Rattle.format.specs.Plan.{lead, legal, rows, slots}
 use Rattle.format.specs.declared.Item.{Item}
 use Rattle.format.specs.declared.Kind.{Kind}
 use Rattle.format.specs.declared.Plan.{Plan}
-use Rattle.handed.specs.Numbers.{timesFrom}
+use Rattle.from_c.specs.Numbers.{timesFrom}
 use Rattle.vinculampe.specs.Interface.{composedBytes, ragged, raggedParsed}
 use Rattle.vinculampe.proofs.Laws.{Legal, legal-is, log-forth, many, times-wrong, words-few}
-use Rattle.handed.proofs.Times.{times-number}
+use Rattle.from_c.proofs.Times.{times-number}
 
 slots-many : (p : Plan) (ks : List Kind) → Legal p ks → 123 ≤ slots p
 unfolding slots lead

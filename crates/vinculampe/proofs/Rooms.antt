@@ -20,8 +20,8 @@ use Rattle.format.specs.declared.Answer.{Answer}
 use Rattle.format.specs.declared.Held.the-variants.{Nothing}
 use Rattle.format.specs.declared.Kind.{Kind}
 use Rattle.format.specs.declared.Plan.{Plan}
-use Rattle.readings.specs.ReadGiven.{Given, timesNeeded}
-use Rattle.handed.specs.Numbers.{timeBytes}
+use Rattle.read.specs.Given.{Given, timesNeeded}
+use Rattle.from_c.specs.Numbers.{timeBytes}
 use Rattle.vinculampe.specs.Interface.{GivenBytes}
 use Rattle.vinculampe.proofs.Laws.{Legal, legal-is, and-true, length-list, times-few}
 

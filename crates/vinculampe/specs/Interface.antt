@@ -14,7 +14,7 @@ use Rattle.format.specs.Plan.{legal}
 use Rattle.format.specs.Read.{Reading, gives, refuses, reading}
 use Rattle.format.specs.declared.Kind.{Kind}
 use Rattle.format.specs.declared.Plan.{Plan}
-use Rattle.handed.specs.Numbers.{kindOf, named, planFrom, timeBytes, timesFrom}
+use Rattle.from_c.specs.Numbers.{kindOf, named, planFrom, timeBytes, timesFrom}
 
 -- "Composing refuses a run of times that is not whole eights by 5, its place the number needed": after 2, 3 and 4
 abbrev pub raggedParsed : Plan → Parsed → Composed

@@ -7,19 +7,19 @@ ghost use lib.Dec.{leb};
 ghost use lib.ListN.{length};
 ghost use Rattle.format.specs.Answer.{composeAnswer, outAfter, refusal};
 ghost use Rattle.format.specs.Read.{reading};
-ghost use Rattle.readings.specs.ReadGiven.{Given};
+ghost use Rattle.read.specs.Given.{Given};
 ghost use Rattle.vinculampe.specs.Interface.{composedBytes, composedFrom, GivenBytes, readingFrom};
-pub use composing::compose;
+pub use compose::compose;
 use format::Answer;
 use format::Kind;
 use format::Plan;
-use handed::kinds_from;
-use handed::named;
-use handed::plan_from;
-use handed::put_times;
-use handed::times_from;
-pub use readings::read;
-pub use readings::read_closed;
+use from_c::kinds_from;
+use from_c::named;
+use from_c::plan_from;
+use from_c::put_times;
+use from_c::times_from;
+pub use read::read;
+pub use read::read_closed;
 
 // "A plan number that names no choice or kind is 1."
 fn unnamed() -> Answer

@@ -1,7 +1,7 @@
 use native.Mathlib.Omega.{arith}
 use mathlib.Core.Path.{sym}
 use lib.Seq.{length-take-le}
-use Rattle.listing.proofs.Adding.{adds-long}
+use Rattle.log_text.proofs.Adding.{adds-long}
 use borrow.Author.Needs.{needs}
 use Rattle.lister.proofs.main.Statement.{statement}
 use Rattle.lister.proofs.main.Tie as tie
@@ -9,45 +9,35 @@ use Rattle.lister.proofs.main.Reads as reads
 use Rattle.lister.proofs.main.Lts as lts
 use Rattle.io.proofs.read_full.Reads as read-full-reads
 use Rattle.io.proofs.write_all.Reads as write-all-reads
-use Rattle.listing.proofs.list.Reads as list-reads
+use Rattle.log_text.proofs.list.Reads as list-reads
 
--- src/main.rt:6:33
 slice-aggregate-read-full : tie.Need-slice-aggregate-read-full
 slice-aggregate-read-full c = search needs
 
--- src/main.rt:6:9
 read-full-requires : tie.Need-read-full-requires
 read-full-requires c κs = search needs
 
--- src/main.rt:8:29
 slice-aggregate-list : tie.Need-slice-aggregate-list
 slice-aggregate-list c = search needs
 
--- src/main.rt:8:40
 array-share-prefix-buffer : tie.Need-array-share-prefix-buffer
 array-share-prefix-buffer c = search needs
 
--- src/main.rt:8:40
 slice-aggregate-list-2 : tie.Need-slice-aggregate-list-2
 slice-aggregate-list-2 c = search needs
 
--- src/main.rt:8:9
 list-requires : tie.Need-list-requires
 list-requires c κs = search needs
 
--- src/main.rt:9:22
 array-share-prefix-text : tie.Need-array-share-prefix-text
 array-share-prefix-text c = let f = c .before .list .ensures in omega (arith, f .fits, adds-long f)
 
--- src/main.rt:9:22
 slice-aggregate-write-all : tie.Need-slice-aggregate-write-all
 slice-aggregate-write-all c = let f = c .before .before .list .ensures in sym (length-take-le (c .before .before .list .result) (c .before .before .list .last .0) (omega (arith, f .fits, adds-long f)))
 
--- src/main.rt:9:5
 write-all-requires : tie.Need-write-all-requires
 write-all-requires c κs = search needs
 
--- src/main.rt:3:1
 returns : tie.Need-returns
 returns c = search needs
 

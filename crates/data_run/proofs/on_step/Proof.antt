@@ -1,0 +1,32 @@
+use mathlib.Core.Path.{refl}
+use borrow.Author.Needs.{needs}
+use Rattle.data_run.proofs.on_step.Statement.{statement}
+use Rattle.data_run.proofs.on_step.Tie as tie
+use Rattle.data_run.proofs.on_step.Reads as reads
+use Rattle.data_run.proofs.on_step.Lts as lts
+use Rattle.data_word.proofs.since.Reads as since-reads
+use Rattle.data_run.proofs.fill.on_data.Reads as on-data-reads
+use Rattle.data_run.proofs.put_step.Reads as put-step-reads
+
+returns : tie.Need-returns
+returns c = (rw (c .before .before .if1 .taken) refl, rw (c .before .before .if1 .taken) refl)
+
+put-step-requires : tie.Need-put-step-requires
+put-step-requires c κs = (c .before .before .before .before .before .pre .0, c .before .before .before .before .before .pre .1 (c .before .before .if1 .left) .0)
+
+since-requires : tie.Need-since-requires
+since-requires c κs = c .before .before .before .before .before .before .before .before .pre .1 (c .before .before .before .before .before .if1 .left) .1
+
+on-data-requires : tie.Need-on-data-requires
+on-data-requires c κs = search needs
+
+same-length : tie.Need-same-length
+same-length c = search needs
+
+returns-2 : tie.Need-returns-2
+returns-2 c = (rw (c .before .before .before .before .before .before .before .if1 .left, c .before .since .ensures, c .before .before .before .before .put-step .ensures .0, c .on-data .ensures) refl, rw (c .before .before .before .before .before .before .before .if1 .left) (c .before .before .before .before .put-step .ensures .1))
+
+pub on-step-spec : {M : Type 1} → statement M
+on-step-spec =
+    tie.close
+    (tie.spec returns put-step-requires since-requires on-data-requires same-length returns-2)

@@ -1,0 +1,110 @@
+-- What a reading carries from slot to slot, and what one slot does to it.
+use Prim.Native.Nat.{ℕ, _+_, _*_, _^_, _≤_, _<_}
+use mathlib.Core.Bool.{Bool, true, false, cond}
+use mathlib.Core.Path.{_≡_}
+use mathlib.Core.List.{List, _++_, flatMap}
+use lib.ListN.{length}
+use Rattle.format.specs.Word.{isFill, busOf, labelOf, infoOf}
+use Rattle.format.specs.Item.{itemBits}
+use Rattle.format.specs.Reader.{Slot, Ran, badAt, ran, run, more, feed, since}
+use Rattle.format.specs.declared.Kind.{Kind}
+use Rattle.format.specs.declared.Item.{Item}
+use Rattle.format.specs.declared.Plan.{Plan}
+use Rattle.data_start.specs.declared.Step.{Step}
+use Rattle.data_word.specs.Holding.{heldOf, Sane}
+use Rattle.data_word.specs.Step.{stepOf}
+use Rattle.format.specs.Plan.{lead, slots}
+use Rattle.group_read.specs.declared.Position.{Position}
+use Rattle.group_read.specs.Position.{positionOf}
+use Rattle.data_items.specs.Slots.{wordIn}
+use Rattle.data_items.specs.declared.Taken.{Taken}
+use Rattle.data_items.specs.Taken.{Took}
+use Rattle.data_run.specs.declared.fill.Fills.{Fills}
+use Rattle.log_write.specs.declared.Pen.{Pen}
+use Rattle.data_run.specs.declared.Pass.{Pass}
+use Rattle.data_run.specs.declared.Past.{Past}
+use Rattle.data_run.specs.Fills.{oddFill, onFill, onData, fillsIn, quiet}
+use Rattle.log_write.specs.Pen.{penPut, penIn, Wrote}
+
+-- fill is looked at and dropped
+abbrev pub fillPass : Bool → ℕ → ℕ → ℕ → Pass → Pass
+fillPass parity i place word x =
+    record { held = x .held; since = x .since; pen = x .pen; fills = onFill (x .fills) place (oddFill i (busOf parity word)); bad = false }
+
+-- a step's two strings go to the log
+abbrev pub stepPen : Pen → Step → Pen
+stepPen w r = penPut (penPut w (r .first) (r .«first_width»)) (r .second) (r .«second_width»)
+
+abbrev pub stepOut : List ℕ → Pen → Step → List ℕ
+stepOut out w r = penIn (penIn out w (r .first) (r .«first_width»)) (penPut w (r .first) (r .«first_width»)) (r .second) (r .«second_width»)
+
+-- the two strings fit their widths
+pub record Strings (r : Step) : Type 0 where
+  pub first-fits : r .first < 2 ^ (r .«first_width»)
+  pub second-fits : r .second < 2 ^ (r .«second_width»)
+  pub first-short : r .«first_width» ≤ 56
+  pub second-short : r .«second_width» ≤ 56
+
+-- a bad word is told by its place
+abbrev pub stepPass : ℕ → Pass → Step → Pass
+stepPass place x r =
+    cond (r .bad) (record { held = x .held; since = place; pen = x .pen; fills = x .fills; bad = true })
+    (record { held = r .held; since = since (heldOf (r .held)) (x .since) place; pen = stepPen (x .pen) r; fills = onData (x .fills); bad = false })
+
+abbrev pub passOut : List ℕ → Pass → Step → List ℕ
+passOut out x r = cond (r .bad) out (stepOut out (x .pen) r)
+
+unfoldable pub wordStep : List Kind → Bool → ℕ → Pass → Step
+wordStep ks parity word x = stepOf (heldOf (x .held)) (feed ks (heldOf (x .held)) (busOf parity word) (labelOf word) (infoOf word))
+
+-- the slot i of its group
+unfoldable pub slotPass : List Kind → Bool → ℕ → ℕ → ℕ → Pass → Pass
+slotPass ks parity i place word x = cond (isFill word) (fillPass parity i place word x) (stepPass place x (wordStep ks parity word x))
+
+unfoldable pub slotOut : List Kind → Bool → ℕ → Pass → List ℕ → List ℕ
+slotOut ks parity word x out =
+    cond (isFill word) out (passOut out x (wordStep ks parity word x))
+
+-- from the slot i on, up to the slot reached, there is only fill that changes nothing, and there it ends
+pub record PastFill (p : Plan) (c : List ℕ) (g : ℕ) (f : Fills) (i : ℕ) (r : Past) : Type 0 where
+  pub onward : i ≤ r .slot
+  pub room : r .slot ≤ slots p
+  pub at : r .at ≡ positionOf p g (lead p + r .slot)
+  pub quiets : (k : ℕ) → i ≤ k → k < r .slot → quiet f k (wordIn p c g k) ≡ true
+  pub ends : r .slot < slots p → quiet f (r .slot) (wordIn p c g (r .slot)) ≡ false
+
+-- items that were taken whole, nothing being held
+abbrev pub takenFrom : Pass → ℕ → Position → Taken
+takenFrom x i at = record { slot = i; at = at; last = x .since; pen = x .pen }
+
+abbrev pub itemsPass : Pass → Taken → Pass
+itemsPass x t = record { held = x .held; since = t .last; pen = t .pen; fills = onData (x .fills); bad = false }
+
+pub record FromPass (ks : List Kind) (p : Plan) (c : List ℕ) (g : ℕ) (x : Pass) (i : ℕ) (at : Position) (out : List ℕ) (t : Taken) (out′ : List ℕ) : Type 0 where
+  pub some : i < t .slot → (x .held .awaits ≡ 0) × Took ks p c g (takenFrom x i at) out t out′
+  pub none : t .slot ≤ i → out′ ≡ out
+  pub room : t .slot ≤ slots p
+
+-- what is carried can go on
+pub record Sound (x : Pass) : Type 0 where
+  pub good : x .bad ≡ false
+  pub sane : Sane (x .held)
+
+-- from the pass x₀ and the array out₀ the items `is` were finished, and x and `out` are what is carried now
+pub record Brought (x₀ : Pass) (out₀ : List ℕ) (is : List Item) (x : Pass) (out : List ℕ) : Type 0 where
+  pub sound : Sound x
+  pub long : length out ≡ length out₀
+  pub wrote : (bits : List ℕ) → Wrote bits out₀ (x₀ .pen) → Wrote (bits ++ flatMap itemBits is) out (x .pen)
+
+-- a run over the slots of a group: told by the place of its bad word, or gone on with
+abbrev pub RanTo : Pass → List ℕ → Ran → Fills → Pass → List ℕ → Type 0
+RanTo x₀ out₀ (badAt place) f x out = (x .bad ≡ true) × (x .since ≡ place)
+RanTo x₀ out₀ (ran is h place) f x out = Brought x₀ out₀ is x out × (heldOf (x .held) ≡ h) × (x .since ≡ place) × (x .fills ≡ f)
+
+-- within the group: i slots were passed, and `rest` are to come
+pub record Along (ks : List Kind) (p : Plan) (slots : List Slot) (x₀ : Pass) (out₀ : List ℕ) (i : ℕ) (rest : List Slot) (x : Pass) (out : List ℕ) : Type 0 where
+  pub items : List Item
+  pub is : run ks (p .parity) slots (heldOf (x₀ .held)) (x₀ .since) ≡ more items (run ks (p .parity) rest (heldOf (x .held)) (x .since))
+  pub fill : fillsIn p 0 slots (x₀ .fills) ≡ fillsIn p i rest (x .fills)
+  pub brought : Brought x₀ out₀ items x out
+  pub few : x .pen .bits ≤ x₀ .pen .bits + 128 * i

@@ -1,0 +1,42 @@
+use Rattle.from_c.specs.Numbers.{timeAt}
+use borrow.Author.Needs.{needs}
+use Rattle.from_c.proofs.time_at.Statement.{statement}
+use Rattle.from_c.proofs.time_at.Tie as tie
+
+half-at-requires : tie.Need-half-at-requires
+half-at-requires c κs = search needs
+
+cast-result : tie.Need-cast-result
+cast-result c = search needs
+
+mul-result : tie.Need-mul-result
+mul-result c = search needs
+
+add-half-at : tie.Need-add-half-at
+add-half-at c = search needs
+
+half-at-requires-2 : tie.Need-half-at-requires-2
+half-at-requires-2 c κs = search needs
+
+cast-result-2 : tie.Need-cast-result-2
+cast-result-2 c = search needs
+
+add-result : tie.Need-add-result
+add-result c = search needs
+
+returns : tie.Need-returns
+unfolding timeAt
+returns c = rw (c .before .half-at .ensures, c .half-at2 .ensures)
+
+pub time-at-spec : {M : Type 1} → statement M
+time-at-spec =
+    tie.close
+    (tie.spec
+    half-at-requires
+    cast-result
+    mul-result
+    add-half-at
+    half-at-requires-2
+    cast-result-2
+    add-result
+    returns)

@@ -1,0 +1,65 @@
+-- A frame by its rows, and a group by its tracks.
+use Prim.Native.Nat.{ℕ, suc, _+_, _^_, _<_}
+use native.Mathlib.Omega.{arith}
+use mathlib.Core.Bool.{Bool, true, false}
+use mathlib.Core.Path.{_≡_, refl, sym, ap, _∙_}
+use mathlib.Core.List.{List, [], _∷_, _++_, flatMap}
+use lib.ListN.{length}
+use Rattle.format.specs.Word.{sync}
+use Rattle.format.specs.Plan.{rows, groupWords}
+use Rattle.format.specs.Group.{frame, group}
+use Rattle.format.specs.Check.{checkWord}
+use Rattle.format.specs.Lists.{list}
+use Rattle.format.specs.declared.Plan.{Plan}
+use Rattle.crc.specs.Running.{nextCheck, checkFrom}
+use Rattle.group_read.specs.Shape.{Shape}
+use Rattle.group_write.specs.Writing.{rowWord, front}
+use Rattle.group_write.proofs.Laws.{blocks-more, length-list, frame-length, group-length}
+
+module _ (p : Plan) (dealt : List ℕ) (t : ℕ) where
+  pub front-count : (n : ℕ) → length (front p dealt t n) ≡ 1 + n
+  unfolding front
+  front-count n = ap suc (length-list (rowWord p dealt t) 0 n) ∙ omega arith
+
+  -- with the check word, or without it
+  pub frame-checked : p .crc ≡ true → frame p dealt t ≡ front p dealt t (rows p) ++ (checkWord (p .parity) (front p dealt t (rows p)) ∷ [])
+  unfolding frame front
+  frame-checked e = rw e
+
+  pub frame-plain : p .crc ≡ false → frame p dealt t ≡ front p dealt t (rows p)
+  unfolding frame front
+  frame-plain e = rw e
+
+pub sync-below : sync < 2 ^ 24
+unfolding sync
+sync-below = omega arith
+
+-- ---- the check
+
+pub check-one : (w : ℕ) → nextCheck 0 w ≡ checkFrom 0 (w ∷ [])
+unfolding checkFrom
+check-one w = refl
+
+-- the first n frames
+unfoldable pub framesOf : Plan → List ℕ → ℕ → List ℕ
+framesOf p dealt n = flatMap (frame p dealt) (list (λ t. t) 0 n)
+
+module _ (p : Plan) (dealt : List ℕ) where
+  pub frames-none : framesOf p dealt 0 ≡ []
+  unfolding framesOf flatMap list
+  frames-none = refl
+
+  pub frames-more : (n : ℕ) → framesOf p dealt (n + 1) ≡ framesOf p dealt n ++ frame p dealt n
+  unfolding framesOf
+  frames-more n = blocks-more (frame p dealt) n
+
+  pub frames-all : (n : ℕ) → n ≡ p .tracks → framesOf p dealt n ≡ group p dealt
+  unfolding framesOf group
+  frames-all n e = ap (λ (i : ℕ). flatMap (frame p dealt) (list (λ t. t) 0 i)) e
+
+  pub frame-count : (t : ℕ) → Shape p → length (frame p dealt t) ≡ p .words
+  frame-count t h = frame-length p dealt t (omega (arith, h .words-over))
+
+  -- for a caller, who goes on after the group
+  pub group-count : Shape p → length (group p dealt) ≡ groupWords p
+  group-count h = group-length p (omega (arith, h .words-over)) (h .tracks-over) dealt

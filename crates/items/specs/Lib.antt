@@ -1,2 +1,0 @@
--- What the functions of this crate answer, by the definitions of `format`.
-pub mod Packed

@@ -1,0 +1,139 @@
+-- Eight bytes, with zeros past the end, as one number of 64 bits, and a field in them.
+use Prim.Native.Nat.{ℕ, suc, _+_, _*_, _-_, _/_, _%_, _^_, _≤_, _<_}
+use native.Mathlib.Nat.{mod-lt, mod-eq-of-lt, add-zero, div-add-mod', le-refl}
+use native.Mathlib.Omega.{arith}
+use mathlib.Core.Path.{_≡_, refl, sym, ap, ap₂, _∙_}
+use mathlib.Core.List.{List, [], _∷_, _++_, append-assoc}
+use lib.ListN.{length, take, drop, getD, replicate, length-drop, length-take, take-append-drop}
+use lib.Seq.{drop-at, take-at, drop-drop, getD-drop}
+use lib.Pow.{pow-pos, split, shr-lt, shr-shr}
+use Rattle.format.specs.Bits.{bitsOf, bytesBits, numOf}
+use Rattle.format.specs.Log.{field}
+use Rattle.log_read.specs.Cursor.{eight, Window, Ending}
+use Rattle.format.specs.Laws.Log.Fields.{num-bits}
+use Rattle.format.specs.Laws.Bits.{length-bits, bits-cat, bits-mod, length-bytes, bytes-append, bytes-drop}
+use Rattle.format.specs.Laws.Lists.{AllOf}
+use Rattle.format.specs.Laws.Lists.{in-first}
+use Rattle.format.specs.Laws.Bits.{joined, joined-bits}
+
+abbrev first8 : List ℕ → List ℕ
+first8 t = getD t 0 0 ∷ getD t 1 0 ∷ getD t 2 0 ∷ getD t 3 0 ∷ getD t 4 0 ∷ getD t 5 0 ∷ getD t 6 0 ∷ getD t 7 0 ∷ []
+
+first-pad : (t : List ℕ) → first8 t ≡ take 8 t ++ replicate (8 - length t) 0
+first-pad [] = refl
+first-pad (a ∷ []) = refl
+first-pad (a ∷ b ∷ []) = refl
+first-pad (a ∷ b ∷ c ∷ []) = refl
+first-pad (a ∷ b ∷ c ∷ d ∷ []) = refl
+first-pad (a ∷ b ∷ c ∷ d ∷ e ∷ []) = refl
+first-pad (a ∷ b ∷ c ∷ d ∷ e ∷ f ∷ []) = refl
+first-pad (a ∷ b ∷ c ∷ d ∷ e ∷ f ∷ g ∷ []) = refl
+first-pad (a ∷ b ∷ c ∷ d ∷ e ∷ f ∷ g ∷ h ∷ t) = let z : 8 - suc (suc (suc (suc (suc (suc (suc (suc (length t)))))))) ≡ 0 = omega arith in rw z
+
+pub eight-pad : (s : List ℕ) (i : ℕ) → eight s i ≡ take 8 (drop i s) ++ replicate (8 - length (drop i s)) 0
+eight-pad s i =
+    rw (← getD-drop i s 1 0, ← getD-drop i s 2 0, ← getD-drop i s 3 0, ← getD-drop i s 4 0, ← getD-drop i s 5 0, ← getD-drop i s 6 0, ← getD-drop i s 7 0)
+    (ap (λ (n : ℕ). getD s n 0 ∷ getD (drop i s) 1 0 ∷ getD (drop i s) 2 0 ∷ getD (drop i s) 3 0 ∷ getD (drop i s) 4 0 ∷ getD (drop i s) 5 0 ∷ getD (drop i s) 6 0 ∷ getD (drop i s) 7 0 ∷ []) (sym (add-zero i))
+    ∙ rw (← getD-drop i s 0 0) (first-pad (drop i s)))
+
+-- a field within s and within eight bytes is in the eight
+pub eight-same : (s : List ℕ) (i k n : ℕ) → k + n ≤ length (drop i s) * 8 → k + n ≤ 64 → take n (drop k (bytesBits (drop i s))) ≡ take n (drop k (bytesBits (eight s i)))
+eight-same s i k n h g =
+    let t = drop i s in
+    let p : k + n ≤ length (bytesBits (take 8 t)) = rw (length-bytes (take 8 t), length-take) (omega arith) in
+    ap (λ (l : List ℕ). take n (drop k (bytesBits l))) (sym (take-append-drop 8 t))
+    ∙ ap (λ (l : List ℕ). take n (drop k l)) (bytes-append (take 8 t) (drop 8 t))
+    ∙ in-first n k (bytesBits (take 8 t)) (bytesBits (drop 8 t)) p
+    ∙ sym (in-first n k (bytesBits (take 8 t)) (bytesBits (replicate (8 - length t) 0)) p)
+    ∙ sym (ap (λ (l : List ℕ). take n (drop k l)) (bytes-append (take 8 t) (replicate (8 - length t) 0)))
+    ∙ sym (ap (λ (l : List ℕ). take n (drop k (bytesBits l))) (eight-pad s i))
+
+pub eight-num : (a b c d e f g h : ℕ) → AllOf (λ b. b < 256) (a ∷ b ∷ c ∷ d ∷ e ∷ f ∷ g ∷ h ∷ [])
+    → bytesBits (a ∷ b ∷ c ∷ d ∷ e ∷ f ∷ g ∷ h ∷ []) ≡ bitsOf 64 (a * 72057594037927936 + b * 281474976710656 + c * 1099511627776 + d * 4294967296 + e * 16777216 + f * 65536 + g * 256 + h)
+unfolding bitsOf
+eight-num a b c d e f g h z =
+    let w : joined 0 (a ∷ b ∷ c ∷ d ∷ e ∷ f ∷ g ∷ h ∷ []) ≡ a * 72057594037927936 + b * 281474976710656 + c * 1099511627776 + d * 4294967296 + e * 16777216 + f * 65536 + g * 256 + h = omega arith in
+    sym (joined-bits 0 0 (a ∷ b ∷ c ∷ d ∷ e ∷ f ∷ g ∷ h ∷ []) z) ∙ ap (bitsOf 64) w
+
+-- 64 bits as the k above a field, the n of the field, and the r below it
+pub cut64 : (w k n r : ℕ) → k + n + r ≡ 64 → bitsOf 64 w ≡ bitsOf k (w / 2 ^ r / 2 ^ n) ++ (bitsOf n (w / 2 ^ r % 2 ^ n) ++ bitsOf r (w % 2 ^ r))
+cut64 w k n r e =
+    ap₂ bitsOf (sym e) (sym (split w r))
+    ∙ bits-cat (k + n) r (w / 2 ^ r) (w % 2 ^ r) (mod-lt w (pow-pos r))
+    ∙ ap (λ (l : List ℕ). l ++ bitsOf r (w % 2 ^ r)) (ap (bitsOf (k + n)) (sym (split (w / 2 ^ r) n)) ∙ bits-cat k n (w / 2 ^ r / 2 ^ n) (w / 2 ^ r % 2 ^ n) (mod-lt (w / 2 ^ r) (pow-pos n)))
+    ∙ append-assoc (bitsOf k (w / 2 ^ r / 2 ^ n)) (bitsOf n (w / 2 ^ r % 2 ^ n)) (bitsOf r (w % 2 ^ r))
+
+-- the field, read
+pub field64 : (w k n r : ℕ) → k + n + r ≡ 64 → numOf (take n (drop k (bitsOf 64 w))) ≡ w / 2 ^ r % 2 ^ n
+unfolding numOf
+field64 w k n r e =
+    ap (λ (l : List ℕ). numOf (take n (drop k l))) (cut64 w k n r e)
+    ∙ ap (λ (l : List ℕ). numOf (take n l)) (drop-at (bitsOf k (w / 2 ^ r / 2 ^ n)) (bitsOf n (w / 2 ^ r % 2 ^ n) ++ bitsOf r (w % 2 ^ r)) k (length-bits k _))
+    ∙ ap numOf (take-at (bitsOf n (w / 2 ^ r % 2 ^ n)) (bitsOf r (w % 2 ^ r)) n (length-bits n _))
+    ∙ num-bits 0 n (w / 2 ^ r % 2 ^ n)
+    ∙ rw (mod-eq-of-lt (mod-lt (w / 2 ^ r) (pow-pos n))) (omega arith)
+
+-- the bits from `at` on are those of the bytes from at / 8 on, less at % 8
+pub drop-bits : (s : List ℕ) (at : ℕ) → drop at (bytesBits s) ≡ drop (at % 8) (bytesBits (drop (at / 8) s))
+drop-bits s at =
+    ap (λ (n : ℕ). drop n (bytesBits s)) (sym (div-add-mod' at 8))
+    ∙ sym (drop-drop (at % 8) (at / 8 * 8) (bytesBits s))
+    ∙ ap (drop (at % 8)) (bytes-drop (at / 8) s)
+
+-- a number moved up by a bits, of which 64 are kept: its bits but the first a, and a zeros
+moved-bits : (w a : ℕ) → a ≤ 64 → bitsOf 64 (w * 2 ^ a % 2 ^ 64) ≡ drop a (bitsOf 64 w) ++ bitsOf a 0
+moved-bits w a h =
+    let e : (64 - a) + a ≡ 64 = omega arith in
+    let f : a + (64 - a) ≡ 64 = omega arith in
+    let up : bitsOf 64 (w * 2 ^ a) ≡ bitsOf (64 - a) w ++ bitsOf a 0 =
+    ap₂ bitsOf (sym e) (sym (add-zero (w * 2 ^ a))) ∙ bits-cat (64 - a) a w 0 (pow-pos a) in
+    let r = w % 2 ^ (64 - a) in
+    let all : bitsOf 64 w ≡ bitsOf a (w / 2 ^ (64 - a)) ++ bitsOf (64 - a) r =
+    ap₂ bitsOf (sym f) (sym (split w (64 - a))) ∙ bits-cat a (64 - a) (w / 2 ^ (64 - a)) r (mod-lt w (pow-pos (64 - a))) in
+    let low : drop a (bitsOf 64 w) ≡ bitsOf (64 - a) w =
+    ap (drop a) all ∙ drop-at (bitsOf a (w / 2 ^ (64 - a))) (bitsOf (64 - a) r) a (length-bits a _) ∙ bits-mod (64 - a) (64 - a) w (le-refl (64 - a)) in
+    bits-mod 64 64 (w * 2 ^ a) (le-refl 64) ∙ up ∙ ap (λ (l : List ℕ). l ++ bitsOf a 0) (sym low)
+
+-- the window at a bit: its eight bytes, moved up
+pub window-is : (s : List ℕ) (at w : ℕ) → bytesBits (eight s (at / 8)) ≡ bitsOf 64 w → Window (bytesBits s) at (w * 2 ^ (at % 8) % 2 ^ 64)
+unfolding field
+window-is s at w e k n g h =
+    let a = at % 8 in
+    let i = at / 8 in
+    let v = w * 2 ^ a % 2 ^ 64 in
+    let l : length (bytesBits s) ≡ length s * 8 = length-bytes s in
+    let h1 : (a + k) + n ≤ length (drop i s) * 8 = rw length-drop (omega arith) in
+    let h2 : k + n ≤ length (drop a (bitsOf 64 w)) = rw (length-drop, length-bits 64 w) (omega arith) in
+    let d : drop (at + k) (bytesBits s) ≡ drop (a + k) (bytesBits (drop i s)) =
+    sym (drop-drop k at (bytesBits s)) ∙ ap (drop k) (drop-bits s at) ∙ drop-drop k a (bytesBits (drop i s)) in
+    ap (λ (l : List ℕ). numOf (take n l)) d
+    ∙ ap numOf (eight-same s i (a + k) n h1 (omega arith)
+    ∙ ap (λ (l : List ℕ). take n (drop (a + k) l)) e
+    ∙ ap (take n) (sym (drop-drop k a (bitsOf 64 w)))
+    ∙ sym (in-first n k (drop a (bitsOf 64 w)) (bitsOf a 0) h2)
+    ∙ ap (λ (l : List ℕ). take n (drop k l)) (sym (moved-bits w a (omega arith))))
+    ∙ field64 v k n (64 - k - n) (omega arith)
+
+-- a field at the window's front is its highest bits
+pub window-top : (s : List ℕ) (p w n : ℕ) → Window s p w → w < 2 ^ 64 → n ≤ 57 → p + n ≤ length s → field s p n ≡ w / 2 ^ (64 - n)
+window-top s p w n f hw h l =
+    let e : n + (64 - n) ≡ 64 = omega arith in
+    let g : w < 2 ^ (n + (64 - n)) = rw e hw in
+    ap (λ (q : ℕ). field s q n) (sym (add-zero p)) ∙ f 0 n (omega arith) (omega arith) ∙ mod-eq-of-lt (shr-lt n (64 - n) g)
+
+-- the bits up to e: eight bytes of which `past` bits are behind e
+ending-at : (s : List ℕ) (i past e w : ℕ) → e + past ≡ i * 8 + 64 → past ≤ 7 → e ≤ length s * 8 → bytesBits (eight s i) ≡ bitsOf 64 w → Ending (bytesBits s) e (w / 2 ^ past)
+unfolding field
+ending-at s i past e w z few hi q k n g =
+    let j = 64 - (past + k + n) in
+    let at : e - k - n ≡ i * 8 + j = omega arith in
+    let there : j + n ≤ length (drop i s) * 8 = rw length-drop (omega arith) in
+    let d : drop (e - k - n) (bytesBits s) ≡ drop j (bytesBits (drop i s)) =
+    ap (λ (m : ℕ). drop m (bytesBits s)) at ∙ sym (drop-drop j (i * 8) (bytesBits s)) ∙ ap (drop j) (bytes-drop i s) in
+    ap (λ (l : List ℕ). numOf (take n l)) d
+    ∙ ap numOf (eight-same s i j n there (omega arith) ∙ ap (λ (l : List ℕ). take n (drop j l)) q)
+    ∙ field64 w j n (past + k) (omega arith)
+    ∙ ap (λ (m : ℕ). m % 2 ^ n) (sym (shr-shr w past k))
+
+pub ending-is : (s : List ℕ) (e w : ℕ) → 64 ≤ e → e ≤ length s * 8 → bytesBits (eight s ((e + 7) / 8 - 8)) ≡ bitsOf 64 w → Ending (bytesBits s) e (w / 2 ^ (8 * ((e + 7) / 8) - e))
+ending-is s e w lo hi q = ending-at s ((e + 7) / 8 - 8) (8 * ((e + 7) / 8) - e) e w (omega arith) (omega arith) hi q

@@ -1,0 +1,23 @@
+use native.Mathlib.Omega.{arith}
+use Rattle.log_read.proofs.Items.{data-cut, data-whole}
+use borrow.Author.Needs.{needs}
+use Rattle.log_read.proofs.item.data.Statement.{statement}
+use Rattle.log_read.proofs.item.data.Tie as tie
+
+returns : tie.Need-returns
+returns c = rw (data-cut (c .before .before .args .log .now) (c .before .before .args .at) (c .before .before .args .left) (c .before .before .args .w) (c .before .before .pre .0) (c .before .before .pre .1 .0) (c .if1 .taken))
+
+cast-word : tie.Need-cast-word
+cast-word c = search needs
+
+bus-in-requires : tie.Need-bus-in-requires
+bus-in-requires c κs = search needs
+
+add-t12 : tie.Need-add-t12
+add-t12 c = search needs
+
+returns-2 : tie.Need-returns-2
+returns-2 c = rw (data-whole (c .before .before .before .args .log .now) (c .before .before .before .args .at) (c .before .before .before .args .left) (c .before .before .before .args .w) (c .before .before .before .pre .0) (c .before .before .before .pre .1 .0) (c .before .if1 .left), c .bus-in .ensures)
+
+pub data-spec : {M : Type 1} → statement M
+data-spec = tie.close (tie.spec returns cast-word bus-in-requires add-t12 returns-2)

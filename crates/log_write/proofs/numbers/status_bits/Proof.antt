@@ -1,0 +1,76 @@
+use Rattle.format.specs.declared.Response.the-variants.{Untimed, After}
+use Rattle.format.specs.declared.Item.the-variants.{Status}
+use mathlib.Core.Path.{refl}
+use native.Mathlib.Omega.{arith}
+use Rattle.format.specs.Item.{itemFields}
+use Rattle.log_write.proofs.Packing.{packed-by}
+use borrow.Author.Needs.{needs}
+use Rattle.log_write.proofs.numbers.status_bits.Statement.{statement}
+use Rattle.log_write.proofs.numbers.status_bits.Tie as tie
+
+head-requires : tie.Need-head-requires
+head-requires c κs = search needs
+
+mul-front : tie.Need-mul-front
+mul-front c = search needs
+
+flag-requires : tie.Need-flag-requires
+flag-requires c κs = search needs
+
+add-front : tie.Need-add-front
+add-front c = search needs
+
+mul-front-2 : tie.Need-mul-front-2
+mul-front-2 c = search needs
+
+enum-told : tie.Need-enum-told
+enum-told c = search needs
+
+mul-t12 : tie.Need-mul-t12
+mul-t12 c = search needs
+
+add-t14 : tie.Need-add-t14
+add-t14 c = search needs
+
+enum-known-response : tie.Need-enum-known-response
+enum-known-response c = search needs
+
+add-t15 : tie.Need-add-t15
+add-t15 c = search needs
+
+mul-t16 : tie.Need-mul-t16
+mul-t16 c = search needs
+
+add-t18 : tie.Need-add-t18
+add-t18 c = search needs
+
+cast-t19 : tie.Need-cast-t19
+cast-t19 c = search needs
+
+returns : tie.Need-returns
+unfolding itemFields
+returns c = rw (c .enum-told .given .1) (packed-by (Status (c .before .before .before .before .args .bus) (c .before .before .before .before .args .b) Untimed (c .before .before .before .before .args .word)) _ _ (omega arith) refl)
+
+returns-2 : tie.Need-returns-2
+unfolding itemFields
+returns-2 c = rw (c .before .response .given .1) (packed-by (Status (c .before .before .before .before .before .args .bus) (c .before .before .before .before .before .args .b) (After (c .before .response .given .0 .0)) (c .before .before .before .before .before .args .word)) _ _ (omega arith) (omega arith))
+
+pub status-bits-spec : {M : Type 1} → statement M
+status-bits-spec =
+    tie.close
+    (tie.spec
+    head-requires
+    mul-front
+    flag-requires
+    add-front
+    mul-front-2
+    enum-told
+    mul-t12
+    add-t14
+    enum-known-response
+    add-t15
+    mul-t16
+    add-t18
+    cast-t19
+    returns
+    returns-2)

@@ -1,0 +1,3 @@
+-- What the functions of this crate answer, by the definitions of `format`.
+pub mod Packed
+pub mod Pen

@@ -1,0 +1,50 @@
+-- Used buses counted from the left, and what a group of a legal plan holds.
+use Prim.Native.Nat.{ℕ, zero, suc, _+_, _*_, _-_, _<_, _≤_}
+use native.Mathlib.Nat.{mul-le-mul-right}
+use native.Mathlib.Omega.{arith}
+use native.Mathlib.Numerals.{add-one}
+use mathlib.Core.Bool.{Bool, true, false, cond}
+use mathlib.Core.Path.{_≡_, refl, ap, _∙_}
+use mathlib.Core.List.{List, [], _∷_}
+use lib.ListN.{length, drop}
+use Rattle.format.specs.Bits.{bit}
+use Rattle.format.specs.Plan.{groupWords, isUsed, kindOn, lead, rows, slots, usedBuses}
+use Rattle.format.specs.declared.Plan.{Plan}
+use Rattle.group_read.specs.Shape.{Shape}
+use Rattle.format.specs.Laws.Legal.{Legal, many}
+use Rattle.group_read.proofs.Rows.{rows-under}
+use Rattle.format.specs.declared.Kind.{Kind}
+
+pub bus-counted : (ks : List Kind) (i : ℕ) (b : Bool) → isUsed (kindOn ks i) ≡ b → i < length ks → usedBuses (drop i ks) ≡ bit b + usedBuses (drop (i + 1) ks)
+unfolding usedBuses
+bus-counted [] i b e h = absurd (omega arith)
+bus-counted (k ∷ ks) zero b e h = rw e
+bus-counted (k ∷ ks) (suc i) b e h =
+    let n : i + 1 ≡ suc i = add-one i in
+    bus-counted ks i b e (omega arith) ∙ rw (n, add-one (suc i))
+
+pub all-counted : (ks : List Kind) (i : ℕ) → length ks ≤ i → usedBuses (drop i ks) ≡ 0
+unfolding usedBuses
+all-counted [] zero h = refl
+all-counted [] (suc i) h = refl
+all-counted (k ∷ ks) zero h = absurd (omega arith)
+all-counted (k ∷ ks) (suc i) h = all-counted ks i (omega arith)
+
+-- what the laws of a legal plan ask, where the kinds do not matter
+pub shape-legal : (p : Plan) → Shape p → Legal p []
+unfolding usedBuses
+shape-legal p h = record { words = h .words-over; tracks = h .tracks-over; below = h .words-under; few = h .tracks-under; low = λ e. refl }
+
+pub dealt-between : (p : Plan) → Shape p → (126 ≤ p .tracks * rows p) × (p .tracks * rows p ≤ 2044)
+dealt-between p h = (many p [] (shape-legal p h), omega (arith, rows-under p h, h .words-under, mul-le-mul-right (rows p) (h .tracks-under)))
+
+pub stored-few : (p : Plan) → Shape p → groupWords p ≤ 2044
+stored-few p h = omega (arith, h .words-under, mul-le-mul-right (p .words) (h .tracks-under))
+
+pub slots-timed : (p : Plan) → p .«frame_time» ≡ true → slots p ≡ p .tracks * rows p - 3
+unfolding slots lead
+slots-timed p e = ap (λ (b : Bool). p .tracks * rows p - cond b 3 0) e
+
+pub slots-untimed : (p : Plan) → p .«frame_time» ≡ false → slots p ≡ p .tracks * rows p
+unfolding slots lead
+slots-untimed p e = ap (λ (b : Bool). p .tracks * rows p - cond b 3 0) e ∙ omega arith

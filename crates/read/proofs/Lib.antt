@@ -1,0 +1,3 @@
+-- The laws of the readings.
+pub mod Given
+pub mod Short

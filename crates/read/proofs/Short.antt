@@ -1,0 +1,114 @@
+-- A small capture has a small log: at most 26 bits a word.
+use Prim.Native.Nat.{ℕ, zero, suc, _+_, _*_, _/_, _%_, _^_, _≤_, _<_}
+use native.Mathlib.Omega.{arith}
+use mathlib.Core.Path.{_≡_, refl, sym, ap, _∙_}
+use mathlib.Core.List.{List, [], _∷_, _++_, flatMap}
+use lib.ListN.{length, getD, replicate, length-append, length-replicate, length-map}
+use Rattle.format.specs.Bits.{bitsOf, packed}
+use Rattle.format.specs.Word.{Part, wordAt, isFill, partOf}
+use Rattle.format.specs.Item.{itemFields, itemBits, itemParts}
+use Rattle.format.specs.Lists.{All, nil, cons, list}
+use Rattle.format.specs.Log.{logOf}
+use Rattle.format.specs.Plan.{groupWords, lead, slots, placeOf}
+use Rattle.format.specs.Group.{groupSlots}
+use Rattle.format.specs.Reader.{Slot, dataOf}
+use Rattle.format.specs.Read.{slotsFrom}
+use Rattle.format.specs.declared.Tag.the-variants.{Untagged, At}
+use Rattle.format.specs.declared.Response.the-variants.{Untimed, After}
+use Rattle.format.specs.declared.Item.{Item}
+use Rattle.format.specs.declared.Item.the-variants.{Command, Status, Data, BusError, Arinc, Notice, User, Overflow}
+use Rattle.format.specs.declared.Kind.{Kind}
+use Rattle.format.specs.declared.Plan.{Plan}
+use Rattle.format.specs.Laws.Lists.{all-append, all-list, length-list}
+use Rattle.format.specs.Laws.Log.Fields.{Packs, packs, length-bits, length-bytes}
+use Rattle.format.specs.Laws.Log.Sizes.{bits-low, items-low, fields-length}
+use Rattle.format.specs.Laws.Accepted.Faultless.{accepted-parts}
+use Rattle.group_read.specs.Shape.{Shape}
+use Rattle.read.specs.Given.{Enough}
+use Rattle.data_items.proofs.Items.{yes-or-no}
+use Rattle.data_items.proofs.Slots.{slots-few}
+use Rattle.read.proofs.Given.{whole-groups}
+
+item-short : (i : Item) → length (itemBits i) ≤ 26 * length (itemParts i)
+unfolding itemBits itemFields
+item-short (Command bus b Untagged word) = rw (fields-length (itemFields (Command bus b Untagged word))) (omega arith)
+item-short (Command bus b (At t) word) = rw (fields-length (itemFields (Command bus b (At t) word))) (omega arith)
+item-short (Status bus b Untimed word) = rw (fields-length (itemFields (Status bus b Untimed word))) (omega arith)
+item-short (Status bus b (After t) word) = rw (fields-length (itemFields (Status bus b (After t) word))) (omega arith)
+item-short (Data bus b word) = rw (fields-length (itemFields (Data bus b word))) (omega arith)
+item-short (BusError bus b word) = rw (fields-length (itemFields (BusError bus b word))) (omega arith)
+item-short (Arinc bus c Untagged word) = rw (fields-length (itemFields (Arinc bus c Untagged word))) (omega arith)
+item-short (Arinc bus c (At t) word) = rw (fields-length (itemFields (Arinc bus c (At t) word))) (omega arith)
+item-short (Notice bus c diag) = rw (fields-length (itemFields (Notice bus c diag))) (omega arith)
+item-short (User bus b word) = rw (fields-length (itemFields (User bus b word))) (omega arith)
+item-short (Overflow bus word) = rw (fields-length (itemFields (Overflow bus word))) (omega arith)
+
+items-short : (is : List Item) → length (flatMap itemBits is) ≤ 26 * length (flatMap itemParts is)
+unfolding flatMap
+items-short [] = omega arith
+items-short (i ∷ is) =
+    rw (length-append (itemBits i) (flatMap itemBits is), length-append (itemParts i) (flatMap itemParts is)) (omega (arith, item-short i, items-short is))
+
+-- the end mark and the zeros behind it
+log-short : (is : List Item) → length (logOf is) * 8 ≤ length (flatMap itemBits is) + 11
+unfolding logOf
+log-short is =
+    let bits : List ℕ = flatMap itemBits is in
+    let k : Packs (bits ++ bitsOf 4 0) = packs (bits ++ bitsOf 4 0) (all-append (items-low is) (bits-low 4 0)) in
+    let e : length (packed (bits ++ bitsOf 4 0)) * 8 ≡ length bits + 4 + k .more =
+    sym (length-bytes (packed (bits ++ bitsOf 4 0))) ∙ ap (λ (l : List ℕ). length l) (k .bits) ∙ length-append (bits ++ bitsOf 4 0) (replicate (k .more) 0)
+    ∙ rw (length-append bits (bitsOf 4 0), length-bits 4 0, length-replicate {A = ℕ} (k .more) 0) refl in
+    omega (arith, e, k .few)
+
+-- the data words are among the slots
+data-few : (ss : List Slot) → length (dataOf ss) ≤ length ss
+unfolding dataOf
+data-few [] = omega arith
+data-few (s ∷ ss) = yes-or-no (isFill (s .1)) (λ e. rw e (omega (arith, data-few ss))) (λ e. rw e (omega (arith, data-few ss)))
+
+data-low : (ss : List Slot) → All (λ s. s .1 < 2 ^ 24) ss → All (λ w. w < 2 ^ 24) (dataOf ss)
+unfolding dataOf
+data-low [] nil = nil
+data-low (s ∷ ss) (cons h t) = yes-or-no (isFill (s .1)) (λ e. rw e (data-low ss t)) (λ e. rw e (cons h (data-low ss t)))
+
+module _ (p : Plan) (c : List ℕ) (bytes : (i : ℕ) → getD c i 0 < 256) where
+  stored-low : (i : ℕ) → wordAt c i < 2 ^ 24
+  unfolding wordAt
+  stored-low i = omega (arith, bytes (3 * i), bytes (3 * i + 1), bytes (3 * i + 2))
+
+  abbrev slot : ℕ → ℕ → Slot
+  slot first s = (first + placeOf p s, wordAt c (first + placeOf p s))
+
+  slots-low : (n g : ℕ) → All (λ s. s .1 < 2 ^ 24) (slotsFrom p c n g)
+  unfolding slotsFrom groupSlots
+  slots-low zero g = nil
+  slots-low (suc n) g =
+      all-append
+      (all-list (λ (s : Slot). s .1 < 2 ^ 24) (slot (g * groupWords p)) (slots p) (lead p)
+      (λ i h. stored-low (g * groupWords p + placeOf p (lead p + i))))
+      (slots-low n (g + 1))
+
+  slots-count : Shape p → (n g : ℕ) → length (slotsFrom p c n g) ≤ n * groupWords p
+  unfolding slotsFrom groupSlots
+  slots-count s zero g = omega arith
+  slots-count s (suc n) g =
+      rw (
+        length-append (list (slot (g * groupWords p)) (lead p) (slots p)) (slotsFrom p c n (g + 1)),
+        length-list (slot (g * groupWords p)) (lead p) (slots p),
+      )
+      (omega (arith, slots-few p s, slots-count s n (g + 1)))
+
+  -- 628 words and their end mark fit 2,048 bytes
+  pub small-enough : (ks : List Kind) (room : ℕ) → Shape p → length c % (3 * groupWords p) ≡ 0 → length c ≤ 1884 → Enough p ks c 2056 room
+  small-enough ks room s z h = record {
+    room = λ is e a b.
+        let n : ℕ = length c / (3 * groupWords p) in
+        let k = accepted-parts p ks c n is e (data-low (slotsFrom p c n 0) (slots-low n 0)) in
+        let d : length (dataOf (slotsFrom p c n 0)) ≡ length (flatMap itemParts is) =
+        sym (length-map (dataOf (slotsFrom p c n 0)) (partOf (p .parity))) ∙ ap (λ (l : List Part). length l) (k .0) in
+        omega (arith, d, items-short is, log-short is, data-few (slotsFrom p c n 0), slots-count s n 0, whole-groups p (length c) z);
+  }
+
+-- and so does every log that a small room holds
+pub room-enough : (p : Plan) (ks : List Kind) (c : List ℕ) (room : ℕ) → room ≤ 2048 → Enough p ks c 2056 room
+room-enough p ks c room h = record { room = λ is e a b. omega arith }

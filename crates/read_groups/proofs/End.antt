@@ -1,0 +1,109 @@
+-- The log is closed, and the reading over the groups ends.
+use Prim.Native.Nat.{ℕ, _+_, _≤_}
+use native.Mathlib.Omega.{arith}
+use mathlib.Core.Bool.{true, false}
+use mathlib.Core.Path.{_≡_, refl, sym, ap, ap₂, subst, _∙_}
+use mathlib.Core.List.{List, [], _++_, flatMap}
+use lib.ListN.{length, take}
+use Rattle.format.specs.Item.{itemBits}
+use Rattle.format.specs.Log.{logOf}
+use Rattle.format.specs.Read.{Got, got, stopped, before, finish, readGroups, misplaced}
+use Rattle.format.specs.declared.Kind.{Kind}
+use Rattle.format.specs.declared.Item.{Item}
+use Rattle.format.specs.declared.Held.{Held}
+use Rattle.format.specs.declared.Held.the-variants.{Nothing, Taggable, Half, TagHigh, TagLow, Answering}
+use Rattle.format.specs.declared.Plan.{Plan}
+use Rattle.format.specs.Laws.Tests.{clash}
+use Rattle.format.specs.Laws.Lists.{flatMap-append}
+use Rattle.data_start.specs.declared.Step.{Step}
+use Rattle.data_word.specs.Holding.{heldOf}
+use Rattle.data_word.specs.Meaning.{Brings, Closes}
+use Rattle.data_run.specs.declared.Pass.{Pass}
+use Rattle.data_run.specs.declared.fill.Fills.{Fills}
+use Rattle.read_groups.specs.declared.Walk.{Walk}
+use Rattle.read_groups.specs.Misplaced.{told}
+use Rattle.log_write.specs.Pen.{closedIn, closedSize, Wrote}
+use Rattle.log_write.proofs.Writing.{wrote-none, closed-size, closed-long, closed-log}
+use Rattle.data_run.specs.Pass.{Strings, stepPen, stepOut}
+use Rattle.read_groups.specs.Groups.{groupsOn, Through, Walked}
+use Rattle.read_groups.specs.End.{Ended}
+use Rattle.read_groups.proofs.Misplaced.{fills-say-misplaced}
+use Rattle.data_run.proofs.OneSlot.{step-bits, step-wrote}
+
+-- ---- the cut item
+
+finish-cut : (h : Held) (at : ℕ) (r : Step) → Closes (finish h at) r → r .bad ≡ true → finish h at ≡ stopped 13 at
+finish-cut Nothing at r m z = clash (sym (m .good) ∙ z)
+finish-cut (Taggable x) at r m z = clash (sym (m .good) ∙ z)
+finish-cut (Half bus c high) at r m z = refl
+finish-cut (TagHigh x high) at r m z = refl
+finish-cut (TagLow x high low) at r m z = refl
+finish-cut (Answering bus t) at r m z = refl
+
+record Finished (g : Got) (r : Step) : Type 0 where
+  items : List Item
+  is : g ≡ got items
+  brings : Brings items Nothing r
+
+finished : (g : Got) (r : Step) → Closes g r → r .bad ≡ false → Finished g r
+finished (got js) r m z = record { items = js; is = refl; brings = m }
+finished (stopped k q) r m z = clash (sym z ∙ m)
+
+pub closing-fits : (g : Got) (r : Step) → Closes g r → r .bad ≡ false → Strings r
+closing-fits g r m z =
+    let b : Brings (finished g r m z .items) Nothing r = finished g r m z .brings in
+    record { first-fits = b .first-fits; second-fits = b .second-fits; first-short = omega (arith, b .first-short); second-short = omega (arith, b .second-short) }
+
+module _ (ks : List Kind) (p : Plan) (c : List ℕ) (n : ℕ) (out₀ : List ℕ) where
+  abbrev all : Got
+  all = readGroups p ks c n 0 Nothing 0
+
+  refusal-ends : (k q : ℕ) (out′ : List ℕ) → (k ≡ 0 → ⊥) → all ≡ stopped k q → Ended ks p c n (record { number = k; place = q; bytes = 0; misplaced = 0 }) out′
+  refusal-ends k q out′ z e = record { logged = λ y. absurd (z y); refused = λ _. record { is = e; bytes = refl; misplaced = refl } }
+
+  pub ends-stopped : {out : List ℕ} {k : Walk} (out′ : List ℕ) → Walked ks p c n out₀ k out → (k .number ≡ 0 → ⊥)
+      → Ended ks p c n (record { number = k .number; place = k .place; bytes = 0; misplaced = 0 }) out′
+  ends-stopped {out} {k} out′ m z = refusal-ends (k .number) (k .place) out′ z (m .stops z)
+
+  module _ (x : Pass) (out : List ℕ) (t : Through ks p c n out₀ x out) (s : Step) (m : Closes (finish (heldOf (x .held)) (x .since)) s) where
+    pub ends-cut : (out′ : List ℕ) → s .bad ≡ true → Ended ks p c n (record { number = 13; place = x .since; bytes = 0; misplaced = 0 }) out′
+    ends-cut out′ z =
+        refusal-ends 13 (x .since) out′ (λ y. absurd (omega arith))
+        (t .is ∙ ap (before (t .items)) (finish-cut (heldOf (x .held)) (x .since) s m z))
+
+    module _ (z : s .bad ≡ false) where
+      f : Finished (finish (heldOf (x .held)) (x .since)) s
+      f = finished (finish (heldOf (x .held)) (x .since)) s m z
+
+      items : List Item
+      items = t .items ++ f .items
+
+      pub end-bits : stepPen (x .pen) s .bits ≤ x .pen .bits + 92
+      end-bits = step-bits (f .items) Nothing s (f .brings) (x .pen)
+
+      all-is : all ≡ got items
+      unfolding items
+      all-is = t .is ∙ ap (before (t .items)) (f .is)
+
+      all-wrote : Wrote (flatMap itemBits items) (stepOut out (x .pen) s) (stepPen (x .pen) s)
+      unfolding items
+      all-wrote =
+          subst (λ (b : List ℕ). Wrote b (stepOut out (x .pen) s) (stepPen (x .pen) s)) (sym (flatMap-append itemBits (t .items) (f .items)))
+          (step-wrote (f .items) Nothing s (f .brings) (x .pen) (flatMap itemBits (t .items)) out (t .brought .wrote [] (wrote-none out₀)))
+
+      pub ends-log : {bytes : ℕ} {out′ : List ℕ} → bytes ≡ closedSize (stepPen (x .pen) s) → out′ ≡ closedIn (stepOut out (x .pen) s) (stepPen (x .pen) s)
+          → Ended ks p c n (record { number = 0; place = 0; bytes = bytes; misplaced = x .fills .misplaced }) out′
+      ends-log {bytes} {out′} b e =
+          let size : bytes ≡ length (logOf items) = b ∙ closed-size items (stepOut out (x .pen) s) (stepPen (x .pen) s) all-wrote in
+          let long : length out′ ≡ length (stepOut out (x .pen) s) = ap (λ (l : List ℕ). length l) e ∙ closed-long items (stepOut out (x .pen) s) (stepPen (x .pen) s) all-wrote in
+          record {
+            logged = λ _. record {
+              items = items;
+              is = all-is;
+              place = refl;
+              bytes = size;
+              log = λ h. ap₂ (λ (j : ℕ) (l : List ℕ). take j l) size e ∙ closed-log items (stepOut out (x .pen) s) (stepPen (x .pen) s) all-wrote (omega (arith, h, size, long));
+              fill = ap told (sym (ap (λ (y : Fills). y .misplaced) (t .fill))) ∙ fills-say-misplaced p (groupsOn p c 0 n);
+            };
+            refused = λ z. absurd (z refl);
+          }

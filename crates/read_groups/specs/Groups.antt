@@ -1,0 +1,50 @@
+-- A reading over the groups of a capture.
+use Prim.Native.Nat.{ℕ, _*_, _-_, _≤_}
+use mathlib.Core.Bool.{false}
+use mathlib.Core.Path.{_≡_}
+use mathlib.Core.List.{List}
+use Rattle.format.specs.Lists.{list}
+use Rattle.format.specs.Plan.{groupWords}
+use Rattle.format.specs.Group.{groupSlots}
+use Rattle.format.specs.Reader.{Slot}
+use Rattle.format.specs.Read.{stopped, before, finish, readGroups}
+use Rattle.format.specs.declared.Kind.{Kind}
+use Rattle.format.specs.declared.Item.{Item}
+use Rattle.format.specs.declared.Held.the-variants.{Nothing}
+use Rattle.format.specs.declared.Plan.{Plan}
+use Rattle.log_write.specs.Pen.{start}
+use Rattle.data_start.specs.Holding.{flat}
+use Rattle.data_word.specs.Holding.{heldOf}
+use Rattle.data_run.specs.declared.Pass.{Pass}
+use Rattle.read_groups.specs.declared.Walk.{Walk}
+use Rattle.read_groups.specs.Misplaced.{noFill, fillsOver}
+use Rattle.data_run.specs.Pass.{Brought}
+
+-- before the first group
+abbrev pub startPass : Pass
+startPass = record { held = flat Nothing; since = 0; pen = start; fills = noFill; bad = false }
+
+-- the slots of k groups from the group g on
+abbrev pub groupsOn : Plan → List ℕ → ℕ → ℕ → List (List Slot)
+groupsOn p c g k = list (λ g. groupSlots p c (g * groupWords p)) g k
+
+-- g of n groups were passed
+pub record Over (ks : List Kind) (p : Plan) (c : List ℕ) (n : ℕ) (out₀ : List ℕ) (g : ℕ) (x : Pass) (out : List ℕ) : Type 0 where
+  pub items : List Item
+  pub is : readGroups p ks c n 0 Nothing 0 ≡ before items (readGroups p ks c (n - g) g (heldOf (x .held)) (x .since))
+  pub fill : fillsOver p (groupsOn p c 0 n) noFill ≡ fillsOver p (groupsOn p c g (n - g)) (x .fills)
+  pub brought : Brought startPass out₀ items x out
+  pub few : x .pen .bits ≤ 128 * (g * groupWords p)
+
+-- all groups were passed
+pub record Through (ks : List Kind) (p : Plan) (c : List ℕ) (n : ℕ) (out₀ : List ℕ) (x : Pass) (out : List ℕ) : Type 0 where
+  pub items : List Item
+  pub is : readGroups p ks c n 0 Nothing 0 ≡ before items (finish (heldOf (x .held)) (x .since))
+  pub fill : fillsOver p (groupsOn p c 0 n) noFill ≡ x .fills
+  pub brought : Brought startPass out₀ items x out
+  pub few : x .pen .bits ≤ 128 * (n * groupWords p)
+
+-- number 0: all groups were passed; else the reading stopped
+pub record Walked (ks : List Kind) (p : Plan) (c : List ℕ) (n : ℕ) (out₀ : List ℕ) (r : Walk) (out : List ℕ) : Type 0 where
+  pub through : r .number ≡ 0 → Through ks p c n out₀ (r .pass) out
+  pub stops : (r .number ≡ 0 → ⊥) → readGroups p ks c n 0 Nothing 0 ≡ stopped (r .number) (r .place)

@@ -1,3 +1,0 @@
--- The laws of the readings.
-pub mod ReadGiven
-pub mod ReadShort

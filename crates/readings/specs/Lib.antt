@@ -1,2 +1,0 @@
--- What the contracts of the readings cite beside the definitions of `format`.
-pub mod ReadGiven
