@@ -17,7 +17,7 @@ use Rattle.format.specs.Word.{Part, wordFor, wordOf}
 use Rattle.format.specs.declared.Item.{Item}
 use Rattle.format.specs.declared.Kind.{Kind}
 use Rattle.format.specs.declared.Plan.{Plan}
-use Rattle.group_read.specs.Shape.{Shape}
+use Rattle.format.specs.Laws.Limits.{Shape}
 use Rattle.group_write.specs.Writing.{Unsent}
 use Rattle.log_read.specs.Tally.{talliedOf}
 use Rattle.log_read.specs.declared.Tally.the-variants.{Items, Fault}
@@ -101,7 +101,7 @@ log-counted p ks log e w n words t = go (parsed (onPlan ks) log) refl t
         let v : wordsFrom log 0 ≡ flatMap itemWords is = words-parsed (onPlan ks) log is g in
         let m : words ≡ length (flatMap itemWords is) = cc in
         record {
-          shape = record { words-over = l .words; words-under = l .below; tracks-over = l .tracks; tracks-under = l .few };
+          shape = l .shape;
           unsent = rw (v, words-of is)
               (all-mapped _ wordFor (flatMap itemParts is)
               (all-map (λ x h. word-unsent (p .parity) x h) (items-hold ks (p .parity) is (all-map (λ i h. logged-sound p ks l i h) (f .1)))));

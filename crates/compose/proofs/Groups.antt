@@ -17,7 +17,7 @@ use Rattle.format.specs.Lists.{list}
 use Rattle.format.specs.Plan.{slots}
 use Rattle.format.specs.Word.{bytesOf}
 use Rattle.format.specs.declared.Plan.{Plan}
-use Rattle.group_read.specs.Shape.{dealtOf}
+use Rattle.format.specs.Group.{dealtOf}
 use Rattle.compose.specs.Compose.{groupsTo}
 use Rattle.compose.proofs.Laws.{Written, blocks-more, bytes-count}
 use Rattle.format.specs.Time.{timeEnd}

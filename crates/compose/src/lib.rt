@@ -9,7 +9,7 @@ ghost use Rattle.format.specs.Compose.{captureOf, composeWords, composed, first
 ghost use Rattle.format.specs.Plan.{groupWords, legal};
 ghost use Rattle.format.specs.Time.{timeEnd};
 ghost use Rattle.crc.specs.Running.{entries, farEntries};
-ghost use Rattle.group_read.specs.Shape.{Shape};
+ghost use Rattle.format.specs.Laws.Limits.{Shape, mostDealt};
 ghost use Rattle.group_write.specs.Writing.{Unsent};
 use crc;
 use format::Answer;
@@ -47,7 +47,7 @@ fn time_of(times: &[u64], group: usize) -> u64
 
 // Where a group's words end: with its share, or with the last of all.
 fn share_end(from: usize, share: usize, words: usize) -> usize
-    requires { ⌜ (from ≤ 15420) × (share ≤ 2044) ⌝ }
+    requires { ⌜ (from ≤ 15420) × (share ≤ mostDealt) ⌝ }
     ensures { λ r. ⌜ r ≡ min (from + share) words ⌝ }
 {
     let end = from + share;

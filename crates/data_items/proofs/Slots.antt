@@ -15,10 +15,10 @@ use Rattle.format.specs.Group.{groupSlots}
 use Rattle.format.specs.Laws.Tests.{and-true}
 pub use Rattle.format.specs.Laws.Word.Parts.{info-low}
 use Rattle.format.specs.declared.Plan.{Plan}
-use Rattle.group_read.specs.Shape.{Shape}
+use Rattle.format.specs.Laws.Limits.{Shape}
 use Rattle.group_read.specs.declared.Position.{Position}
 use Rattle.group_read.specs.Position.{Dealt, positionOf}
-use Rattle.group_read.proofs.Rows.{rows-under}
+use Rattle.format.specs.Laws.Limits.{rows-under}
 use Rattle.word.specs.Stored.{threeAt}
 use Rattle.word.proofs.Stored.{word-at-is-three}
 use Rattle.data_items.specs.Slots.{placeIn, wordIn, slotsOn, topOf, Ahead}
@@ -37,13 +37,13 @@ unfolding slots
 row-low p i s h =
     let a : lead p + i < p .tracks * rows p = omega arith in
     let b : lead p + i < rows p * p .tracks = rw (mul-comm (rows p) (p .tracks)) a in
-    div-lt-iff-lt-mul (s .tracks-over) .1 b
+    div-lt-iff-lt-mul (s .tracks-least) .1 b
 
 pub slot-place : (p : Plan) (i : ℕ) → Shape p → i < slots p → placeOf p (lead p + i) + 1 ≤ groupWords p
 unfolding placeOf
 slot-place p i s h =
     let t : ℕ = (lead p + i) % p .tracks in
-    let a : suc t ≤ p .tracks = mod-lt (lead p + i) (s .tracks-over) in
+    let a : suc t ≤ p .tracks = mod-lt (lead p + i) (s .tracks-least) in
     omega (arith, mul-le-mul-right (p .words) a, row-low p i s h, rows-under p s)
 
 -- ---- the list of them

@@ -9,7 +9,7 @@ use Rattle.format.specs.Word.{wordAt, busOf, labelOf}
 use Rattle.format.specs.Plan.{lead, slots, placeOf, groupWords}
 use Rattle.format.specs.Reader.{Slot}
 use Rattle.format.specs.declared.Plan.{Plan}
-use Rattle.group_read.specs.Shape.{Shape}
+use Rattle.format.specs.Laws.Limits.{Shape}
 use Rattle.group_read.specs.declared.Position.{Position}
 use Rattle.group_read.specs.Position.{positionOf}
 

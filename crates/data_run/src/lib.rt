@@ -8,7 +8,7 @@ ghost use lib.ListN.{length};
 ghost use Rattle.format.specs.Group.{groupSlots};
 ghost use Rattle.format.specs.Plan.{groupWords, slots};
 ghost use Rattle.format.specs.Reader.{run};
-ghost use Rattle.group_read.specs.Shape.{Shape};
+ghost use Rattle.format.specs.Laws.Limits.{Shape};
 ghost use Rattle.data_word.specs.Holding.{heldOf, Sane};
 ghost use Rattle.data_items.specs.Slots.{Ahead};
 ghost use Rattle.data_run.specs.Fills.{fillsIn};

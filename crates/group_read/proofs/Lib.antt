@@ -1,5 +1,4 @@
 -- The laws of one group as read, over plain numbers and lists.
-pub mod Rows
 pub mod Numbers
 pub mod Places
 pub mod Times

@@ -3,10 +3,10 @@ use Prim.Native.Nat.{ℕ, _+_, _*_, _-_, _/_, _%_, _≤_, _<_}
 use native.Mathlib.Omega.{arith}
 use native.Mathlib.Nat.{add-mul-div-right, add-mul-mod-self-right, mod-eq-of-lt, div-eq-of-lt, div-add-mod', mod-lt, div-le-self, mul-le-mul-right, mul-le-mul, div-lt-iff-lt-mul}
 use mathlib.Core.Path.{_≡_, refl, sym, ap, ap₂, _∙_}
-use Rattle.format.specs.Plan.{placeOf, groupWords}
+use Rattle.format.specs.Plan.{groupWords, leastWords, mostWords, placeOf}
 use Rattle.format.specs.declared.Plan.{Plan}
 use Rattle.group_read.specs.declared.Position.{Position}
-use Rattle.group_read.specs.Shape.{Shape}
+use Rattle.format.specs.Laws.Limits.{Shape}
 use Rattle.group_read.specs.Position.{positionOf}
 
 digits : (T track row s : ℕ) → track < T → row * T + track ≡ s → (s % T ≡ track) × (s / T ≡ row)
@@ -61,13 +61,13 @@ module _ (p : Plan) (group s : ℕ) (q : Position) (e : q ≡ positionOf p group
       let u : (row + 1) * p .tracks + q .track ≡ s + 1 = omega (arith, whole, h, t) in
       position-is p group (q .track) (row + 1) (q .place + 1) (s + 1) track-below u (omega (arith, place-is))
 
--- a track begins within the 2,048 words of the largest group
-pub track-low : (p : Plan) (track : ℕ) → track < p .tracks → p .tracks ≤ 4 → p .words < 512 → track * p .words < 1536
+-- a track begins within the largest group
+pub track-low : (p : Plan) (track : ℕ) → track < p .tracks → p .tracks ≤ 4 → p .words ≤ mostWords → track * p .words ≤ 3 * mostWords
 track-low p track h k l =
     let z : track ≤ 3 = omega arith in
     omega (arith, mul-le-mul-right (p .words) z)
 
-pub dealt-low : (p : Plan) (s : ℕ) → s < 3 → 1 ≤ p .tracks → p .tracks ≤ 4 → p .words < 512 → (s % p .tracks * p .words < 1536) × (s / p .tracks < 3)
+pub dealt-low : (p : Plan) (s : ℕ) → s < 3 → 1 ≤ p .tracks → p .tracks ≤ 4 → p .words ≤ mostWords → (s % p .tracks * p .words ≤ 3 * mostWords) × (s / p .tracks < 3)
 dealt-low p s h i k l = (track-low p (s % p .tracks) (mod-lt s i) k l, (let z : s / p .tracks ≤ s = div-le-self s (p .tracks) in omega arith))
 
 pub row-of-position : (p : Plan) (s k : ℕ) → 1 ≤ p .tracks → s < k * p .tracks → s / p .tracks < k
@@ -89,10 +89,10 @@ dealt-room p at s n place i room l e = omega (arith, dealt-within p s i l)
 -- as for the time words
 pub time-room : (p : Plan) (at s n place : ℕ) → Shape p → 3 * (at + groupWords p) ≤ n → s < 3 → place ≡ at + placeOf p s → 3 * (place + 1) ≤ n
 time-room p at s n place h room l e =
-    let i : 1 ≤ p .tracks = h .tracks-over in
-    let o : 128 ≤ p .words - 1 = let w : 128 < p .words = h .words-over in omega arith in
-    let m : 128 * 1 ≤ (p .words - 1) * p .tracks = mul-le-mul o i in
-    dealt-room p at s n place i room (omega arith) e
+    let i : 1 ≤ p .tracks = h .tracks-least in
+    let o : leastWords - 1 ≤ p .words - 1 = omega (arith, h .words-least) in
+    let m : (leastWords - 1) * 1 ≤ (p .words - 1) * p .tracks = mul-le-mul o i in
+    dealt-room p at s n place i room (omega (arith, m)) e
 
 -- the track t is within the capture
 pub track-room : (p : Plan) (at t n : ℕ) → 3 * (at + groupWords p) ≤ n → t < p .tracks → 3 * (at + t * p .words + p .words) ≤ n

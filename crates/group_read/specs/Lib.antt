@@ -1,5 +1,4 @@
 -- What the contracts cite beside the definitions of `format`.
-pub mod Shape
 pub mod Position
 pub mod Faults
 pub mod Reach

@@ -9,7 +9,7 @@ ghost use Rattle.format.specs.Word.{wordOf, wordAt, isOdd, sent};
 ghost use Rattle.format.specs.Plan.{lead, groupWords, placeOf};
 ghost use Rattle.format.specs.Group.{none, unless, groupFault, timeFault, timeInfo, groupTime};
 ghost use Rattle.crc.specs.Running.{entries, farEntries, nextCheck};
-ghost use Rattle.group_read.specs.Shape.{Shape};
+ghost use Rattle.format.specs.Laws.Limits.{Shape};
 ghost use Rattle.group_read.specs.Position.{Dealt, positionOf};
 ghost use Rattle.group_read.specs.Faults.{faultOf, firstChecked, earlierFault, isTimeWord, numberUnless, dueNumber, earlierNumber, wordNumber};
 ghost use Rattle.group_read.specs.Reach.{Clean};

@@ -13,7 +13,7 @@ use Rattle.format.specs.Lawful.{buses}
 use Rattle.format.specs.Lists.{nil, cons}
 use Rattle.format.specs.declared.Plan.{Plan}
 use Rattle.word.proofs.Below.{word-below}
-use Rattle.group_read.specs.Shape.{dealtOf}
+use Rattle.format.specs.Group.{dealtOf}
 use Rattle.group_write.specs.Writing.{Unsent}
 
 pub dealt-is : (p : Plan) (time : ℕ) (words : List ℕ) → dealtOf p time words ≡ take (lead p) (timeWords time) ++ words

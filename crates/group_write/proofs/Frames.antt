@@ -12,7 +12,7 @@ use Rattle.format.specs.Check.{checkWord}
 use Rattle.format.specs.Lists.{list}
 use Rattle.format.specs.declared.Plan.{Plan}
 use Rattle.crc.specs.Running.{nextCheck, checkFrom}
-use Rattle.group_read.specs.Shape.{Shape}
+use Rattle.format.specs.Laws.Limits.{Shape}
 use Rattle.group_write.specs.Writing.{rowWord, front}
 use Rattle.group_write.proofs.Laws.{blocks-more, length-list, frame-length, group-length}
 
@@ -58,8 +58,8 @@ module _ (p : Plan) (dealt : List ℕ) where
   frames-all n e = ap (λ (i : ℕ). flatMap (frame p dealt) (list (λ t. t) 0 i)) e
 
   pub frame-count : (t : ℕ) → Shape p → length (frame p dealt t) ≡ p .words
-  frame-count t h = frame-length p dealt t (omega (arith, h .words-over))
+  frame-count t h = frame-length p dealt t (omega (arith, h .words-least))
 
   -- for a caller, who goes on after the group
   pub group-count : Shape p → length (group p dealt) ≡ groupWords p
-  group-count h = group-length p (omega (arith, h .words-over)) (h .tracks-over) dealt
+  group-count h = group-length p (omega (arith, h .words-least)) (h .tracks-least) dealt

@@ -12,8 +12,7 @@ use Rattle.format.specs.Bits.{bit}
 use Rattle.format.specs.Plan.{rows, lead, slots}
 use Rattle.format.specs.Lists.{list}
 use Rattle.format.specs.declared.Plan.{Plan}
-use Rattle.group_read.specs.Shape.{Shape}
-use Rattle.group_read.proofs.Rows.{rows-under}
+use Rattle.format.specs.Laws.Limits.{Shape, dealt-most, lead-few, mostDealt, mostRows, room, rows-most, slots-most}
 use Rattle.group_write.specs.Writing.{Unsent, Run, rowWord, sentRows, sameRows, front, rowsWith}
 use Rattle.group_write.proofs.Dealt.{dealt-time, dealt-past}
 use Rattle.group_write.proofs.Laws.{list-same, list-split}
@@ -25,36 +24,15 @@ pub record Parted (T t size l a b n : ℕ) : Type 0 where
   pub timed : (l ≤ a * T + t) × (a * T + t < l + T)
   pub dealt : (l + size ≤ b * T + t) × (b * T + t < l + size + T)
   pub order : (a ≤ b) × (b ≤ n)
-  pub short : (n < 512) × (size ≤ 2044)
-
-rows-many : (p : Plan) → Shape p → 127 ≤ rows p
-unfolding rows
-rows-many p h = go (p .crc)
-  where
-    go : (b : Bool) → 127 ≤ p .words - 1 - bit b
-    go true = omega (arith, h .words-over)
-    go false = omega (arith, h .words-over)
-
-lead-few : (p : Plan) → lead p ≤ 3
-unfolding lead
-lead-few p = go (p .«frame_time»)
-  where
-    go : (b : Bool) → cond b 3 0 ≤ 3
-    go true = omega arith
-    go false = omega arith
+  pub short : (n ≤ mostRows) × (size ≤ mostDealt)
 
 -- time words and data have room in the rows
-fits : (p : Plan) (size : ℕ) → Shape p → size ≤ slots p → (lead p + size ≤ rows p * p .tracks) × (rows p * p .tracks ≤ 2044) × (rows p < 512)
+fits : (p : Plan) (size : ℕ) → Shape p → size ≤ slots p → (lead p + size ≤ rows p * p .tracks) × (rows p * p .tracks ≤ mostDealt) × (rows p ≤ mostRows)
 unfolding slots
-fits p size h s =
-    let T : ℕ = p .tracks in
-    let n : ℕ = rows p in
-    let m : 1 * n ≤ T * n = mul-le-mul-right n (h .tracks-over) in
-    let k : T * n ≤ 4 * n = mul-le-mul-right n (h .tracks-under) in
-    (omega (arith, s, m, lead-few p, rows-many p h), omega (arith, k, rows-under p h, h .words-under), omega (arith, rows-under p h, h .words-under))
+fits p size h s = (omega (arith, s, room p h, lead-few p), omega (arith, dealt-most p h), rows-most p h)
 
-pub words-few : (p : Plan) (size : ℕ) → Shape p → size ≤ slots p → size ≤ 2044
-words-few p size h s = omega (arith, fits p size h s)
+pub words-few : (p : Plan) (size : ℕ) → Shape p → size ≤ slots p → size ≤ mostDealt
+words-few p size h s = omega (arith, slots-most p h, s)
 
 module _ (p : Plan) (t : ℕ) (h : Shape p) (u : t < p .tracks) where
   with-is : (n : ℕ) → (n ≤ rowsWith p t n * p .tracks + t) × (rowsWith p t n * p .tracks + t < n + p .tracks)
@@ -63,7 +41,7 @@ module _ (p : Plan) (t : ℕ) (h : Shape p) (u : t < p .tracks) where
       let T : ℕ = p .tracks in
       let k : ℕ = n + T - 1 - t in
       let e : k / T * T + k % T ≡ k = div-add-mod' k T in
-      let l : k % T < T = mod-lt k (h .tracks-over) in
+      let l : k % T < T = mod-lt k (h .tracks-least) in
       (omega (arith, e, l, u), omega (arith, e, l, u))
 
   -- rows up to which there is a word come before those up to which there is a later one
@@ -79,7 +57,7 @@ module _ (p : Plan) (t : ℕ) (h : Shape p) (u : t < p .tracks) where
       let f = fits p size h s in
       let d : l + size ≤ rows p * p .tracks = omega (arith, el, f .0) in
       record {
-        one = h .tracks-over;
+        one = h .tracks-least;
         few = omega (arith, el, lead-few p);
         timed = rw ea (with-is l);
         dealt = rw eb (with-is (l + size));

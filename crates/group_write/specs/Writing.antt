@@ -2,6 +2,7 @@
 use Prim.Native.Nat.{ℕ, _+_, _*_, _/_, _-_, _^_, _<_, _≤_}
 use mathlib.Core.List.{List, _∷_}
 use lib.ListN.{getD, length}
+use Rattle.format.specs.Laws.Limits.{mostRows}
 use Rattle.format.specs.Word.{sent, sync, fill}
 use Rattle.format.specs.Lawful.{buses}
 use Rattle.format.specs.Lists.{list, All}
@@ -36,5 +37,5 @@ pub record Run (p : Plan) (ws : List ℕ) (first n : ℕ) (out : List ℕ) : Typ
   pub unsent : Unsent p ws
   pub few : length ws < 2048
   pub ends : n * p .tracks + first < length ws + p .tracks
-  pub short : n < 512
+  pub short : n ≤ mostRows
   pub room : 3 * n ≤ length out

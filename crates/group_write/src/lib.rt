@@ -11,7 +11,8 @@ ghost use Rattle.format.specs.Time.{timeEnd};
 ghost use Rattle.format.specs.Plan.{rows, lead, slots, groupWords};
 ghost use Rattle.format.specs.Group.{timeWords, frame, group};
 ghost use Rattle.crc.specs.Running.{checkFrom, entries, farEntries};
-ghost use Rattle.group_read.specs.Shape.{Shape, dealtOf};
+ghost use Rattle.format.specs.Laws.Limits.{Shape, mostRows};
+ghost use Rattle.format.specs.Group.{dealtOf};
 ghost use Rattle.group_write.specs.Writing.{Run, Unsent, front, sentRows, sameRows, rowsWith};
 use crc;
 use format::Plan;
@@ -57,7 +58,7 @@ fn rows_with(plan: Plan, track: usize, count: usize) -> usize
 
 // One word, as it is sent.
 fn put_row(out: &mut [u8], parity: bool, row: usize, word: u32) -> u32
-    requires { ⌜ (3 * row + 3 ≤ length (now out)) × (row < 512) × (word < buses parity * 2 ^ 20) ⌝ }
+    requires { ⌜ (3 * row + 3 ≤ length (now out)) × (row ≤ mostRows) × (word < buses parity * 2 ^ 20) ⌝ }
     ensures { λ r. ⌜ (r ≡ sent parity word) × (r < 2 ^ 24) × (now (out .exit) ≡ take (3 * row) (now (out .entry)) ++ (bytesOf r ++ drop (3 * row + 3) (now (out .entry)))) ⌝ }
 {
     let sent = word::sent(parity, word);
@@ -112,7 +113,7 @@ fn put_checked(
 }
 
 fn fill_rows(out: &mut [u8], fill: u32, rows: usize)
-    requires { ⌜ (3 * rows ≤ length (now out)) × (rows < 512) × (fill < 2 ^ 24) ⌝ }
+    requires { ⌜ (3 * rows ≤ length (now out)) × (rows ≤ mostRows) × (fill < 2 ^ 24) ⌝ }
     ensures { λ _. ⌜ now (out .exit) ≡ flatMap bytesOf (sameRows fill rows) ++ drop (3 * rows) (now (out .entry)) ⌝ }
 {
     let mut row = 0;
@@ -124,7 +125,7 @@ fn fill_rows(out: &mut [u8], fill: u32, rows: usize)
 
 // The check after rows of fill.
 fn check_fill(tables: &[u32; 768], far: &[u32; 768], fill: u32, rows: usize, before: u32) -> u32
-    requires { ⌜ (rows < 512) × (fill < 2 ^ 24) × (before < 2 ^ 16) × (now tables ≡ entries) × (now far ≡ farEntries) ⌝ }
+    requires { ⌜ (rows ≤ mostRows) × (fill < 2 ^ 24) × (before < 2 ^ 16) × (now tables ≡ entries) × (now far ≡ farEntries) ⌝ }
     ensures { λ r. ⌜ (r ≡ checkFrom before (sameRows fill rows)) × (r < 2 ^ 16) ⌝ }
 {
     let mut check = before;
@@ -192,7 +193,7 @@ fn fill_checked(
     rows: usize,
     before: u32,
 ) -> u32
-    requires { ⌜ (3 * rows ≤ length (now out)) × (rows < 512) × (before < 2 ^ 16) × (now tables ≡ entries) × (now far ≡ farEntries) ⌝ }
+    requires { ⌜ (3 * rows ≤ length (now out)) × (rows ≤ mostRows) × (before < 2 ^ 16) × (now tables ≡ entries) × (now far ≡ farEntries) ⌝ }
     ensures { λ r. ⌜ (r ≡ checkFrom before (sameRows (sent (plan .parity) fill) rows)) × (r < 2 ^ 16)
         × (now (out .exit) ≡ flatMap bytesOf (sameRows (sent (plan .parity) fill) rows) ++ drop (3 * rows) (now (out .entry))) ⌝ }
 {

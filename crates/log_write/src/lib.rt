@@ -64,7 +64,7 @@ impl Pen {
         }
     }
 
-    // An item's bits more.
+    // An item's bits more. Nothing calls it yet: it is for the requests that write logs from items, pick and join (K7), shift (K9).
     pub fn put_item(self, out: &mut [u8], item: Item) -> Pen
         requires { ⌜ self .bits < 2 ^ 61 ⌝ }
         ensures { λ r. ⌜ (r ≡ itemPut self item) × (now (out .exit) ≡ itemIn (now (out .entry)) self item) ⌝ }

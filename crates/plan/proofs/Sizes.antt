@@ -1,4 +1,4 @@
--- Used buses counted from the left, and what a group of a legal plan holds.
+-- Used buses counted from the left, and the data slots with and without frame time.
 use Prim.Native.Nat.{ℕ, zero, suc, _+_, _*_, _-_, _<_, _≤_}
 use native.Mathlib.Nat.{mul-le-mul-right}
 use native.Mathlib.Omega.{arith}
@@ -10,9 +10,6 @@ use lib.ListN.{length, drop}
 use Rattle.format.specs.Bits.{bit}
 use Rattle.format.specs.Plan.{groupWords, isUsed, kindOn, lead, rows, slots, usedBuses}
 use Rattle.format.specs.declared.Plan.{Plan}
-use Rattle.group_read.specs.Shape.{Shape}
-use Rattle.format.specs.Laws.Legal.{Legal, many}
-use Rattle.group_read.proofs.Rows.{rows-under}
 use Rattle.format.specs.declared.Kind.{Kind}
 
 pub bus-counted : (ks : List Kind) (i : ℕ) (b : Bool) → isUsed (kindOn ks i) ≡ b → i < length ks → usedBuses (drop i ks) ≡ bit b + usedBuses (drop (i + 1) ks)
@@ -29,17 +26,6 @@ all-counted [] zero h = refl
 all-counted [] (suc i) h = refl
 all-counted (k ∷ ks) zero h = absurd (omega arith)
 all-counted (k ∷ ks) (suc i) h = all-counted ks i (omega arith)
-
--- what the laws of a legal plan ask, where the kinds do not matter
-pub shape-legal : (p : Plan) → Shape p → Legal p []
-unfolding usedBuses
-shape-legal p h = record { words = h .words-over; tracks = h .tracks-over; below = h .words-under; few = h .tracks-under; low = λ e. refl }
-
-pub dealt-between : (p : Plan) → Shape p → (126 ≤ p .tracks * rows p) × (p .tracks * rows p ≤ 2044)
-dealt-between p h = (many p [] (shape-legal p h), omega (arith, rows-under p h, h .words-under, mul-le-mul-right (rows p) (h .tracks-under)))
-
-pub stored-few : (p : Plan) → Shape p → groupWords p ≤ 2044
-stored-few p h = omega (arith, h .words-under, mul-le-mul-right (p .words) (h .tracks-under))
 
 pub slots-timed : (p : Plan) → p .«frame_time» ≡ true → slots p ≡ p .tracks * rows p - 3
 unfolding slots lead

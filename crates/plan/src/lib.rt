@@ -7,7 +7,7 @@ ghost use lib.Dec.{eqb};
 ghost use lib.ListN.{drop};
 ghost use Rattle.format.specs.Plan.{groupWords, kindOn, legal, rows, slots, usedBuses};
 ghost use Rattle.format.specs.Compose.{groupsFor};
-ghost use Rattle.group_read.specs.Shape.{Shape};
+ghost use Rattle.format.specs.Laws.Limits.{Shape, leastSlots, mostDealt, mostGroupWords};
 use format::Kind;
 use format::Plan;
 use format::is_used;
@@ -55,13 +55,18 @@ fn parity_fits(parity: bool, kinds: [Kind; 16]) -> bool
     true
 }
 
+// The limits of a frame's length in words.
+const LEAST_WORDS: usize = 129;
+
+const MOST_WORDS: usize = 511;
+
 pub fn legal(plan: Plan, kinds: [Kind; 16]) -> bool
     ensures { λ r. ⌜ r ≡ legal plan kinds ⌝ }
 {
-    if plan.words <= 128 {
+    if plan.words < LEAST_WORDS {
         return false;
     }
-    if 512 <= plan.words {
+    if MOST_WORDS < plan.words {
         return false;
     }
     if plan.tracks < 1 {
@@ -90,7 +95,7 @@ fn rows(plan: Plan) -> usize
 // "Data slots in a group".
 pub fn slots(plan: Plan) -> usize
     requires { ⌜ Shape plan ⌝ }
-    ensures { λ r. ⌜ (r ≡ slots plan) × (123 ≤ r) × (r ≤ 2044) ⌝ }
+    ensures { λ r. ⌜ (r ≡ slots plan) × (leastSlots ≤ r) × (r ≤ mostDealt) ⌝ }
 {
     let dealt = plan.tracks * rows(plan);
     if plan.frame_time {
@@ -102,7 +107,7 @@ pub fn slots(plan: Plan) -> usize
 // A group's words as stored: "T frames of L words".
 pub fn group_words(plan: Plan) -> usize
     requires { ⌜ Shape plan ⌝ }
-    ensures { λ r. ⌜ (r ≡ groupWords plan) × (r ≤ 2044) ⌝ }
+    ensures { λ r. ⌜ (r ≡ groupWords plan) × (r ≤ mostGroupWords) ⌝ }
 {
     plan.tracks * plan.words
 }

@@ -10,7 +10,7 @@ use lib.Dec.{leb}
 use borrow.Author.Tests.{le-leb, lt-leb, leb-true, eq-eqb, ne-eqb}
 use Rattle.format.specs.Lists.{list}
 use Rattle.format.specs.Log.{logOf}
-use Rattle.format.specs.Plan.{groupWords, legal}
+use Rattle.format.specs.Plan.{groupWords, legal, timesNeeded}
 use Rattle.format.specs.Group.{Fault, none, found, groupTime}
 use Rattle.format.specs.Read.{Got, Reading, gives, refuses, roomed, unmisplaced, settled, reading, readGroups, misplaced}
 use Rattle.format.specs.Answer.{success, refusal}
@@ -19,14 +19,15 @@ use Rattle.format.specs.declared.Kind.{Kind}
 use Rattle.format.specs.declared.Held.the-variants.{Nothing}
 use Rattle.format.specs.declared.Plan.{Plan}
 use Rattle.format.specs.Laws.Lists.{length-list}
-use Rattle.format.specs.Laws.Legal.{Legal, legal-is}
-use Rattle.group_read.specs.Shape.{Shape}
+pub use Rattle.format.specs.Laws.Legal.{shape-of}
+pub use Rattle.format.specs.Laws.Limits.{some-words}
+use Rattle.format.specs.Laws.Limits.{Shape}
 use Rattle.read_groups.specs.declared.Outcome.{Outcome}
 use Rattle.read_groups.specs.Misplaced.{told}
 use Rattle.read_groups.specs.Groups.{groupsOn}
 use Rattle.read_groups.specs.End.{Logged, Ended}
 use Rattle.read_groups.proofs.Misplaced.{told-none, told-found}
-use Rattle.read.specs.Given.{timesNeeded, earlier, roomNumber, Built, Given}
+use Rattle.read.specs.Given.{earlier, roomNumber, Built, Given}
 
 pub given-refused : {g : Reading} {r : Answer} {number place : ℕ} (log times : List ℕ) → g ≡ refuses number place → r ≡ refusal number place → Given g r log log times times
 given-refused {g} {r} log times e a = subst (λ (x : Reading). Given x r log log times times) (sym e) (a, refl, refl)
@@ -156,14 +157,6 @@ module _ (p : Plan) (c : List ℕ) (n logRoom timeRoom : ℕ) (closed : Bool) wh
           ap answers (l .is) ∙ none-by closed (roomed p c n logRoom timeRoom (logOf (l .items))) (misplaced p (groupsOn p c 0 n)) (r .misplaced) (l .fill) (sym e ∙ z)
 
 -- ---- "Reading checks 1, 8"
-
-pub shape-of : (p : Plan) (ks : List Kind) → legal p ks ≡ true → Shape p
-shape-of p ks e =
-    let l : Legal p ks = legal-is p ks e in
-    record { words-over = l .words; words-under = l .below; tracks-over = l .tracks; tracks-under = l .few }
-
-pub some-words : (p : Plan) → Shape p → 1 ≤ groupWords p
-some-words p s = omega (arith, mul-le-mul-right (p .words) (s .tracks-over), s .words-over)
 
 pub whole-groups : (p : Plan) (k : ℕ) → k % (3 * groupWords p) ≡ 0 → k ≡ k / (3 * groupWords p) * (3 * groupWords p)
 whole-groups p k e = sym (div-add-mod' k (3 * groupWords p)) ∙ rw e (omega arith)

@@ -15,9 +15,6 @@ use Rattle.format.specs.Answer.{readAnswer, logAfter, timesAfter}
 use Rattle.format.specs.declared.Answer.{Answer}
 use Rattle.format.specs.declared.Plan.{Plan}
 
-abbrev pub timesNeeded : Plan → ℕ → ℕ
-timesNeeded p n = cond (p .«frame_time») n 0
-
 -- "6, 7": the number of the refusal for want of room, 0 for none
 abbrev pub shortOf : ℕ → ℕ → ℕ → ℕ
 shortOf number needed room = cond (leb needed room) 0 number

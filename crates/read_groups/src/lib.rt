@@ -6,7 +6,7 @@ ghost use Prim.Native.Nat.{_*_, _≤_};
 ghost use lib.ListN.{length};
 ghost use Rattle.crc.specs.Running.{entries, farEntries};
 ghost use Rattle.format.specs.Plan.{groupWords, slots};
-ghost use Rattle.group_read.specs.Shape.{Shape};
+ghost use Rattle.format.specs.Laws.Limits.{Shape};
 ghost use Rattle.read_groups.specs.End.{Ended};
 ghost use Rattle.read_groups.specs.Groups.{startPass, Walked};
 use data_run::Pass;

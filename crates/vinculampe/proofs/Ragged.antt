@@ -18,28 +18,10 @@ use Rattle.format.specs.declared.Kind.{Kind}
 use Rattle.format.specs.declared.Plan.{Plan}
 use Rattle.from_c.specs.Numbers.{timesFrom}
 use Rattle.vinculampe.specs.Interface.{composedBytes, ragged, raggedParsed}
-use Rattle.vinculampe.proofs.Laws.{Legal, legal-is, log-forth, many, times-wrong, words-few}
+use Rattle.vinculampe.proofs.Laws.{composed-most, log-forth, mostComposed, shape-of, times-wrong, words-few}
 use Rattle.from_c.proofs.Times.{times-number}
 
-slots-many : (p : Plan) (ks : List Kind) → Legal p ks → 123 ≤ slots p
-unfolding slots lead
-slots-many p ks l = go (p .«frame_time»)
-  where
-    go : (b : Bool) → 123 ≤ p .tracks * rows p - cond b 3 0
-    go true = omega (arith, many p ks l)
-    go false = omega (arith, many p ks l)
-
-groups-few : (p : Plan) (ks : List Kind) → Legal p ks → (n : ℕ) → n ≤ 15420 → groupsFor p n ≤ 126
-unfolding groupsFor
-groups-few p ks l n h = go (decLt ((n + slots p - 1) / slots p) 127)
-  where
-    go : Dec ((n + slots p - 1) / slots p < 127) → (n + slots p - 1) / slots p ≤ 126
-    go (yes k) = omega arith
-    go (no k) =
-        let m : 127 ≤ (n + slots p - 1) / slots p = omega arith in
-        absurd (omega (arith, slots-many p ks l, div-mul-le-self (n + slots p - 1) (slots p), mul-le-mul-right (slots p) m))
-
-needed-few : (b : Bool) (n : ℕ) → n ≤ 126 → cond b n 0 ≤ 126
+needed-few : (b : Bool) (n : ℕ) → n ≤ mostComposed → cond b n 0 ≤ mostComposed
 needed-few true n h = h
 needed-few false n h = omega arith
 
@@ -52,7 +34,7 @@ module _ (p : Plan) (ks : List Kind) (log : List ℕ) (w : Bytes log) where
       of e (fault n q) g = refl
       of e (items is) g =
           let f = log-forth (onPlan ks) log is w g in
-          let n = groups-few p ks (legal-is p ks e) (length (flatMap itemWords is)) (words-few is (rw (f .0) (f .2))) in
+          let n = composed-most p (shape-of p ks e) (length (flatMap itemWords is)) (words-few is (rw (f .0) (f .2))) in
           let k = needed-few (p .«frame_time») (groupsFor p (length (flatMap itemWords is))) n in
           times-wrong p times room (flatMap itemWords is) (λ z. absurd (omega (arith, k, z)))
 

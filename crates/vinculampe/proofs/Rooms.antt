@@ -14,28 +14,16 @@ use Rattle.format.specs.Answer.{over}
 use Rattle.format.specs.Group.{Fault, none, found, groupTime, groupSlots}
 use Rattle.format.specs.Lists.{list}
 use Rattle.format.specs.Log.{logOf}
-use Rattle.format.specs.Plan.{groupWords, legal}
+use Rattle.format.specs.Plan.{groupWords, legal, timesNeeded}
 use Rattle.format.specs.Read.{Got, got, stopped, Reading, gives, refuses, misplaced, readGroups, reading, roomed, settled, unmisplaced}
 use Rattle.format.specs.declared.Answer.{Answer}
 use Rattle.format.specs.declared.Held.the-variants.{Nothing}
 use Rattle.format.specs.declared.Kind.{Kind}
 use Rattle.format.specs.declared.Plan.{Plan}
-use Rattle.read.specs.Given.{Given, timesNeeded}
+use Rattle.read.specs.Given.{Given}
 use Rattle.from_c.specs.Numbers.{timeBytes}
 use Rattle.vinculampe.specs.Interface.{GivenBytes}
-use Rattle.vinculampe.proofs.Laws.{Legal, legal-is, and-true, length-list, times-few}
-
--- a group has at least 387 bytes
-groups-in : (p : Plan) (ks : List Kind) → Legal p ks → (n : ℕ) → n / (3 * groupWords p) ≤ n / 387
-groups-in p ks l n = go (decLt (n / (3 * groupWords p)) (n / 387 + 1))
-  where
-    go : Dec (n / (3 * groupWords p) < n / 387 + 1) → n / (3 * groupWords p) ≤ n / 387
-    go (yes k) = omega arith
-    go (no k) =
-        let m : n / 387 + 1 ≤ n / (3 * groupWords p) = omega arith in
-        let g : 1 * p .words ≤ groupWords p = mul-le-mul-right (p .words) (l .tracks) in
-        let e : 387 ≤ 3 * groupWords p = omega (arith, l .words, g) in
-        absurd (omega (arith, mul-le-mul-left (n / 387 + 1) e, div-mul-le-self n (3 * groupWords p), mul-le-mul-right (3 * groupWords p) m))
+use Rattle.vinculampe.proofs.Laws.{and-true, groups-most, leastGroupBytes, length-list, shape-of, times-few}
 
 -- the times given are no more than there is room for
 abbrev pub Few : ℕ → Reading → Type 0
@@ -52,7 +40,7 @@ module _ (closed : Bool) (p : Plan) (ks : List Kind) (c : List ℕ) (logRoom : �
   abbrev all : ℕ → Reading
   all T = settled p c (length c / size) logRoom T closed (readGroups p ks c (length c / size) 0 Nothing 0)
 
-  module _ (T U : ℕ) (t : length c ≤ 1048576 → length c / 387 ≤ T) (u : length c ≤ 1048576 → length c / 387 ≤ U) where
+  module _ (T U : ℕ) (t : length c ≤ 1048576 → length c / leastGroupBytes ≤ T) (u : length c ≤ 1048576 → length c / leastGroupBytes ≤ U) where
     roomed-same : (n : ℕ) → n ≤ T → n ≤ U → (log : List ℕ) → roomed p c n logRoom T log ≡ roomed p c n logRoom U log
     roomed-same n h k log =
         let few = times-few p n in
@@ -70,7 +58,7 @@ module _ (closed : Bool) (p : Plan) (ks : List Kind) (c : List ℕ) (logRoom : �
         of : legal p ks ≡ true → (b : Bool) → whole ≡ b → cond b (all T) (refuses 8 (length c)) ≡ cond b (all U) (refuses 8 (length c))
         of e true f =
             let s : length c ≤ 1048576 = leb-true (length c) 1048576 (and-true _ _ f .0) in
-            let k = groups-in p ks (legal-is p ks e) (length c) in
+            let k = groups-most p (shape-of p ks e) (length c) in
             settled-same (length c / size) (omega (arith, k, t s)) (omega (arith, k, u s)) (readGroups p ks c (length c / size) 0 Nothing 0)
         of e false f = refl
 
@@ -104,7 +92,7 @@ module _ (closed : Bool) (p : Plan) (ks : List Kind) (c : List ℕ) (logRoom : �
       go false b = tt
 
 -- a row that has an entry for every time that there is room for, or for every group of a capture
-pub least-enough : (closed : Bool) (p : Plan) (ks : List Kind) (c : List ℕ) (logRoom T row k : ℕ) → (row < T → length c ≤ 1048576 → length c / 387 ≤ row) → k ≡ cond (leb T row) T row
+pub least-enough : (closed : Bool) (p : Plan) (ks : List Kind) (c : List ℕ) (logRoom T row k : ℕ) → (row < T → length c ≤ 1048576 → length c / leastGroupBytes ≤ row) → k ≡ cond (leb T row) T row
     → reading closed p ks c logRoom T ≡ reading closed p ks c logRoom k
 least-enough closed p ks c logRoom T row k h e = go (leb T row) refl e
   where

@@ -7,6 +7,7 @@ ghost use lib.Dec.{leb};
 ghost use lib.ListN.{length};
 ghost use Rattle.format.specs.Answer.{composeAnswer, outAfter, refusal};
 ghost use Rattle.format.specs.Read.{reading};
+ghost use Rattle.format.specs.Laws.Limits.{leastGroupBytes};
 ghost use Rattle.read.specs.Given.{Given};
 ghost use Rattle.vinculampe.specs.Interface.{composedBytes, composedFrom, GivenBytes, readingFrom};
 pub use compose::compose;
@@ -120,7 +121,7 @@ fn read_by(
     times: &mut [u8],
     row: &mut [u64],
 ) -> Answer
-    requires { ⌜ (length (now row) < length (now times) / 8 → length (now capture) ≤ 1048576 → length (now capture) / 387 ≤ length (now row)) ⌝ }
+    requires { ⌜ (length (now row) < length (now times) / 8 → length (now capture) ≤ 1048576 → length (now capture) / leastGroupBytes ≤ length (now row)) ⌝ }
     ensures { λ r. ⌜ GivenBytes (reading closed plan kinds (now (capture .entry)) (length (now (log .entry))) (length (now (times .entry)) / 8)) r (now (log .entry)) (now (log .exit)) (now (times .entry)) (now (times .exit)) ⌝ }
 {
     let entries = least(times.len() / 8, row.len());

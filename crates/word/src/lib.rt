@@ -7,7 +7,7 @@ ghost use Prim.Native.Nat.{_+_, _≤_, _<_, _^_};
 ghost use lib.ListN.{length, take, drop};
 ghost use Rattle.format.specs.Word.{wordOf, busOf, labelOf, infoOf, isOdd, sent, sync, fill, isFill, bytesOf};
 ghost use Rattle.format.specs.Time.{microseconds, timeEnd};
-ghost use Rattle.format.specs.Item.{highLabel, lowLabel, channelOf};
+ghost use Rattle.format.specs.Item.{highLabel, lowLabel};
 ghost use Rattle.word.specs.Stored.{threeAt};
 ghost use Rattle.word.specs.Parts.{partsOf};
 use format::Time;
@@ -130,17 +130,4 @@ pub fn low_label(channel: u32) -> u32
     ensures { λ r. ⌜ r ≡ lowLabel channel ⌝ }
 {
     8 + 2 * channel
-}
-
-// The channel whose high syllable has this label; 4 if none has.
-pub fn channel_of(label: u32) -> u32
-    ensures { λ r. ⌜ r ≡ channelOf label ⌝ }
-{
-    match label {
-        9 => 0,
-        11 => 1,
-        13 => 2,
-        15 => 3,
-        _ => 4,
-    }
 }

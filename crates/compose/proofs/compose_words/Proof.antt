@@ -1,5 +1,4 @@
 use Rattle.compose.proofs.Answered.{times-wrong, time-late, room-short, all-made, capture-length}
-use Rattle.plan.proofs.Sizes.{shape-legal}
 use Rattle.compose.proofs.Laws.{small, timely}
 use Rattle.format.specs.Plan.{groupWords}
 use Rattle.format.specs.Compose.{groupsFor}
@@ -70,7 +69,7 @@ mul-bytes-2 c =
     let groups : c .before .before .before .before .before .groups-for .result ≡ groupsFor (a .plan) (length ws) = c .before .before .before .before .before .groups-for .ensures in
     let bytes : c .before .before .before .before .before .groups-for .result * (3 * c .group-words .result) ≡ groupsFor (a .plan) (length ws) * (3 * groupWords (a .plan)) =
     ap₂ (λ (g w : ℕ). g * (3 * w)) groups (c .group-words .ensures .0) in
-    rw bytes (omega (arith, small (a .plan) [] (shape-legal (a .plan) (q .0)) (length ws) (q .1)))
+    rw bytes (omega (arith, small (a .plan) (q .0) (length ws) (q .1)))
 
 refusal-requires-3 : tie.Need-refusal-requires-3
 refusal-requires-3 c κs = search needs

@@ -19,19 +19,19 @@ rem-t5 : tie.Need-rem-t5
 rem-t5 c = search needs
 
 mul-t6 : tie.Need-mul-t6
-mul-t6 c = omega (arith, track-low (c .before .before .before .before .args .plan) (3 % c .before .before .before .before .args .plan .tracks) (mod-lt 3 (c .before .before .before .before .pre .0 .tracks-over)) (c .before .before .before .before .pre .0 .tracks-under) (c .before .before .before .before .pre .0 .words-under))
+mul-t6 c = omega (arith, track-low (c .before .before .before .before .args .plan) (3 % c .before .before .before .before .args .plan .tracks) (mod-lt 3 (c .before .before .before .before .pre .0 .tracks-least)) (c .before .before .before .before .pre .0 .tracks-most) (c .before .before .before .before .pre .0 .words-most))
 
 div-t7 : tie.Need-div-t7
 div-t7 c = search needs
 
 add-t8 : tie.Need-add-t8
-add-t8 c = omega (arith, track-low (c .before .before .before .before .before .args .plan) (3 % c .before .before .before .before .before .args .plan .tracks) (mod-lt 3 (c .before .before .before .before .before .pre .0 .tracks-over)) (c .before .before .before .before .before .pre .0 .tracks-under) (c .before .before .before .before .before .pre .0 .words-under), div-le-self 3 (c .before .before .before .before .before .args .plan .tracks))
+add-t8 c = omega (arith, track-low (c .before .before .before .before .before .args .plan) (3 % c .before .before .before .before .before .args .plan .tracks) (mod-lt 3 (c .before .before .before .before .before .pre .0 .tracks-least)) (c .before .before .before .before .before .pre .0 .tracks-most) (c .before .before .before .before .before .pre .0 .words-most), div-le-self 3 (c .before .before .before .before .before .args .plan .tracks))
 
 add-t9 : tie.Need-add-t9
-add-t9 c = omega (arith, track-low (c .before .before .before .before .before .args .plan) (3 % c .before .before .before .before .before .args .plan .tracks) (mod-lt 3 (c .before .before .before .before .before .pre .0 .tracks-over)) (c .before .before .before .before .before .pre .0 .tracks-under) (c .before .before .before .before .before .pre .0 .words-under), div-le-self 3 (c .before .before .before .before .before .args .plan .tracks))
+add-t9 c = omega (arith, track-low (c .before .before .before .before .before .args .plan) (3 % c .before .before .before .before .before .args .plan .tracks) (mod-lt 3 (c .before .before .before .before .before .pre .0 .tracks-least)) (c .before .before .before .before .before .pre .0 .tracks-most) (c .before .before .before .before .before .pre .0 .words-most), div-le-self 3 (c .before .before .before .before .before .args .plan .tracks))
 
 add-t10 : tie.Need-add-t10
-add-t10 c = omega (arith, track-low (c .before .before .before .before .before .args .plan) (3 % c .before .before .before .before .before .args .plan .tracks) (mod-lt 3 (c .before .before .before .before .before .pre .0 .tracks-over)) (c .before .before .before .before .before .pre .0 .tracks-under) (c .before .before .before .before .before .pre .0 .words-under), div-le-self 3 (c .before .before .before .before .before .args .plan .tracks))
+add-t10 c = omega (arith, track-low (c .before .before .before .before .before .args .plan) (3 % c .before .before .before .before .before .args .plan .tracks) (mod-lt 3 (c .before .before .before .before .before .pre .0 .tracks-least)) (c .before .before .before .before .before .pre .0 .tracks-most) (c .before .before .before .before .before .pre .0 .words-most), div-le-self 3 (c .before .before .before .before .before .args .plan .tracks))
 
 returns : tie.Need-returns
 unfolding lead placeOf

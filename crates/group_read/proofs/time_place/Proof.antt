@@ -1,13 +1,13 @@
-use Prim.Native.Nat.{_*_, _/_, _%_, _<_}
+use Prim.Native.Nat.{_*_, _/_, _%_, _≤_, _<_}
 use Rattle.group_read.proofs.Places.{dealt-low}
-use Rattle.format.specs.Plan.{placeOf}
+use Rattle.format.specs.Plan.{mostWords, placeOf}
 use native.Mathlib.Omega.{arith}
 use borrow.Author.Needs.{needs}
 use Rattle.group_read.proofs.time_place.Statement.{statement}
 use Rattle.group_read.proofs.time_place.Tie as tie
 
-low : (c : tie.Start) → (c .args .dealt % c .args .plan .tracks * c .args .plan .words < 1536) × (c .args .dealt / c .args .plan .tracks < 3)
-low c = dealt-low (c .args .plan) (c .args .dealt) (c .pre .2) (c .pre .0 .tracks-over) (c .pre .0 .tracks-under) (c .pre .0 .words-under)
+low : (c : tie.Start) → (c .args .dealt % c .args .plan .tracks * c .args .plan .words ≤ 3 * mostWords) × (c .args .dealt / c .args .plan .tracks < 3)
+low c = dealt-low (c .args .plan) (c .args .dealt) (c .pre .2) (c .pre .0 .tracks-least) (c .pre .0 .tracks-most) (c .pre .0 .words-most)
 
 rem-result : tie.Need-rem-result
 rem-result c = search needs

@@ -104,7 +104,7 @@ mul-s : tie.Need-mul-s Inv-loop μ-loop
 mul-s c = search needs
 
 add-s : tie.Need-add-s Inv-loop μ-loop
-add-s c = omega (arith, second-at (c .before .before .before .before .before .before .before .before .before .before .before .before .before), entry (c .before .before .before .before .before .before .before .before .before .before .before .before .before .before) .pre .1 .few, entry (c .before .before .before .before .before .before .before .before .before .before .before .before .before .before) .pre .0 .tracks-under)
+add-s c = omega (arith, second-at (c .before .before .before .before .before .before .before .before .before .before .before .before .before), entry (c .before .before .before .before .before .before .before .before .before .before .before .before .before .before) .pre .1 .few, entry (c .before .before .before .before .before .before .before .before .before .before .before .before .before .before) .pre .0 .tracks-most)
 
 add-row : tie.Need-add-row Inv-loop μ-loop
 add-row c = search needs

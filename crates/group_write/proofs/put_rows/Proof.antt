@@ -35,7 +35,7 @@ put-row-requires c κs = let s = c .before .before .before .before .before .befo
     (omega (arith, s .pre .1 .room, written-length (o .inv .2)), omega (arith, s .pre .1 .short), run-low (s .args .plan) (s .args .words .now) (s .args .first) (o .s) (s .pre .1 .unsent))
 
 add-s : tie.Need-add-s Inv-loop μ-loop
-add-s c = omega (arith, there (c .before .before .before .before .before .before), c .before .before .before .before .before .before .before .before .before .before .pre .1 .few, c .before .before .before .before .before .before .before .before .before .before .pre .0 .tracks-under)
+add-s c = omega (arith, there (c .before .before .before .before .before .before), c .before .before .before .before .before .before .before .before .before .before .pre .1 .few, c .before .before .before .before .before .before .before .before .before .before .pre .0 .tracks-most)
 
 add-row : tie.Need-add-row Inv-loop μ-loop
 add-row c = search needs

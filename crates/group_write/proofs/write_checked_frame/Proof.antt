@@ -10,11 +10,11 @@ use Rattle.format.specs.Check.{checkWord}
 use Rattle.format.specs.Lawful.{buses}
 use Rattle.word.proofs.Below.{sent-below}
 use Rattle.crc.proofs.Running.{check-is-from}
-use Rattle.group_read.specs.Shape.{dealtOf}
+use Rattle.format.specs.Group.{dealtOf}
 use Rattle.group_write.specs.Writing.{front}
 use Rattle.group_write.proofs.Words.{Written, written-is, written-length, written-word}
 use Rattle.group_write.proofs.Dealt.{dealt-is, time-words-unsent, time-words-three, on-bus-0, unsent-below}
-use Rattle.group_read.proofs.Rows.{rows-checked, rows-under}
+use Rattle.format.specs.Laws.Limits.{rows-checked, rows-under}
 use Rattle.group_write.proofs.Frames.{front-count, frame-checked}
 use Rattle.group_write.proofs.write_checked_frame.Statement.{statement}
 use Rattle.group_write.proofs.write_checked_frame.Tie as tie
@@ -91,7 +91,7 @@ returns : tie.Need-returns
 returns c =
     let s = entry (c .before .before .before .before .before .before .before .before .before) in
     let e = rows-checked (s .args .plan) (s .pre .0) (s .pre .6) in
-    written-is (written-word (3 * (s .args .plan .words - 1)) (c .before .before .before .before .before .sent .result) (fronted (c .before .before .before .before .before .before .before .before .before)) (omega arith) (omega (arith, s .pre .0 .words-over)) e (c .before .before .put-word .ensures))
+    written-is (written-word (3 * (s .args .plan .words - 1)) (c .before .before .before .before .before .sent .result) (fronted (c .before .before .before .before .before .before .before .before .before)) (omega arith) (omega (arith, s .pre .0 .words-least)) e (c .before .before .put-word .ensures))
     (ap (λ w. written (c .before .before .before .before .before .before .before .before .before) ++ (w ∷ [])) (check-is (c .before .before .before .before .before)) ∙ sym (frame-checked (s .args .plan) (dealt (c .before .before .before .before .before .before .before .before .before)) (s .args .track) (s .pre .6))) refl
 
 pub write-checked-frame-spec : {M : Type 1} → statement M

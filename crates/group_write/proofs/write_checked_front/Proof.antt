@@ -8,7 +8,7 @@ use borrow.Rule.Slice.PartMut.{putMid}
 use Rattle.format.specs.Word.{sync, sent, fill}
 use Rattle.crc.specs.Running.{nextCheck, checkFrom}
 use Rattle.crc.proofs.Running.{from-append}
-use Rattle.group_read.proofs.Rows.{rows-under}
+use Rattle.format.specs.Laws.Limits.{mostRows, rows-under}
 use Rattle.group_write.specs.Writing.{sentRows, sameRows, rowWord}
 use Rattle.group_write.proofs.Laws.{length-list}
 use Rattle.group_write.proofs.Words.{Written, written-none, written-length, written-word, written-rest, written-is, rest, rest-room}
@@ -48,7 +48,7 @@ parts c =
     let s = entry c in
     parted (s .args .plan) (s .args .track) (s .pre .0) (s .pre .6) (length (s .args .words .now)) (c .before .before .lead-count .result) (timed c) (dealt c) (rows c) (s .pre .5) (c .before .before .lead-count .ensures .0) (c .before .rows-with .ensures) (c .rows-with2 .ensures) (c .before .before .before .dealt-rows .ensures)
 
-room : (c : Counted) → (3 * (1 + rows c) ≤ length (entry c .args .out .now)) × (rows c < 512) × (timed c ≤ dealt c) × (dealt c ≤ rows c)
+room : (c : Counted) → (3 * (1 + rows c) ≤ length (entry c .args .out .now)) × (rows c ≤ mostRows) × (timed c ≤ dealt c) × (dealt c ≤ rows c)
 room c = (omega (arith, entry c .pre .1, rows-under (entry c .args .plan) (entry c .pre .0), c .before .before .before .dealt-rows .ensures), omega (arith, parts c .short), omega (arith, parts c .order), omega (arith, parts c .order))
 
 -- the words of each run
@@ -143,10 +143,10 @@ put-checked-requires c κs = let k = c .before .before .before .before .before .
     (s .pre .0, timed-run (s .args .plan) (s .args .track) (k .before .before .lead-count .result) (timed k) (dealt k) (rows k) (s .args .times .now) (s .args .words .now) (parts k) (rest 3 o) (s .pre .2) (s .pre .3) (rest-room 3 (3 * timed k) o (omega (arith, room k, written-length (begun (c .before .before .before .before .before))))), omega (arith, c .before .before .step .ensures .1), s .pre .7, s .pre .8)
 
 mul-first : tie.Need-mul-first
-mul-first c = omega (arith, parts (c .before .before .before .before .before .before .before .before .before .before .before .before) .timed, parts (c .before .before .before .before .before .before .before .before .before .before .before .before) .few, entry (c .before .before .before .before .before .before .before .before .before .before .before .before) .pre .0 .tracks-under)
+mul-first c = omega (arith, parts (c .before .before .before .before .before .before .before .before .before .before .before .before) .timed, parts (c .before .before .before .before .before .before .before .before .before .before .before .before) .few, entry (c .before .before .before .before .before .before .before .before .before .before .before .before) .pre .0 .tracks-most)
 
 add-first : tie.Need-add-first
-add-first c = omega (arith, parts (c .before .before .before .before .before .before .before .before .before .before .before .before) .timed, parts (c .before .before .before .before .before .before .before .before .before .before .before .before) .few, entry (c .before .before .before .before .before .before .before .before .before .before .before .before) .pre .0 .tracks-under)
+add-first c = omega (arith, parts (c .before .before .before .before .before .before .before .before .before .before .before .before) .timed, parts (c .before .before .before .before .before .before .before .before .before .before .before .before) .few, entry (c .before .before .before .before .before .before .before .before .before .before .before .before) .pre .0 .tracks-most)
 
 sub-first : tie.Need-sub-first
 sub-first c = omega (arith, parts (c .before .before .before .before .before .before .before .before .before .before .before .before) .timed)

@@ -6,7 +6,7 @@ use mathlib.Core.List.{List}
 use lib.ListN.{length, length-take, length-drop}
 use borrow.Author.Needs.{needs}
 use Rattle.format.specs.Group.{frame}
-use Rattle.group_read.specs.Shape.{dealtOf}
+use Rattle.format.specs.Group.{dealtOf}
 use Rattle.group_write.proofs.Words.{Written, written-is, written-none, written-length, written-part}
 use Rattle.group_write.proofs.Frames.{framesOf, frames-none, frames-more, frames-all, frame-count}
 use Rattle.group_write.proofs.write_checked_group.Statement.{statement}

@@ -5,8 +5,8 @@ use mathlib.Core.List.{List, _++_}
 use lib.ListN.{take}
 use borrow.Author.Needs.{needs}
 use Rattle.format.specs.Plan.{rows, lead}
-use Rattle.group_read.specs.Shape.{dealtOf}
-use Rattle.group_read.proofs.Rows.{rows-plain, rows-under}
+use Rattle.format.specs.Group.{dealtOf}
+use Rattle.format.specs.Laws.Limits.{rows-plain, rows-under}
 use Rattle.group_write.specs.Writing.{front}
 use Rattle.group_write.proofs.Words.{Written, written-is}
 use Rattle.group_write.proofs.Dealt.{dealt-is, time-words-unsent, time-words-three}

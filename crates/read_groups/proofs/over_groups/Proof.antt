@@ -25,7 +25,7 @@ room : (c : tie.In-loop Inv-loop μ-loop) → 3 * (c .before .loop .group + grou
 room c = rw (c .before .loop .inv .1) (group-room _ _ _ _ _ _ (c .loop-test .taken) _ _ (c .before .loop .inv .2) (c .before .before .before .before .before .before .pre .1 .0))
 
 mul-size : tie.Need-mul-size Inv-loop μ-loop
-mul-size c = omega (arith, mul-le-mul-right (c .before .before .before .args .plan .words) (c .before .before .before .pre .0 .0 .tracks-under), c .before .before .before .pre .0 .0 .words-under)
+mul-size c = omega (arith, mul-le-mul-right (c .before .before .before .args .plan .words) (c .before .before .before .pre .0 .0 .tracks-most), c .before .before .before .pre .0 .0 .words-most)
 
 start-pass-requires : tie.Need-start-pass-requires Inv-loop μ-loop
 start-pass-requires c κs = search needs
