@@ -10,7 +10,8 @@ use lib.ListN.{length, length-append, take, drop}
 use lib.Seq.{take-at}
 use lib.Dec.{eqb, leb}
 use borrow.Author.Tests.{le-leb, leb-true, leb-false}
-use Rattle.format.specs.Answer.{over}
+use Rattle.format.specs.Answer.{Given, over}
+use Rattle.format.specs.Compose.{timesNeeded}
 use Rattle.format.specs.Group.{Fault, none, found, groupTime, groupSlots}
 use Rattle.format.specs.Lists.{list}
 use Rattle.format.specs.Log.{logOf}
@@ -20,7 +21,6 @@ use Rattle.format.specs.declared.Answer.{Answer}
 use Rattle.format.specs.declared.Held.the-variants.{Nothing}
 use Rattle.format.specs.declared.Kind.{Kind}
 use Rattle.format.specs.declared.Plan.{Plan}
-use Rattle.read.specs.Given.{Given, timesNeeded}
 use Rattle.from_c.specs.Numbers.{timeBytes}
 use Rattle.vinculampe.specs.Interface.{GivenBytes}
 use Rattle.vinculampe.proofs.Laws.{Legal, legal-is, and-true, length-list, times-few}

@@ -7,7 +7,7 @@ use lib.Dec.{eqb}
 use mathlib.Core.Path.{_≡_}
 use Rattle.format.specs.Answer.{over, readAnswer, logAfter}
 use Rattle.format.specs.declared.Answer.{Answer}
-use Rattle.format.specs.Compose.{Composed, refused, composed, groupsFor}
+use Rattle.format.specs.Compose.{Composed, refused, composed, groupsFor, timesNeeded}
 use Rattle.format.specs.Item.{itemWords}
 use Rattle.format.specs.Log.{Parsed, items, fault, onPlan, parsed}
 use Rattle.format.specs.Plan.{legal}
@@ -18,7 +18,7 @@ use Rattle.from_c.specs.Numbers.{kindOf, named, planFrom, timeBytes, timesFrom}
 
 -- "Composing refuses a run of times that is not whole eights by 5, its place the number needed": after 2, 3 and 4
 abbrev pub raggedParsed : Plan → Parsed → Composed
-raggedParsed p (items is) = refused 5 (cond (p .«frame_time») (groupsFor p (length (flatMap itemWords is))) 0)
+raggedParsed p (items is) = refused 5 (timesNeeded p (groupsFor p (length (flatMap itemWords is))))
 raggedParsed p (fault n q) = refused n q
 
 unfoldable pub ragged : Plan → List Kind → List ℕ → Composed
