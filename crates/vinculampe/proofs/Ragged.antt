@@ -19,7 +19,7 @@ use Rattle.format.specs.declared.Plan.{Plan}
 use Rattle.from_c.specs.Numbers.{timesFrom}
 use Rattle.vinculampe.specs.Interface.{composedBytes, ragged, raggedParsed}
 use Rattle.vinculampe.proofs.Laws.{Legal, legal-is, log-forth, many, times-wrong, words-few}
-use Rattle.from_c.proofs.Times.{times-number}
+use Rattle.from_c.specs.Laws.{times-number}
 
 slots-many : (p : Plan) (ks : List Kind) → Legal p ks → 123 ≤ slots p
 unfolding slots lead

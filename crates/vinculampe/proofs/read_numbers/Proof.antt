@@ -1,6 +1,6 @@
 use mathlib.Core.Path.{refl, sym, _∙_}
 use lib.ListN.{length}
-use Rattle.from_c.proofs.NamedKinds.{sixteen}
+use Rattle.from_c.specs.Laws.{sixteen}
 use Rattle.vinculampe.proofs.NamedKinds.{read-named, read-unnamed}
 use borrow.Author.Needs.{needs}
 use Rattle.vinculampe.proofs.read_numbers.Statement.{statement}
