@@ -4,9 +4,9 @@ ghost use mathlib.Core.Bool.{cond, false, true};
 ghost use mathlib.Core.Path.{_≡_};
 ghost use Prim.Native.Nat.{ℕ, min, _+_, _*_, _<_, _≤_};
 ghost use lib.ListN.{getD, length};
-ghost use Rattle.format.specs.Answer.{composeAnswer, outAfter, over, refusal};
+ghost use Rattle.format.specs.Answer.{Made, over, refusal};
 ghost use Rattle.format.specs.Compose.{captureOf, composeWords, composed, firstLate, groupsFor};
-ghost use Rattle.format.specs.Plan.{groupWords, legal};
+ghost use Rattle.format.specs.Plan.{groupWords, legal, timesNeeded};
 ghost use Rattle.format.specs.Time.{timeEnd};
 ghost use Rattle.crc.specs.Running.{entries, farEntries};
 ghost use Rattle.format.specs.Laws.Limits.{Shape, mostDealt};
@@ -128,7 +128,7 @@ fn write_groups(plan: Plan, words: &[u32], times: &[u64], groups: usize, out: &m
 
 // How many frame times are needed: "one 64-bit number a group, none if frame time is off".
 fn times_needed(plan: Plan, groups: usize) -> usize
-    ensures { λ r. ⌜ r ≡ cond (plan .«frame_time») groups 0 ⌝ }
+    ensures { λ r. ⌜ r ≡ timesNeeded plan groups ⌝ }
 {
     if plan.frame_time {
         return groups;
@@ -151,8 +151,7 @@ fn refusal(number: u32, place: usize) -> Answer
 // Of a log's words: "then 5, number before size; then 6". Nothing is written before the last refusal.
 fn compose_words(plan: Plan, words: &[u32], times: &[u64], out: &mut [u8]) -> Answer
     requires { ⌜ Shape plan × (length (now words) ≤ 15420) × Unsent plan (now words) ⌝ }
-    ensures { λ r. ⌜ (r ≡ composeAnswer (composeWords plan (now (times .entry)) (length (now (out .entry))) (now (words .entry))))
-        × (now (out .exit) ≡ outAfter (composeWords plan (now (times .entry)) (length (now (out .entry))) (now (words .entry))) (now (out .entry))) ⌝ }
+    ensures { λ r. ⌜ Made (composeWords plan (now (times .entry)) (length (now (out .entry))) (now (words .entry))) r (now (out .entry)) (now (out .exit)) ⌝ }
 {
     let groups = groups_for(plan, words.len());
     let needed = times_needed(plan, groups);
@@ -187,8 +186,7 @@ fn compose_in(
     row: &mut [u32],
 ) -> Answer
     requires { ⌜ (legal plan kinds ≡ true) × (length (now log) ≤ 32768) × (length (now log) * 8 + 85 ≤ 17 * length (now row)) ⌝ }
-    ensures { λ r. ⌜ (r ≡ composeAnswer (composed plan kinds (now (log .entry)) (now (times .entry)) (length (now (out .entry)))))
-        × (now (out .exit) ≡ outAfter (composed plan kinds (now (log .entry)) (now (times .entry)) (length (now (out .entry)))) (now (out .entry))) ⌝ }
+    ensures { λ r. ⌜ Made (composed plan kinds (now (log .entry)) (now (times .entry)) (length (now (out .entry)))) r (now (out .entry)) (now (out .exit)) ⌝ }
 {
     match lay(kinds, log, row) {
         Tally::Items { items: _, words } => compose_words(plan, &row[..words], times, out),
@@ -199,8 +197,7 @@ fn compose_in(
 // No long row is cleared for a short log.
 fn compose_tiny(plan: Plan, kinds: [Kind; 16], log: &[u8], times: &[u64], out: &mut [u8]) -> Answer
     requires { ⌜ (legal plan kinds ≡ true) × (length (now log) ≤ 40) ⌝ }
-    ensures { λ r. ⌜ (r ≡ composeAnswer (composed plan kinds (now (log .entry)) (now (times .entry)) (length (now (out .entry)))))
-        × (now (out .exit) ≡ outAfter (composed plan kinds (now (log .entry)) (now (times .entry)) (length (now (out .entry)))) (now (out .entry))) ⌝ }
+    ensures { λ r. ⌜ Made (composed plan kinds (now (log .entry)) (now (times .entry)) (length (now (out .entry)))) r (now (out .entry)) (now (out .exit)) ⌝ }
 {
     let mut row = [0u32; 24];
     compose_in(plan, kinds, log, times, out, &mut row)
@@ -208,8 +205,7 @@ fn compose_tiny(plan: Plan, kinds: [Kind; 16], log: &[u8], times: &[u64], out: &
 
 fn compose_small(plan: Plan, kinds: [Kind; 16], log: &[u8], times: &[u64], out: &mut [u8]) -> Answer
     requires { ⌜ (legal plan kinds ≡ true) × (length (now log) ≤ 512) ⌝ }
-    ensures { λ r. ⌜ (r ≡ composeAnswer (composed plan kinds (now (log .entry)) (now (times .entry)) (length (now (out .entry)))))
-        × (now (out .exit) ≡ outAfter (composed plan kinds (now (log .entry)) (now (times .entry)) (length (now (out .entry)))) (now (out .entry))) ⌝ }
+    ensures { λ r. ⌜ Made (composed plan kinds (now (log .entry)) (now (times .entry)) (length (now (out .entry)))) r (now (out .entry)) (now (out .exit)) ⌝ }
 {
     let mut row = [0u32; 256];
     compose_in(plan, kinds, log, times, out, &mut row)
@@ -223,8 +219,7 @@ fn compose_middle(
     out: &mut [u8],
 ) -> Answer
     requires { ⌜ (legal plan kinds ≡ true) × (length (now log) ≤ 4096) ⌝ }
-    ensures { λ r. ⌜ (r ≡ composeAnswer (composed plan kinds (now (log .entry)) (now (times .entry)) (length (now (out .entry)))))
-        × (now (out .exit) ≡ outAfter (composed plan kinds (now (log .entry)) (now (times .entry)) (length (now (out .entry)))) (now (out .entry))) ⌝ }
+    ensures { λ r. ⌜ Made (composed plan kinds (now (log .entry)) (now (times .entry)) (length (now (out .entry)))) r (now (out .entry)) (now (out .exit)) ⌝ }
 {
     let mut row = [0u32; 2048];
     compose_in(plan, kinds, log, times, out, &mut row)
@@ -232,8 +227,7 @@ fn compose_middle(
 
 fn compose_large(plan: Plan, kinds: [Kind; 16], log: &[u8], times: &[u64], out: &mut [u8]) -> Answer
     requires { ⌜ (legal plan kinds ≡ true) × (length (now log) ≤ 32768) ⌝ }
-    ensures { λ r. ⌜ (r ≡ composeAnswer (composed plan kinds (now (log .entry)) (now (times .entry)) (length (now (out .entry)))))
-        × (now (out .exit) ≡ outAfter (composed plan kinds (now (log .entry)) (now (times .entry)) (length (now (out .entry)))) (now (out .entry))) ⌝ }
+    ensures { λ r. ⌜ Made (composed plan kinds (now (log .entry)) (now (times .entry)) (length (now (out .entry)))) r (now (out .entry)) (now (out .exit)) ⌝ }
 {
     let mut row = [0u32; 15426];
     compose_in(plan, kinds, log, times, out, &mut row)
@@ -241,8 +235,7 @@ fn compose_large(plan: Plan, kinds: [Kind; 16], log: &[u8], times: &[u64], out: 
 
 // "Composing checks 1; the log's length; the items in order", then as above.
 pub fn compose(plan: Plan, kinds: [Kind; 16], log: &[u8], times: &[u64], out: &mut [u8]) -> Answer
-    ensures { λ r. ⌜ (r ≡ composeAnswer (composed plan kinds (now (log .entry)) (now (times .entry)) (length (now (out .entry)))))
-        × (now (out .exit) ≡ outAfter (composed plan kinds (now (log .entry)) (now (times .entry)) (length (now (out .entry)))) (now (out .entry))) ⌝ }
+    ensures { λ r. ⌜ Made (composed plan kinds (now (log .entry)) (now (times .entry)) (length (now (out .entry)))) r (now (out .entry)) (now (out .exit)) ⌝ }
 {
     if legal(plan, kinds) {
         if log.len() <= 40 {

@@ -1,15 +1,13 @@
--- Whether numbers name choices and kinds; and what is answered then.
+-- Whether numbers name kinds, one after the other.
 use Prim.Native.Nat.{ℕ, zero, suc, _+_, _<_, _≤_}
 use native.Mathlib.Numerals.{add-one}
 use native.Mathlib.Omega.{arith}
-use mathlib.Core.Bool.{true, false, _&&_}
+use mathlib.Core.Bool.{true, false}
 use mathlib.Core.Path.{_≡_, refl, sym, ap, _∙_}
 use mathlib.Core.List.{List, [], _∷_}
 use lib.ListN.{length, drop, getD}
-use lib.Dec.{eqb}
-use borrow.Author.Tests.{eqb-true, le-leb, lt-leb}
-use Rattle.from_c.specs.Numbers.{areKinds, isChoice, named}
-use Rattle.format.specs.Laws.Tests.{and-true}
+use borrow.Author.Tests.{le-leb, lt-leb}
+use Rattle.from_c.specs.Numbers.{areKinds}
 
 pub kinds-end : (s : List ℕ) (i : ℕ) → length s ≤ i → areKinds (drop i s) ≡ true
 unfolding areKinds
@@ -29,10 +27,3 @@ unfolding areKinds
 kind-good [] i h k = absurd (omega arith)
 kind-good (n ∷ s) zero h k = rw (le-leb n 2 k)
 kind-good (n ∷ s) (suc i) h k = kind-good s i (omega arith) k ∙ ap (λ (m : ℕ). areKinds (drop m s)) (add-one i) ∙ sym (ap (λ (m : ℕ). areKinds (drop m (n ∷ s))) (add-one (suc i)))
-
-pub sixteen : (time crc parity : ℕ) (kinds : List ℕ) → named time crc parity kinds ≡ true → length kinds ≡ 16
-sixteen time crc parity kinds e =
-    let a = and-true (isChoice time) (isChoice crc && (isChoice parity && (eqb (length kinds) 16 && areKinds kinds))) e .1 in
-    let b = and-true (isChoice crc) (isChoice parity && (eqb (length kinds) 16 && areKinds kinds)) a .1 in
-    let d = and-true (isChoice parity) (eqb (length kinds) 16 && areKinds kinds) b .1 in
-    eqb-true (length kinds) 16 (and-true (eqb (length kinds) 16) (areKinds kinds) d .0)

@@ -9,7 +9,8 @@ use borrow.Rule.Slice.PartMut.{putMid}
 use Rattle.format.specs.Answer.{over}
 use Rattle.from_c.specs.Numbers.{timeBytes, timesFrom}
 use Rattle.format.specs.Laws.Front.{Front, take-more}
-use Rattle.format.specs.Laws.Lists.{flatMap-append, length-list}
+use Rattle.format.specs.Laws.Lists.{flatMap-append}
+use Rattle.from_c.specs.Laws.{length-time, times-number}
 
 pub eight-set : (a b c d e f g h : ℕ) (s : List ℕ) → length s ≡ 8 → set (set (set (set (set (set (set (set s 0 a) 1 b) 2 c) 3 d) 4 e) 5 f) 6 g) 7 h ≡ a ∷ b ∷ c ∷ d ∷ e ∷ f ∷ g ∷ h ∷ []
 eight-set a b c d e f g h (x0 ∷ x1 ∷ x2 ∷ x3 ∷ x4 ∷ x5 ∷ x6 ∷ x7 ∷ []) z = refl
@@ -22,10 +23,6 @@ eight-set a b c d e f g h (x0 ∷ x1 ∷ x2 ∷ []) z = absurd (omega arith)
 eight-set a b c d e f g h (x0 ∷ x1 ∷ []) z = absurd (omega arith)
 eight-set a b c d e f g h (x0 ∷ []) z = absurd (omega arith)
 eight-set a b c d e f g h [] z = absurd (omega arith)
-
-eight : (t : ℕ) → length (timeBytes t) ≡ 8
-unfolding timeBytes
-eight t = refl
 
 -- the k elements behind the front are lent, and come back as F
 front-part : {P d xs ys : List ℕ} {a n : ℕ} (k : ℕ) (F : List ℕ) → Front P d xs a → length F ≡ k → a + k ≤ length d → a + k ≡ n → ys ≡ F → Front (P ++ F) d (putMid a k xs ys) n
@@ -46,7 +43,7 @@ unfolding flatMap
 times-more {d} {xs} {ys} row i k p h e r y =
     let more : flatMap timeBytes (take (i + 1) row) ≡ flatMap timeBytes (take i row) ++ timeBytes (getD row i 0) =
     ap (flatMap timeBytes) (take-more row i h) ∙ flatMap-append timeBytes (take i row) (getD row i 0 ∷ []) ∙ ap (λ (l : List ℕ). flatMap timeBytes (take i row) ++ l) (one (timeBytes (getD row i 0))) in
-    rw more (front-part k (timeBytes (getD row i 0)) p (eight (getD row i 0) ∙ sym e) (omega arith) (omega arith) y)
+    rw more (front-part k (timeBytes (getD row i 0)) p (length-time (getD row i 0) ∙ sym e) (omega arith) (omega arith) y)
   where
     one : (l : List ℕ) → l ++ [] ≡ l
     one [] = refl
@@ -55,9 +52,6 @@ times-more {d} {xs} {ys} row i k p h e r y =
 -- the front is written, and nothing else
 pub front-over : {P d xs : List ℕ} {n : ℕ} → Front P d xs n → xs ≡ over P d
 front-over {P} {d} {xs} {n} f = f .is ∙ ap (λ (k : ℕ). P ++ drop k d) (sym (f .size))
-
-pub times-number : (s : List ℕ) → length (timesFrom s) ≡ length s / 8
-times-number s = length-list _ 0 (length s / 8)
 
 pub row-taken : (s d : List ℕ) → take (length s / 8) (over (timesFrom s) d) ≡ timesFrom s
 row-taken s d = take-at (timesFrom s) (drop (length (timesFrom s)) d) (length s / 8) (times-number s)

@@ -1,2 +1,3 @@
 -- A plan, kinds and times as C hands them over.
 pub mod Numbers
+pub mod Laws

@@ -13,7 +13,7 @@ use Rattle.format.specs.Log.{logOf}
 use Rattle.format.specs.Plan.{groupWords, legal, timesNeeded}
 use Rattle.format.specs.Group.{Fault, none, found, groupTime}
 use Rattle.format.specs.Read.{Got, Reading, gives, refuses, roomed, unmisplaced, settled, reading, readGroups, misplaced}
-use Rattle.format.specs.Answer.{success, refusal}
+use Rattle.format.specs.Answer.{Given, success, refusal}
 use Rattle.format.specs.declared.Answer.{Answer}
 use Rattle.format.specs.declared.Kind.{Kind}
 use Rattle.format.specs.declared.Held.the-variants.{Nothing}
@@ -27,7 +27,7 @@ use Rattle.read_groups.specs.Misplaced.{told}
 use Rattle.read_groups.specs.Groups.{groupsOn}
 use Rattle.read_groups.specs.End.{Logged, Ended}
 use Rattle.read_groups.proofs.Misplaced.{told-none, told-found}
-use Rattle.read.specs.Given.{earlier, roomNumber, Built, Given}
+use Rattle.read.specs.Room.{earlier, roomNumber, Built}
 
 pub given-refused : {g : Reading} {r : Answer} {number place : ℕ} (log times : List ℕ) → g ≡ refuses number place → r ≡ refusal number place → Given g r log log times times
 given-refused {g} {r} log times e a = subst (λ (x : Reading). Given x r log log times times) (sym e) (a, refl, refl)

@@ -24,7 +24,7 @@ use Rattle.format.specs.Laws.Log.Fields.{Packs, packs, length-bits, length-byte
 use Rattle.format.specs.Laws.Log.Sizes.{bits-low, items-low, fields-length}
 use Rattle.format.specs.Laws.Accepted.Faultless.{accepted-parts}
 use Rattle.format.specs.Laws.Limits.{Shape}
-use Rattle.read.specs.Given.{Enough}
+use Rattle.read.specs.Room.{Enough}
 use Rattle.data_items.proofs.Items.{yes-or-no}
 use Rattle.data_items.proofs.Slots.{slots-few}
 use Rattle.read.proofs.Given.{whole-groups}

@@ -1,2 +1,2 @@
 -- What the contracts of the readings cite beside the definitions of `format`.
-pub mod Given
+pub mod Room

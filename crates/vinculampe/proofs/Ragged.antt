@@ -19,7 +19,7 @@ use Rattle.format.specs.declared.Plan.{Plan}
 use Rattle.from_c.specs.Numbers.{timesFrom}
 use Rattle.vinculampe.specs.Interface.{composedBytes, ragged, raggedParsed}
 use Rattle.vinculampe.proofs.Laws.{composed-most, log-forth, mostComposed, shape-of, times-wrong, words-few}
-use Rattle.from_c.proofs.Times.{times-number}
+use Rattle.from_c.specs.Laws.{times-number}
 
 needed-few : (b : Bool) (n : ℕ) → n ≤ mostComposed → cond b n 0 ≤ mostComposed
 needed-few true n h = h

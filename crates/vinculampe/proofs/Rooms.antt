@@ -10,7 +10,7 @@ use lib.ListN.{length, length-append, take, drop}
 use lib.Seq.{take-at}
 use lib.Dec.{eqb, leb}
 use borrow.Author.Tests.{le-leb, leb-true, leb-false}
-use Rattle.format.specs.Answer.{over}
+use Rattle.format.specs.Answer.{Given, over, refusal}
 use Rattle.format.specs.Group.{Fault, none, found, groupTime, groupSlots}
 use Rattle.format.specs.Lists.{list}
 use Rattle.format.specs.Log.{logOf}
@@ -20,7 +20,6 @@ use Rattle.format.specs.declared.Answer.{Answer}
 use Rattle.format.specs.declared.Held.the-variants.{Nothing}
 use Rattle.format.specs.declared.Kind.{Kind}
 use Rattle.format.specs.declared.Plan.{Plan}
-use Rattle.read.specs.Given.{Given}
 use Rattle.from_c.specs.Numbers.{timeBytes}
 use Rattle.vinculampe.specs.Interface.{GivenBytes}
 use Rattle.vinculampe.proofs.Laws.{and-true, groups-most, leastGroupBytes, length-list, shape-of, times-few}
@@ -124,7 +123,13 @@ module _ (r : Answer) (log log′ part part′ : List ℕ) where
   unfolding flatMap
   given-bytes times times′ row (gives l ts) e z =
       let k : take (r .times) (part′ ++ row) ≡ ts = rw (e .0, e .2) (ap (take (length ts)) (append-assoc ts (drop (length ts) part) row) ∙ take-at ts (drop (length ts) part ++ row) (length ts) refl) in
-      (e .0, e .1, z ∙ ap (λ (x : List ℕ). over (flatMap timeBytes x) times) k)
+      let t : times′ ≡ over (flatMap timeBytes ts) times = z ∙ ap (λ (x : List ℕ). over (flatMap timeBytes x) times) k in
+      (cc, cc, cc)
   given-bytes times times′ row (refuses n q) e z =
       let k : take (r .times) (part′ ++ row) ≡ [] = rw (e .0) refl in
-      (e .0, e .1, z ∙ ap (λ (x : List ℕ). over (flatMap timeBytes x) times) k)
+      let t : times′ ≡ times = z ∙ ap (λ (x : List ℕ). over (flatMap timeBytes x) times) k in
+      (cc, cc, cc)
+
+-- a refusal leaves both runs as they were
+pub given-none : (r : Answer) (log times : List ℕ) (n q : ℕ) → r ≡ refusal n q → GivenBytes (refuses n q) r log log times times
+given-none r log times n q e = (cc, cc, cc)

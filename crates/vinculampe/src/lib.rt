@@ -5,10 +5,9 @@ ghost use mathlib.Core.Bool.{cond, false, true};
 ghost use Prim.Native.Nat.{_/_, _<_, _≤_};
 ghost use lib.Dec.{leb};
 ghost use lib.ListN.{length};
-ghost use Rattle.format.specs.Answer.{composeAnswer, outAfter, refusal};
+ghost use Rattle.format.specs.Answer.{Given, Made, refusal};
 ghost use Rattle.format.specs.Read.{reading};
 ghost use Rattle.format.specs.Laws.Limits.{leastGroupBytes};
-ghost use Rattle.read.specs.Given.{Given};
 ghost use Rattle.vinculampe.specs.Interface.{composedBytes, composedFrom, GivenBytes, readingFrom};
 pub use compose::compose;
 use format::Answer;
@@ -37,8 +36,7 @@ fn unnamed() -> Answer
 
 // No log needs more than 126 times, so a full row is a wrong number of them whatever the log.
 fn compose_timed(plan: Plan, kinds: [Kind; 16], log: &[u8], times: &[u8], out: &mut [u8]) -> Answer
-    ensures { λ r. ⌜ (r ≡ composeAnswer (composedBytes plan kinds (now (log .entry)) (now (times .entry)) (length (now (out .entry)))))
-        × (now (out .exit) ≡ outAfter (composedBytes plan kinds (now (log .entry)) (now (times .entry)) (length (now (out .entry)))) (now (out .entry))) ⌝ }
+    ensures { λ r. ⌜ Made (composedBytes plan kinds (now (log .entry)) (now (times .entry)) (length (now (out .entry)))) r (now (out .entry)) (now (out .exit)) ⌝ }
 {
     let mut row = [0u64; 127];
     if times.len() % 8 != 0 {
@@ -54,8 +52,7 @@ fn compose_timed(plan: Plan, kinds: [Kind; 16], log: &[u8], times: &[u8], out: &
 
 // A call without times, as every plan without frame time has, clears no row for them.
 fn compose_bytes(plan: Plan, kinds: [Kind; 16], log: &[u8], times: &[u8], out: &mut [u8]) -> Answer
-    ensures { λ r. ⌜ (r ≡ composeAnswer (composedBytes plan kinds (now (log .entry)) (now (times .entry)) (length (now (out .entry)))))
-        × (now (out .exit) ≡ outAfter (composedBytes plan kinds (now (log .entry)) (now (times .entry)) (length (now (out .entry)))) (now (out .entry))) ⌝ }
+    ensures { λ r. ⌜ Made (composedBytes plan kinds (now (log .entry)) (now (times .entry)) (length (now (out .entry)))) r (now (out .entry)) (now (out .exit)) ⌝ }
 {
     if times.len() == 0 {
         let none = [0u64; 1];
@@ -76,8 +73,7 @@ pub extern "C" fn vin_compose(
     times: &[u8],
     out: &mut [u8],
 ) -> Answer
-    ensures { λ r. ⌜ (r ≡ composeAnswer (composedFrom words tracks «frame_time» crc parity (now (kinds .entry)) (now (log .entry)) (now (times .entry)) (length (now (out .entry)))))
-        × (now (out .exit) ≡ outAfter (composedFrom words tracks «frame_time» crc parity (now (kinds .entry)) (now (log .entry)) (now (times .entry)) (length (now (out .entry)))) (now (out .entry))) ⌝ }
+    ensures { λ r. ⌜ Made (composedFrom words tracks «frame_time» crc parity (now (kinds .entry)) (now (log .entry)) (now (times .entry)) (length (now (out .entry)))) r (now (out .entry)) (now (out .exit)) ⌝ }
 {
     if named(frame_time, crc, parity, kinds) {
         let plan = plan_from(words, tracks, frame_time, crc, parity);

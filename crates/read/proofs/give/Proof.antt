@@ -5,7 +5,7 @@ use native.Mathlib.Omega.{arith}
 use lib.ListN.{length}
 use Rattle.format.specs.Plan.{groupWords}
 use Rattle.format.specs.Read.{refuses}
-use Rattle.read.specs.Given.{roomNumber}
+use Rattle.read.specs.Room.{roomNumber}
 use Rattle.read.proofs.Given.{given-refused, given-copied, log-beyond, times-beyond, times-few, fit}
 use borrow.Author.Needs.{needs}
 use Rattle.read.proofs.give.Statement.{statement}

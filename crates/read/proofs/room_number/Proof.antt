@@ -1,6 +1,6 @@
-use Rattle.read.specs.Given.{earlier}
+use Rattle.read.specs.Room.{earlier}
 use mathlib.Core.Path.{ap₂, _∙_}
-use Rattle.read.specs.Given.{roomNumber}
+use Rattle.read.specs.Room.{roomNumber}
 use borrow.Author.Needs.{needs}
 use Rattle.read.proofs.room_number.Statement.{statement}
 use Rattle.read.proofs.room_number.Tie as tie

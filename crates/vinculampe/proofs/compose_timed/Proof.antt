@@ -5,7 +5,8 @@ use native.Mathlib.Omega.{arith}
 use lib.ListN.{length, replicate, take}
 use Rattle.vinculampe.specs.Interface.{composedBytes}
 use Rattle.format.specs.Compose.{composed}
-use Rattle.from_c.proofs.Times.{row-taken, times-number}
+use Rattle.from_c.proofs.Times.{row-taken}
+use Rattle.from_c.specs.Laws.{times-number}
 use Rattle.vinculampe.proofs.Ragged.{eights, not-eights, too-many}
 use Rattle.vinculampe.proofs.Laws.{all-bytes}
 use borrow.Author.Needs.{needs}

@@ -1,7 +1,8 @@
-use mathlib.Core.Path.{refl, sym, _∙_}
+use mathlib.Core.Path.{sym, _∙_}
 use lib.ListN.{length}
-use Rattle.from_c.proofs.NamedKinds.{sixteen}
+use Rattle.from_c.specs.Laws.{sixteen}
 use Rattle.vinculampe.proofs.NamedKinds.{read-named, read-unnamed}
+use Rattle.vinculampe.proofs.Rooms.{given-none}
 use borrow.Author.Needs.{needs}
 use Rattle.vinculampe.proofs.read_numbers.Statement.{statement}
 use Rattle.vinculampe.proofs.read_numbers.Tie as tie
@@ -38,7 +39,7 @@ returns-2 : tie.Need-returns-2
 returns-2 c =
     let a = c .before .before .before .before .before .before .before .args in
     rw (read-unnamed (a .words) (a .tracks) (a .frame-time) (a .crc) (a .parity) (a .kinds .now) (a .closed) (a .capture .now) (length (a .log .now)) (length (a .times .now)) (sym (c .before .before .named .ensures) ∙ c .before .if1 .left))
-    (c .unnamed .ensures, refl, refl)
+    (given-none _ (a .log .now) (a .times .now) 1 0 (c .unnamed .ensures))
 
 pub read-numbers-spec : {M : Type 1} → statement M
 read-numbers-spec =

@@ -1,4 +1,4 @@
--- What a reading hands over: its answer, and the lent log and time table afterwards.
+-- Room for the log and the times: the array that the log is built in, and the refusals for want of room.
 use Prim.Native.Nat.{ℕ, _+_, _*_, _/_, _≤_}
 use mathlib.Core.Bool.{cond}
 use mathlib.Core.Path.{_≡_}
@@ -7,12 +7,10 @@ use lib.ListN.{length, take}
 use lib.Dec.{eqb, leb}
 use Rattle.format.specs.Log.{logOf}
 use Rattle.format.specs.Plan.{groupWords}
-use Rattle.format.specs.Read.{Reading, got, readGroups}
+use Rattle.format.specs.Read.{got, readGroups}
 use Rattle.format.specs.declared.Item.{Item}
 use Rattle.format.specs.declared.Kind.{Kind}
 use Rattle.format.specs.declared.Held.the-variants.{Nothing}
-use Rattle.format.specs.Answer.{readAnswer, logAfter, timesAfter}
-use Rattle.format.specs.declared.Answer.{Answer}
 use Rattle.format.specs.declared.Plan.{Plan}
 
 -- "6, 7": the number of the refusal for want of room, 0 for none
@@ -34,7 +32,3 @@ pub record Built (whole built : List ℕ) (bytes : ℕ) : Type 0 where
 pub record Enough (p : Plan) (ks : List Kind) (c : List ℕ) (built logRoom : ℕ) : Type 0 where
   pub room : (is : List Item) → readGroups p ks c (length c / (3 * groupWords p)) 0 Nothing 0 ≡ got is → length (logOf is) ≤ 32768 → length (logOf is) ≤ logRoom
       → length (logOf is) + 7 ≤ built
-
--- number, place, both lengths and the whole of both lent buffers
-abbrev pub Given : Reading → Answer → List ℕ → List ℕ → List ℕ → List ℕ → Type 0
-Given g r log log′ times times′ = (r ≡ readAnswer g) × (log′ ≡ logAfter g log) × (times′ ≡ timesAfter g times)
