@@ -4,10 +4,10 @@ use native.Mathlib.Omega.{arith}
 use mathlib.Core.Bool.{Bool, true, false, cond}
 use mathlib.Core.Path.{_≡_, refl, ap, sym, _∙_}
 use mathlib.Core.List.{List, flatMap}
-use lib.ListN.{length, take, length-take}
+use lib.ListN.{length, take, drop, length-take}
+use lib.Seq.{take-at}
 use borrow.Author.Tests.{eq-eqb, ne-eqb, le-leb, lt-leb, lt-ltb}
-use Rattle.format.specs.Compose.{made, refused, captureOf, composeParsed, composeWords, composed, dealtFor, firstLate, groupsFor}
-use Rattle.format.specs.Group.{group}
+use Rattle.format.specs.Compose.{made, refused, captureOf, composeParsed, composeWords, composed, firstLate, groupsFor}
 use Rattle.format.specs.Item.{itemParts, itemWords}
 use Rattle.format.specs.Lawful.{buses}
 use Rattle.format.specs.Lists.{Bytes}
@@ -21,8 +21,9 @@ use Rattle.format.specs.Laws.Limits.{Shape}
 use Rattle.group_write.specs.Writing.{Unsent}
 use Rattle.log_read.specs.Tally.{talliedOf}
 use Rattle.log_read.specs.declared.Tally.the-variants.{Items, Fault}
+use Rattle.log_words.specs.Row.{onto}
 use Rattle.log_words.specs.Words.{wordsFrom}
-use Rattle.compose.proofs.Laws.{Holds, all-map, all-mapped, bytes-count, group-count, items-hold, legal-is, length-blocks, log-forth, logged-sound, words-few, words-of, words-parsed}
+use Rattle.compose.proofs.Laws.{Holds, all-map, all-mapped, items-hold, legal-is, log-forth, logged-sound, words-few, words-of, words-parsed}
 
 module _ (p : Plan) (times : List ℕ) (room : ℕ) (ws : List ℕ) where
   abbrev need : ℕ
@@ -49,12 +50,6 @@ module _ (p : Plan) (times : List ℕ) (room : ℕ) (ws : List ℕ) where
       unfolding composeWords
       all-made h = rw (eq-eqb (length times) need number, eq-eqb (firstLate 0 times) (length times) size, le-leb bytes room h)
 
-  pub capture-length : Shape p → length (captureOf p times ws) ≡ bytes
-  unfolding captureOf
-  capture-length h =
-      bytes-count _ _ (length-blocks (λ g. group p (dealtFor p times ws g)) (groupWords p) (λ g. group-count p (dealtFor p times ws g) h) 0 (groupsFor p (length ws)))
-      ∙ omega arith
-
 -- of the log
 module _ (p : Plan) (ks : List Kind) (log times : List ℕ) (room : ℕ) where
   pub plan-illegal : legal p ks ≡ false → composed p ks log times room ≡ refused 1 0
@@ -80,10 +75,10 @@ module _ (p : Plan) (ks : List Kind) (log times : List ℕ) (room : ℕ) where
 -- a log of this many words, each on a bus that a word can name
 pub record Counted (p : Plan) (ks : List Kind) (log : List ℕ) (words : ℕ) : Type 0 where
   pub shape : Shape p
-  pub unsent : Unsent p (wordsFrom log 0)
-  pub count : words ≡ length (wordsFrom log 0)
+  pub unsent : Unsent p (wordsFrom (onPlan ks) log 0)
+  pub count : words ≡ length (wordsFrom (onPlan ks) log 0)
   pub few : words ≤ 15420
-  pub is : (times : List ℕ) (room : ℕ) → composed p ks log times room ≡ composeWords p times room (wordsFrom log 0)
+  pub is : (times : List ℕ) (room : ℕ) → composed p ks log times room ≡ composeWords p times room (wordsFrom (onPlan ks) log 0)
 
 word-unsent : (parity : Bool) (x : Part) → Holds parity x → wordFor x < buses parity * 2 ^ 20
 unfolding wordOf
@@ -98,7 +93,7 @@ log-counted p ks log e w n words t = go (parsed (onPlan ks) log) refl t
     go (items is) g t =
         let l = legal-is p ks e in
         let f = log-forth (onPlan ks) log is w g in
-        let v : wordsFrom log 0 ≡ flatMap itemWords is = words-parsed (onPlan ks) log is g in
+        let v : wordsFrom (onPlan ks) log 0 ≡ flatMap itemWords is = words-parsed (onPlan ks) log is g in
         let m : words ≡ length (flatMap itemWords is) = cc in
         record {
           shape = l .shape;
@@ -109,6 +104,10 @@ log-counted p ks log e w n words t = go (parsed (onPlan ks) log) refl t
           few = rw m (words-few is (rw (f .0) (f .2)));
           is = λ times room. rw v (log-whole p ks log times room e is g);
         }
+
+-- the row that they were laid into begins with them
+pub row-begins : (w : ℕ) (row ws before : List ℕ) → row ≡ onto ws before → w ≡ length ws → take w row ≡ ws
+row-begins w row ws before h e = rw (h, e) (take-at ws (drop (length ws) before) (length ws) refl)
 
 -- a row that begins with these words has them all
 pub row-holds : (w : ℕ) (row ws : List ℕ) → take w row ≡ ws → w ≡ length ws → w ≤ length row

@@ -28,11 +28,14 @@ use Rattle.format.specs.Laws.Lists.{flatMap-append, getD-list}
 use Rattle.data_start.specs.declared.Holding.{Holding}
 use Rattle.data_start.specs.declared.Step.{Step}
 use Rattle.data_start.specs.Holding.{flat}
+use Rattle.data_word.specs.Feeds.{Finishes}
 use Rattle.data_word.specs.Holding.{heldOf, Sane}
 use Rattle.data_start.specs.Step.{begun, holding}
 use Rattle.data_word.specs.Step.{stepOf, closing}
 use Rattle.data_word.specs.Meaning.{Means, Brings, Closes}
-use Rattle.data_word.proofs.Meaning.{feed-means, finish-means, nothing-is-held, nothing-is-sane}
+use Rattle.data_word.proofs.Flat.{nothing-is-held}
+use Rattle.data_word.proofs.Meaning.{feed-means, finish-means, finished, nothing-is-sane}
+use Rattle.data_word.proofs.Unawaited.{begun-of-nothing}
 use Rattle.data_items.specs.Slots.{placeIn, wordIn, slotsOn, topOf}
 use Rattle.group_read.specs.Position.{positionOf}
 use Rattle.data_items.specs.declared.Whole.{Whole}
@@ -136,15 +139,6 @@ flushed ks (TagHigh x high) is at e bus label info q r here go n = clash (ap isG
 flushed ks (TagLow x high low) is at e bus label info q r here go n = clash (ap isGot e)
 flushed ks (Answering b t) is at e bus label info q r here go n = clash (ap isGot e)
 
-record Finished (f : Got) (r : Step) : Type 0 where
-  items : List Item
-  is : f ≡ got items
-  brings : Brings items Nothing r
-
-finished : (f : Got) (r : Step) → Closes f r → r .bad ≡ false → Finished f r
-finished (got js) r m z = record { items = js; is = refl; brings = m }
-finished (stopped k q) r m z = clash (sym z ∙ m)
-
 -- ---- slot by slot
 
 module _ (ks : List Kind) (p : Plan) (c : List ℕ) (g : ℕ) where
@@ -223,7 +217,7 @@ module _ (ks : List Kind) (p : Plan) (c : List ℕ) (g : ℕ) where
       went-end = end-by (feed ks (heldOf h) bus label info) refl means
 
     -- finished, since the next word goes on with nothing
-    pub went-flush : (last : ℕ) (r : Step) → ((place : ℕ) → r ≡ closing (heldOf h) (finish (heldOf h) place)) → r .bad ≡ false → (h .awaits ≡ bus * 16 + label → ⊥) → Ended ks p c g i q j last r
+    pub went-flush : (last : ℕ) (r : Step) → Finishes h r → r .bad ≡ false → (h .awaits ≡ bus * 16 + label → ⊥) → Ended ks p c g i q j last r
     went-flush last r e z n =
         let m : Closes (finish (heldOf h) 0) r = subst (Closes (finish (heldOf h) 0)) (sym (e 0)) (finish-means h (w .sane) 0) in
         let f = finished (finish (heldOf h) 0) r m z in
@@ -243,10 +237,6 @@ module _ (ks : List Kind) (p : Plan) (c : List ℕ) (g : ℕ) where
 
   -- ---- the first word
 
-  begin-step : (f : Fed) → begun (flat Nothing) 0 0 f ≡ stepOf Nothing f
-  begin-step bad = refl
-  begin-step (fed is h) = refl
-
   begin-quiet : (f : Fed) → Fresh f → (r : Step) → r ≡ begun (flat Nothing) 0 0 f → (r .held .awaits ≡ 0 → ⊥) → (r .«first_width» ≡ 0) × (r .«second_width» ≡ 0)
   unfolding flatMap
   begin-quiet bad x r e n = (ap (λ (y : Step). y .«first_width») e, ap (λ (y : Step). y .«second_width») e)
@@ -256,7 +246,7 @@ module _ (ks : List Kind) (p : Plan) (c : List ℕ) (g : ℕ) where
   module _ (i : ℕ) (kind : Kind) (bus label info : ℕ) (r : Step) (e : r ≡ begun (flat Nothing) 0 0 (starts kind bus label info)) (k : kindOn ks bus ≡ kind) where
     pub begin-is : r ≡ stepOf (heldOf (flat Nothing)) (feed ks (heldOf (flat Nothing)) bus label info)
     unfolding feed
-    begin-is = e ∙ begin-step (starts kind bus label info) ∙ rw (nothing-is-held, k) refl
+    begin-is = e ∙ begun-of-nothing (starts kind bus label info) ∙ rw (nothing-is-held, k) refl
 
     pub begin-widths : (r .held .awaits ≡ 0 → ⊥) → (r .«first_width» ≡ 0) × (r .«second_width» ≡ 0)
     begin-widths n = begin-quiet (starts kind bus label info) (starts-fresh kind bus label info) r e n

@@ -2,3 +2,4 @@
 pub mod Holding
 pub mod Step
 pub mod Opening
+pub mod Begins

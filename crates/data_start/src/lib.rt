@@ -5,6 +5,7 @@ ghost use Prim.Native.Nat.{_+_, _*_, _/_, _%_, _^_, _<_, _≤_};
 ghost use Rattle.format.specs.Reader as reader;
 ghost use Rattle.format.specs.declared.Kind.the-variants.{Mil1553, Arinc429};
 ghost use Rattle.format.specs.declared.Held.the-variants.{Nothing};
+ghost use Rattle.data_start.specs.Begins.{Begins};
 ghost use Rattle.data_start.specs.Holding.{flat};
 ghost use Rattle.data_start.specs.Opening.{openings, opens, rowOf, singleOf};
 ghost use Rattle.data_start.specs.Step.{refusal, holding, ended, begun, headOf};
@@ -126,7 +127,7 @@ fn head(bus: u32, label: u32) -> u32
 // A command, which may have a tag.
 pub fn command(first: u64, width: u32, bus: u32, label: u32, information: u32) -> Step
     requires { ⌜ (bus < 16) × (8 ≤ label) × (label < 16) × (label % 4 ≡ 3) × (information < 65536) ⌝ }
-    ensures { λ r. ⌜ ((held : Holding) → r ≡ begun held first width (reader.starts Mil1553 bus label information)) ⌝ }
+    ensures { λ r. ⌜ Begins first width (reader.starts Mil1553 bus label information) r ⌝ }
 {
     let bits = head(bus, label) as u64 * 65536 + information as u64;
     holds(first, width, bits, 0, bus * 16 + 7)
@@ -135,7 +136,7 @@ pub fn command(first: u64, width: u32, bus: u32, label: u32, information: u32) -
 // A response time, whose status follows.
 pub fn response(first: u64, width: u32, bus: u32, information: u32) -> Step
     requires { ⌜ (bus < 16) × (information < 10000) ⌝ }
-    ensures { λ r. ⌜ ((held : Holding) → r ≡ begun held first width (reader.starts Mil1553 bus 4 information)) ⌝ }
+    ensures { λ r. ⌜ Begins first width (reader.starts Mil1553 bus 4 information) r ⌝ }
 {
     holds(first, width, 0, information, 270 + bus * 16)
 }
@@ -186,7 +187,7 @@ pub fn is_pair(information: u32) -> bool
 // An error notice.
 pub fn notice(first: u64, width: u32, bus: u32, information: u32) -> Step
     requires { ⌜ (bus < 16) × (information < 65536) × (reader.isPair (information / 2 ^ 12) (information / 2 ^ 8 % 16) ≡ true) ⌝ }
-    ensures { λ r. ⌜ ((held : Holding) → r ≡ begun held first width (reader.starts Arinc429 bus 4 information)) ⌝ }
+    ensures { λ r. ⌜ Begins first width (reader.starts Arinc429 bus 4 information) r ⌝ }
 {
     let channel = (information / 4096 - 8) / 2;
     ends(
@@ -200,7 +201,7 @@ pub fn notice(first: u64, width: u32, bus: u32, information: u32) -> Step
 // A high syllable, whose low one follows.
 pub fn syllable(first: u64, width: u32, bus: u32, label: u32, information: u32) -> Step
     requires { ⌜ (bus < 16) × (8 ≤ label) × (label < 16) × (label % 2 ≡ 1) × (information < 65536) ⌝ }
-    ensures { λ r. ⌜ ((held : Holding) → r ≡ begun held first width (reader.starts Arinc429 bus label information)) ⌝ }
+    ensures { λ r. ⌜ Begins first width (reader.starts Arinc429 bus label information) r ⌝ }
 {
     let bits = (((80 + bus) * 8 + (label - 9)) as u64) * 65536 + information as u64;
     holds(first, width, bits, 0, bus * 16 + (label - 1))

@@ -60,12 +60,12 @@ module _ (g : Holding) (n : g .awaits ≡ 0 → ⊥) where
   unfolding heldOf
   answering u = rw (ne-eqb _ _ n, le-leb _ _ u)
 
-nothing-is-nothing : heldOf (flat Nothing) ≡ Nothing
+pub nothing-is-held : heldOf (flat Nothing) ≡ Nothing
 unfolding heldOf
-nothing-is-nothing = refl
+nothing-is-held = refl
 
 pub held-of-flat : (h : Held) → Fits h → heldOf (flat h) ≡ h
-held-of-flat Nothing f = nothing-is-nothing
+held-of-flat Nothing f = nothing-is-held
 held-of-flat (Taggable x) f =
     let m : (baseBus x * 16 + 7) % 16 ≡ 7 = omega arith in
     unfinished (flat (Taggable x)) (λ e. absurd (omega arith)) (omega (arith, base-bus-small x f)) ∙ rw (m, base-back x f 0 7 (omega arith))

@@ -20,7 +20,9 @@ use Rattle.data_start.specs.Holding.{flat, numberOf, widthOf}
 use Rattle.data_word.specs.Holding.{heldOf, Sane, Fits}
 use Rattle.data_word.specs.Step.{cut, stepOf, closing}
 use Rattle.data_word.specs.Meaning.{Brings, Means, Closes}
+use Rattle.data_start.specs.declared.Step.{Step}
 use Rattle.format.specs.Laws.Log.Fields.{Narrow}
+use Rattle.format.specs.Laws.Tests.{clash}
 use Rattle.data_word.proofs.Numbers.{narrow-take, narrow-drop, bits-of-fields, number-of-fields-fits, field-bits-cut, bits-of-items}
 use Rattle.data_word.proofs.Flat.{held-of-flat, flat-is-sane}
 use Rattle.data_word.proofs.Short.{Short, feed-short, untagged-short}
@@ -46,9 +48,6 @@ step-means h (fed is h′) s =
 pub nothing-is-sane : Sane (flat Nothing)
 nothing-is-sane = flat-is-sane Nothing tt
 
-pub nothing-is-held : heldOf (flat Nothing) ≡ Nothing
-nothing-is-held = held-of-flat Nothing tt
-
 pub feed-means : (ks : List Kind) (g : Holding) (bus label info : ℕ) → Sane g → bus < 16 → label < 16 → info < 65536
     → Means (feed ks (heldOf g) bus label info) (stepOf (heldOf g) (feed ks (heldOf g) bus label info))
 feed-means ks g bus label info s b l i = step-means (heldOf g) (feed ks (heldOf g) bus label info) (feed-short ks (heldOf g) bus label info (s .fits) b l i)
@@ -61,6 +60,16 @@ closing-means (Half bus c high) f place = refl
 closing-means (TagHigh x high) f place = refl
 closing-means (TagLow x high low) f place = refl
 closing-means (Answering bus r) f place = refl
+
+-- what ends well is finished
+pub record Finished (g : Got) (r : Step) : Type 0 where
+  pub items : List Item
+  pub is : g ≡ got items
+  pub brings : Brings items Nothing r
+
+pub finished : (g : Got) (r : Step) → Closes g r → r .bad ≡ false → Finished g r
+finished (got js) r m z = record { items = js; is = refl; brings = m }
+finished (stopped k q) r m z = clash (sym z ∙ m)
 
 pub finish-means : (g : Holding) → Sane g → (place : ℕ) → Closes (finish (heldOf g) place) (closing (heldOf g) (finish (heldOf g) place))
 finish-means g s place = closing-means (heldOf g) (s .fits) place

@@ -33,6 +33,11 @@ other-label-is-no-status =
     upper (λ n. (n % 4 ≡ 2 → ⊥) → (eqb n 14 || eqb n 10) ≡ false)
     (λ x. refl) (λ x. refl) (λ x. absurd (x refl)) (λ x. refl) (λ x. refl) (λ x. refl) (λ x. absurd (x refl)) (λ x. refl)
 
+-- what a word starts where nothing is held is what it brings
+pub begun-of-nothing : (f : Fed) → begun (flat Nothing) 0 0 f ≡ stepOf Nothing f
+begun-of-nothing bad = refl
+begun-of-nothing (fed is h) = refl
+
 module _ (ks : List Kind) (bus label info : ℕ) (bb : bus < 16) (l : label < 16) where
   abbrev pub StatusAnswers : Holding → Held → Type 0
   StatusAnswers g h = g .awaits ≡ 270 + bus * 16 → 8 ≤ label → label % 4 ≡ 2
@@ -103,10 +108,6 @@ module _ (ks : List Kind) (bus label info : ℕ) (bb : bus < 16) (l : label < 16
   unawaited-word-is-bad = sane-ind Strange strange
 
   -- nothing is held, or a command or an ARINC word that stays untagged
-  begun-of-nothing : (f : Fed) → begun (flat Nothing) 0 0 f ≡ stepOf Nothing f
-  begun-of-nothing bad = refl
-  begun-of-nothing (fed is h) = refl
-
   begun-behind : (x : Base) → BaseFits x → (f : Fed)
       → begun (flat (Taggable x)) (numberOf 0 (untagged x)) (baseWidth (numberOf 0 (untagged x))) f ≡ stepOf (Taggable x) (after (withTag x Untagged) f)
   unfolding itemFields flatMap

@@ -2,3 +2,4 @@
 pub mod Holding
 pub mod Step
 pub mod Meaning
+pub mod Feeds

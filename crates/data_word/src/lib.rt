@@ -1,13 +1,11 @@
 // One data word fed to what is held (document 01, "Items and their words").
 // It knows nothing of frames, places or buffers: a caller drives it word by word, and writes the bits that it hands out.
 ghost use mathlib.Core.Path.{_≡_};
-ghost use Prim.Native.Nat.{ℕ, _+_, _*_, _%_, _<_, _≤_};
-ghost use mathlib.Core.List.{List};
+ghost use Prim.Native.Nat.{_+_, _*_, _%_, _<_, _≤_};
 ghost use Rattle.format.specs.Reader as reader;
-ghost use Rattle.format.specs.Read as read;
-ghost use Rattle.format.specs.declared.Kind.{Kind};
+ghost use Rattle.data_word.specs.Feeds.{Feeds, Finishes};
 ghost use Rattle.data_word.specs.Holding.{heldOf, Sane};
-ghost use Rattle.data_word.specs.Step.{baseWidth, stepOf, closing};
+ghost use Rattle.data_word.specs.Step.{baseWidth, stepOf};
 pub use data_start::Holding;
 pub use data_start::Step;
 use data_start::ends;
@@ -28,7 +26,7 @@ fn base_width(base: u64) -> u32
 pub fn low(held: Holding, bus: u32, label: u32, information: u32) -> Step
     requires { ⌜ (bus < 16) × (8 ≤ label) × (label < 16) × (information < 65536) ⌝ }
     requires { ⌜ Sane held × (held .awaits ≡ bus * 16 + label) ⌝ }
-    ensures { λ r. ⌜ ((kinds : List Kind) → r ≡ stepOf (heldOf held) (reader.feed kinds (heldOf held) bus label information)) ⌝ }
+    ensures { λ r. ⌜ Feeds held bus label information r ⌝ }
 {
     let bits = held.base * 65536 + information as u64;
     holds(0, 0, bits, 0, bus * 16 + 7)
@@ -38,7 +36,7 @@ pub fn low(held: Holding, bus: u32, label: u32, information: u32) -> Step
 pub fn goes_on(held: Holding, bus: u32, label: u32, information: u32) -> Step
     requires { ⌜ (bus < 16) × (label < 16) × (information < 65536) ⌝ }
     requires { ⌜ Sane held × (held .awaits ≡ bus * 16 + label) × (held .awaits ≡ 0 → ⊥) ⌝ }
-    ensures { λ r. ⌜ ((kinds : List Kind) → r ≡ stepOf (heldOf held) (reader.feed kinds (heldOf held) bus label information)) ⌝ }
+    ensures { λ r. ⌜ Feeds held bus label information r ⌝ }
 {
     let base = held.base;
     let time = held.time;
@@ -65,7 +63,7 @@ pub fn goes_on(held: Holding, bus: u32, label: u32, information: u32) -> Step
 pub fn answers(held: Holding, bus: u32, label: u32, information: u32) -> Step
     requires { ⌜ (bus < 16) × (label < 16) × (information < 65536) ⌝ }
     requires { ⌜ Sane held × (held .awaits ≡ bus * 16 + label → ⊥) × (held .awaits ≡ 0 → ⊥) × (held .awaits % 16 ≡ 7 → ⊥) ⌝ }
-    ensures { λ r. ⌜ ((kinds : List Kind) → r ≡ stepOf (heldOf held) (reader.feed kinds (heldOf held) bus label information)) ⌝ }
+    ensures { λ r. ⌜ Feeds held bus label information r ⌝ }
 {
     let awaits = held.awaits;
     let time = held.time;
@@ -136,7 +134,7 @@ pub fn since(held: Holding, old: u64, here: u64) -> u64
 // The end of the capture: a command or an ARINC word without a tag is finished, anything else held is cut.
 pub fn finish(held: Holding) -> Step
     requires { ⌜ Sane held ⌝ }
-    ensures { λ r. ⌜ ((place : ℕ) → r ≡ closing (heldOf held) (read.finish (heldOf held) place)) ⌝ }
+    ensures { λ r. ⌜ Finishes held r ⌝ }
 {
     let base = held.base;
     let awaits = held.awaits;

@@ -10,7 +10,7 @@ ghost use Rattle.format.specs.Plan.{lead, groupWords, placeOf};
 ghost use Rattle.format.specs.Group.{none, unless, groupFault, timeFault, timeInfo, groupTime};
 ghost use Rattle.crc.specs.Running.{entries, farEntries, nextCheck};
 ghost use Rattle.format.specs.Laws.Limits.{Shape};
-ghost use Rattle.group_read.specs.Position.{Dealt, positionOf};
+ghost use Rattle.group_read.specs.Position.{Dealt, Follows, positionOf};
 ghost use Rattle.group_read.specs.Faults.{faultOf, firstChecked, earlierFault, isTimeWord, numberUnless, dueNumber, earlierNumber, wordNumber};
 ghost use Rattle.group_read.specs.Reach.{Clean};
 use format::Plan;
@@ -54,7 +54,7 @@ pub fn first_slot(plan: Plan, at: usize) -> Position
 // The dealt word behind the one that stands there: in the next track, or in the first and a row further.
 pub fn next_slot(plan: Plan, at: Position) -> Position
     requires { ⌜ Shape plan × Dealt plan at ⌝ }
-    ensures { λ r. ⌜ ((group s : ℕ) → at ≡ positionOf plan group s → r ≡ positionOf plan group (s + 1)) ⌝ }
+    ensures { λ r. ⌜ Follows plan at r ⌝ }
 {
     if plan.tracks == 1 {
         return Position {

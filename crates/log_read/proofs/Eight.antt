@@ -9,8 +9,9 @@ use lib.Seq.{drop-at, take-at, drop-drop, getD-drop}
 use lib.Pow.{pow-pos, split, shr-lt, shr-shr}
 use Rattle.format.specs.Bits.{bitsOf, bytesBits, numOf}
 use Rattle.format.specs.Log.{field}
-use Rattle.log_read.specs.Cursor.{eight, Window, Ending}
-use Rattle.format.specs.Laws.Log.Fields.{num-bits}
+use Rattle.log_read.specs.Cursor.{eight, said, windowOf, endingOf, Window, Ending}
+use Rattle.format.specs.Laws.Log.Fields.{bits-num, num-bits}
+use Rattle.format.specs.Laws.Log.Forth.{bytes-low}
 use Rattle.format.specs.Laws.Bits.{length-bits, bits-cat, bits-mod, length-bytes, bytes-append, bytes-drop}
 use Rattle.format.specs.Laws.Lists.{AllOf}
 use Rattle.format.specs.Laws.Lists.{in-first}
@@ -94,10 +95,21 @@ moved-bits w a h =
     ap (drop a) all ∙ drop-at (bitsOf a (w / 2 ^ (64 - a))) (bitsOf (64 - a) r) a (length-bits a _) ∙ bits-mod (64 - a) (64 - a) w (le-refl (64 - a)) in
     bits-mod 64 64 (w * 2 ^ a) (le-refl 64) ∙ up ∙ ap (λ (l : List ℕ). l ++ bitsOf a 0) (sym low)
 
+-- the number that eight bytes are, and its bits
+pub said-is : (s : List ℕ) (i w : ℕ) → w < 2 ^ 64 → bytesBits (eight s i) ≡ bitsOf 64 w → w ≡ said s i
+unfolding numOf
+said-is s i w h e = sym (rw e (num-bits 0 64 w ∙ rw (mod-eq-of-lt h) (omega arith)))
+
+said-bits : (s : List ℕ) (i : ℕ) → bytesBits (eight s i) ≡ bitsOf 64 (said s i)
+unfolding numOf
+said-bits s i =
+    let l : length (bytesBits (eight s i)) ≡ 64 = length-bytes (eight s i) in
+    sym (rw l at (bits-num 0 (bytesBits (eight s i)) (bytes-low (eight s i))))
+
 -- the window at a bit: its eight bytes, moved up
-pub window-is : (s : List ℕ) (at w : ℕ) → bytesBits (eight s (at / 8)) ≡ bitsOf 64 w → Window (bytesBits s) at (w * 2 ^ (at % 8) % 2 ^ 64)
+window-moved : (s : List ℕ) (at w : ℕ) → bytesBits (eight s (at / 8)) ≡ bitsOf 64 w → Window (bytesBits s) at (w * 2 ^ (at % 8) % 2 ^ 64)
 unfolding field
-window-is s at w e k n g h =
+window-moved s at w e k n g h =
     let a = at % 8 in
     let i = at / 8 in
     let v = w * 2 ^ a % 2 ^ 64 in
@@ -113,6 +125,10 @@ window-is s at w e k n g h =
     ∙ sym (in-first n k (drop a (bitsOf 64 w)) (bitsOf a 0) h2)
     ∙ ap (λ (l : List ℕ). take n (drop k l)) (sym (moved-bits w a (omega arith))))
     ∙ field64 v k n (64 - k - n) (omega arith)
+
+pub window-is : (s : List ℕ) (at : ℕ) {w : ℕ} → w ≡ windowOf s at → Window (bytesBits s) at w
+unfolding windowOf
+window-is s at {w} e = rw e (window-moved s at (said s (at / 8)) (said-bits s (at / 8)))
 
 -- a field at the window's front is its highest bits
 pub window-top : (s : List ℕ) (p w n : ℕ) → Window s p w → w < 2 ^ 64 → n ≤ 57 → p + n ≤ length s → field s p n ≡ w / 2 ^ (64 - n)
@@ -135,5 +151,10 @@ ending-at s i past e w z few hi q k n g =
     ∙ field64 w j n (past + k) (omega arith)
     ∙ ap (λ (m : ℕ). m % 2 ^ n) (sym (shr-shr w past k))
 
-pub ending-is : (s : List ℕ) (e w : ℕ) → 64 ≤ e → e ≤ length s * 8 → bytesBits (eight s ((e + 7) / 8 - 8)) ≡ bitsOf 64 w → Ending (bytesBits s) e (w / 2 ^ (8 * ((e + 7) / 8) - e))
-ending-is s e w lo hi q = ending-at s ((e + 7) / 8 - 8) (8 * ((e + 7) / 8) - e) e w (omega arith) (omega arith) hi q
+ending-moved : (s : List ℕ) (e w : ℕ) → 64 ≤ e → e ≤ length s * 8 → bytesBits (eight s ((e + 7) / 8 - 8)) ≡ bitsOf 64 w
+    → Ending (bytesBits s) e (w / 2 ^ (8 * ((e + 7) / 8) - e))
+ending-moved s e w lo hi q = ending-at s ((e + 7) / 8 - 8) (8 * ((e + 7) / 8) - e) e w (omega arith) (omega arith) hi q
+
+pub ending-is : (s : List ℕ) (e : ℕ) {w : ℕ} → w ≡ endingOf s e → 64 ≤ e → e ≤ length s * 8 → Ending (bytesBits s) e w
+unfolding endingOf
+ending-is s e {w} z lo hi = rw z (ending-moved s e (said s ((e + 7) / 8 - 8)) lo hi (said-bits s ((e + 7) / 8 - 8)))

@@ -4,7 +4,7 @@ ghost use Prim.Native.Nat.{_+_, _*_, _/_, _%_, _≤_, _<_, _^_};
 ghost use lib.ListN.{length, getD};
 ghost use mathlib.Core.List.{[], _∷_};
 ghost use Rattle.format.specs.Bits.{bitsOf, bytesBits};
-ghost use Rattle.log_read.specs.Cursor.{tookOf, eight, Window, Ending};
+ghost use Rattle.log_read.specs.Cursor.{tookOf, eight, windowOf, endingOf};
 use crate::Cursor;
 use crate::Took;
 
@@ -70,7 +70,7 @@ impl Cursor {
     // The bits from here on, highest first, as far as eight bytes hold them: 57 bits or more.
     pub fn window(self, log: &[u8]) -> u64
         requires { ⌜ self .at ≤ 34359738368 ⌝ }
-        ensures { λ r. ⌜ Window (bytesBits (now (log .entry))) (self .at) r ⌝ }
+        ensures { λ r. ⌜ r ≡ windowOf (now (log .entry)) (self .at) ⌝ }
     {
         let at = self.at;
         eight_at(log, at / 8) << (at % 8) as u32
@@ -79,7 +79,7 @@ impl Cursor {
     // The bits up to here, lowest last: 57 bits or more.
     pub fn ending(self, log: &[u8]) -> u64
         requires { ⌜ (64 ≤ self .at) × (self .at ≤ length (now log) * 8) × (length (now log) ≤ 4294967296) ⌝ }
-        ensures { λ r. ⌜ Ending (bytesBits (now (log .entry))) (self .at) r ⌝ }
+        ensures { λ r. ⌜ r ≡ endingOf (now (log .entry)) (self .at) ⌝ }
     {
         let end = self.at;
         let last = (end + 7) / 8;

@@ -18,7 +18,7 @@ use Rattle.format.specs.Laws.Word.Bytes.{all-bytes}
 use Rattle.format.specs.Laws.Log.Fields.{size, Narrow, packs}
 use Rattle.format.specs.Laws.Log.Back.{Logged}
 use Rattle.format.specs.Laws.Log.Sizes.{fields-length, items-low, bits-low}
-use Rattle.format.specs.Laws.Log.Forth.{log-forth}
+use Rattle.format.specs.Laws.Log.Forth.{log-forth, same-items}
 use Rattle.format.specs.Laws.Lists.{all-append}
 use Rattle.format.specs.declared.Tag.the-variants.{Untagged, At}
 use Rattle.format.specs.declared.Response.the-variants.{Untimed, After}
@@ -80,9 +80,6 @@ record Behind (s : List ℕ) (i : Item) (q : ℕ) (js : List Item) : Type 0 wher
 no-items : (n p : ℕ) (js : List Item) → fault n p ≡ items js → ⊥
 no-items n p js e = let z : _≡_ {A = ℕ} 0 1 = cc in omega arith
 
-same-items : (is js : List Item) → items is ≡ items js → is ≡ js
-same-items is js e = cc
-
 behind : (s : List ℕ) (f p : ℕ) (i : Item) (q : ℕ) (js : List Item) → nextAt s p ≡ has i q → parseFrom f onNoPlan s p ≡ items js → Behind s i q js
 unfolding parseFrom
 behind s zero p i q js n e = absurd (no-items 2 p js e)
@@ -90,7 +87,7 @@ behind s (suc f) p i q js n e = go (eqb (onNoPlan i) 0) (rw n at e)
   where
     more : (r : Parsed) → parseFrom f onNoPlan s q ≡ r → consed i r ≡ items js → Behind s i q js
     more (fault k m) g h = absurd (no-items k m js h)
-    more (items ks) g h = record { fuel = f; rest = ks; left = g; first = sym (same-items (i ∷ ks) js h) }
+    more (items ks) g h = record { fuel = f; rest = ks; left = g; first = sym (same-items h) }
 
     go : (b : Bool) → cond b (consed i (parseFrom f onNoPlan s q)) (fault (onNoPlan i) p) ≡ items js → Behind s i q js
     go true h = more (parseFrom f onNoPlan s q) refl h
@@ -99,7 +96,7 @@ behind s (suc f) p i q js n e = go (eqb (onNoPlan i) 0) (rw n at e)
 over : (s : List ℕ) (f p : ℕ) (js : List Item) → nextAt s p ≡ ends → parseFrom f onNoPlan s p ≡ items js → js ≡ []
 unfolding parseFrom
 over s zero p js n e = absurd (no-items 2 p js e)
-over s (suc f) p js n e = same-items js [] (sym (rw n at e))
+over s (suc f) p js n e = same-items (sym (rw n at e))
 
 never : (s : List ℕ) (f p : ℕ) (js : List Item) → nextAt s p ≡ wrong → parseFrom f onNoPlan s p ≡ items js → ⊥
 unfolding parseFrom

@@ -1,7 +1,7 @@
 -- Text that is put into lent room, from a place on.
 use Prim.Native.Nat.{ℕ, _+_, _≤_}
 use mathlib.Core.Bool.{Bool}
-use mathlib.Core.Path.{_≡_}
+use mathlib.Core.Path.{_≡_, sym, ap, _∙_}
 use mathlib.Core.List.{List, [], _∷_, _++_}
 use lib.ListN.{length, take, drop}
 use Rattle.format.specs.Log.{Parsed, items, fault}
@@ -13,6 +13,12 @@ pub record Adds (text out : List ℕ) (at : ℕ) (out′ : List ℕ) (n : ℕ) :
   pub is : out′ ≡ take at out ++ (text ++ drop n out)
   pub end : n ≡ at + length text
   pub fits : n ≤ length out
+
+-- one slice and one place do it
+pub adds-one : {text out out′ out″ : List ℕ} {at n m : ℕ} → Adds text out at out′ n → Adds text out at out″ m → (n ≡ m) × (out′ ≡ out″)
+adds-one {text} {out} {at = at} a b =
+    let e = a .end ∙ sym (b .end) in
+    (e, a .is ∙ ap (λ (k : ℕ). take at out ++ (text ++ drop k out)) e ∙ sym (b .is))
 
 -- a name of three letters, the bus, and a space behind each
 abbrev pub named : ℕ → ℕ → ℕ → ℕ → List ℕ

@@ -25,38 +25,43 @@ use Rattle.log_read.specs.Cursor.{Ending, Window}
 use Rattle.log_read.specs.Found.{timeAt}
 use Rattle.log_read.proofs.Items.{command-cut, command-tag-cut, status-cut, status-response-cut}
 use Rattle.log_words.specs.declared.item.Laid.{Laid}
-use Rattle.log_words.specs.Laid.{faulty, isArinc, isMil, Lays, laid, refused, Puts, Tags, timely, late}
-use Rattle.log_words.proofs.Row.{puts-more}
+use Rattle.log_words.specs.Laid.{faulty, isArinc, isMil, Lays, laid, refused, Puts, Tags, timely, late, written}
+use Rattle.log_words.specs.Words.{beforeTag, leftBy}
+use Rattle.log_words.proofs.Row.{none-written, puts-more}
+
+-- the row with what an item leaves in it that is refused by a number
+abbrev leaves : Item → ℕ → List ℕ → ℕ → List ℕ
+leaves i n before number = written n (leftBy number i) before
 
 -- the check of an item whose bus is of this kind
 pub on-plan : (ks : List Kind) (i : Item) (kind : Kind) (s t : Bool) → kindOn ks (busOfItem i) ≡ kind → standsOn i kind ≡ s → inTime i ≡ t → onPlan ks i ≡ cond s (cond t 0 4) 3
 on-plan ks i kind s t k h g = rw (k, h, g)
 
 module _ (ks : List Kind) (kind : Kind) {p n e : ℕ} {next : Next} {before after : List ℕ} {r : Laid} (i : Item) (q : ℕ) (here : next ≡ has i q) (bus : kindOn ks (busOfItem i) ≡ kind) where
-  pub no-place : standsOn i kind ≡ false → r ≡ faulty 3 → Lays (onPlan ks) p n e next before after r
-  no-place h g =
+  pub no-place : standsOn i kind ≡ false → r ≡ faulty 3 → after ≡ before → Lays (onPlan ks) p n e next before after r
+  no-place h g s =
       let c : onPlan ks i ≡ 3 = on-plan ks i kind false (inTime i) bus h refl in
-      refused i q here (λ z. omega (arith, c, z)) (g ∙ ap faulty (sym c))
+      refused i q here (λ z. omega (arith, c, z)) (g ∙ ap faulty (sym c)) (s ∙ sym (none-written n before) ∙ ap (leaves i n before) (sym c))
 
-  pub too-late : standsOn i kind ≡ true → inTime i ≡ false → r ≡ faulty 4 → Lays (onPlan ks) p n e next before after r
-  too-late h t g =
+  pub too-late : standsOn i kind ≡ true → inTime i ≡ false → r ≡ faulty 4 → after ≡ written n (beforeTag i) before → Lays (onPlan ks) p n e next before after r
+  too-late h t g s =
       let c : onPlan ks i ≡ 4 = on-plan ks i kind true false bus h t in
-      refused i q here (λ z. omega (arith, c, z)) (g ∙ ap faulty (sym c))
+      refused i q here (λ z. omega (arith, c, z)) (g ∙ ap faulty (sym c)) (s ∙ ap (leaves i n before) (sym c))
 
   pub words-laid : standsOn i kind ≡ true → inTime i ≡ true → (new : List ℕ) → itemWords i ≡ new → r .number ≡ 0 → r .at ≡ q → Puts n new before after (r .count)
       → 17 * length new + p ≤ q → q ≤ e → Lays (onPlan ks) p n e next before after r
   words-laid h t new w z a x d f = laid i q here (on-plan ks i kind true true bus h t) z a (rw w x) (rw w d) f
 
-  pub tag-laid : {s mid : List ℕ} {b tp k : ℕ} → standsOn i kind ≡ true → inTime i ≡ tagInTime (At (timeAt s tp)) → (head : List ℕ) → itemWords i ≡ head ++ map wordFor (tagParts b (At (timeAt s tp)))
+  pub tag-laid : {s mid : List ℕ} {b tp k : ℕ} → standsOn i kind ≡ true → inTime i ≡ tagInTime (At (timeAt s tp)) → (head : List ℕ) → beforeTag i ≡ head → itemWords i ≡ head ++ map wordFor (tagParts b (At (timeAt s tp)))
       → q ≡ tp + 46 → Puts n head before mid k → n + length head ≤ length before → Tags s b tp k mid after r → 17 * (length head + 3) + p ≤ q → q ≤ e → Lays (onPlan ks) p n e next before after r
-  tag-laid {s} {mid} {b} {tp} {k} h t head w behind x room g d f = go g
+  tag-laid {s} {mid} {b} {tp} {k} h t head v w behind x room g d f = go g
     where
       tag : List ℕ
       tag = map wordFor (tagParts b (At (timeAt s tp)))
 
       go : Tags s b tp k mid after r → Lays (onPlan ks) p n e next before after r
       go (timely y z a m) = words-laid h (t ∙ y) (head ++ tag) w z (a ∙ sym behind) (puts-more x m room) (omega (arith, d, length-append head tag)) f
-      go (late y z) = too-late h (t ∙ y) z
+      go (late y z u) = too-late h (t ∙ y) z (u ∙ x .is ∙ ap (λ (l : List ℕ). written n l before) (sym v))
 
 -- where items of each kind may stand
 pub command-stands : (bus : ℕ) (b : Bool) (t : Tag) (w : ℕ) (kind : Kind) → standsOn (Command bus b t w) kind ≡ isMil kind

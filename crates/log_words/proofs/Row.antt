@@ -1,11 +1,13 @@
 -- Words put into a row, one behind the other.
 use Prim.Native.Nat.{ℕ, _+_, _≤_}
+use native.Mathlib.Nat.{add-zero, zero-add}
 use native.Mathlib.Omega.{arith}
 use mathlib.Core.Path.{_≡_, ap, sym, _∙_}
 use mathlib.Core.List.{List, [], _∷_, _++_, append-assoc}
-use lib.ListN.{length, take, drop, set, length-append, length-take, length-drop}
+use lib.ListN.{length, take, drop, set, length-append, length-take, length-drop, take-append-drop}
 use lib.Seq.{sets-eq, take-at, drop-at, drop-drop, length-take-le}
 use Rattle.log_words.specs.Laid.{written, Puts}
+use Rattle.log_words.specs.Row.{onto}
 
 pub one-written : (at a : ℕ) (xs : List ℕ) → at + 1 ≤ length xs → set xs at a ≡ written at (a ∷ []) xs
 one-written at a xs h = sets-eq (a ∷ []) xs at h ∙ append-assoc (take at xs) (a ∷ []) (drop (at + 1) xs)
@@ -17,6 +19,14 @@ pub written-taken : (at : ℕ) (new xs : List ℕ) → at + length new ≤ lengt
 written-taken at new xs h =
     let f : length (take at xs ++ new) ≡ at + length new = length-append (take at xs) new ∙ ap (λ (k : ℕ). k + length new) (length-take-le at xs (omega arith)) in
     ap (take (at + length new)) (sym (append-assoc (take at xs) new (drop (at + length new) xs))) ∙ take-at (take at xs ++ new) (drop (at + length new) xs) (at + length new) f
+
+-- no words written
+pub none-written : (at : ℕ) (xs : List ℕ) → written at [] xs ≡ xs
+none-written at xs = ap (λ (n : ℕ). take at xs ++ drop n xs) (add-zero at) ∙ take-append-drop at xs
+
+-- words at the front
+pub first-written : (new xs : List ℕ) → written 0 new xs ≡ onto new xs
+first-written new xs = ap (λ (n : ℕ). new ++ drop n xs) (zero-add (length new))
 
 -- words written behind those that were written
 pub more-written : (at : ℕ) (new more xs : List ℕ) → at + length new ≤ length xs

@@ -1,7 +1,7 @@
 -- Items of one word with no time behind it: what stands in the log, and its word.
 use Prim.Native.Nat.{ℕ, zero, suc, _+_, _*_, _/_, _%_, _^_, _-_, _≤_, _<_}
 use native.Mathlib.Omega.{arith}
-use mathlib.Core.Bool.{Bool, true, false, cond, _&&_}
+use mathlib.Core.Bool.{Bool, true, false, cond}
 use mathlib.Core.Path.{_≡_, refl, ap, sym, _∙_}
 use mathlib.Core.List.{List, [], _∷_}
 use lib.Dec.{eqb, ltb}
@@ -9,6 +9,7 @@ use lib.ListN.{length}
 use borrow.Author.Tests.{eq-eqb, eqb-true, ltb-true}
 use Rattle.format.specs.Bits.{bytesBits}
 use Rattle.format.specs.Item.{busOfItem, inTime, itemWords, standsOn}
+use Rattle.format.specs.Laws.Tests.{and-true}
 use Rattle.format.specs.Log.{has, itemAt, onPlan, wrong}
 use Rattle.format.specs.Plan.{kindOn}
 use Rattle.format.specs.Word.{wordOf}
@@ -47,12 +48,8 @@ single-range k w (overflow e) = (omega (arith, e), omega (arith, e))
 -- what a flag says
 pub timed-is : (k w : ℕ) → timedKind k w ≡ true → (k < 3) × (w / 2 ^ 54 % 2 ≡ 1)
 timed-is k w f =
-    let b = both (ltb k 3) (eqb (w / 2 ^ 54 % 2) 1) f in
+    let b = and-true (ltb k 3) (eqb (w / 2 ^ 54 % 2) 1) f in
     (ltb-true k 3 (b .0), eqb-true (w / 2 ^ 54 % 2) 1 (b .1))
-  where
-    both : (x y : Bool) → (x && y) ≡ true → (x ≡ true) × (y ≡ true)
-    both true y e = (refl, e)
-    both false y e = (e, absurd (let z : _≡_ {A = ℕ} 0 1 = ap (λ (b : Bool). cond b 1 0) e in omega arith))
 
 -- all of the item of kind k at the bit p, in the window w
 pub record Whole (s : List ℕ) (p k w : ℕ) : Type 0 where
@@ -81,10 +78,10 @@ module _ (log : List ℕ) (p l w : ℕ) (f : Window (bytesBits log) p w) (h : p 
 
   -- how one is laid, by its word
   module _ (ks : List Kind) (kind : Kind) {n : ℕ} {before after : List ℕ} {r : Laid} (k bits : ℕ) (a : Single k w) (b : bits ≡ singleBits k) (room : bits ≤ l) (on : kindOn ks (w / 2 ^ 56 % 2 ^ 4) ≡ kind) where
-    pub single-no-place : singleStands kind k ≡ false → r ≡ faulty 3 → Lays (onPlan ks) p n (length log * 8) (itemAt (bytesBits log) p k) before after r
-    single-no-place g z =
+    pub single-no-place : singleStands kind k ≡ false → r ≡ faulty 3 → after ≡ before → Lays (onPlan ks) p n (length log * 8) (itemAt (bytesBits log) p k) before after r
+    single-no-place g z s =
         let t = single-whole k a (rw b at room) in
-        no-place ks kind (t .item) _ (t .here) (ap (kindOn ks) (t .bus) ∙ on) (t .stands kind ∙ g) z
+        no-place ks kind (t .item) _ (t .here) (ap (kindOn ks) (t .bus) ∙ on) (t .stands kind ∙ g) z s
 
     pub single-laid : singleStands kind k ≡ true → (word : ℕ) → word ≡ wordOf (w / 2 ^ 56 % 2 ^ 4) (singleLabel k (eqb (w / 2 ^ 55 % 2) 1)) (w / 2 ^ (64 - bits) % 2 ^ 16)
         → r .number ≡ 0 → r .at ≡ p + bits → Puts n (word ∷ []) before after (r .count) → 24 ≤ bits → Lays (onPlan ks) p n (length log * 8) (itemAt (bytesBits log) p k) before after r

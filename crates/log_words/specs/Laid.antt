@@ -13,6 +13,7 @@ use Rattle.format.specs.declared.Kind.the-variants.{Unused, Mil1553, Arinc429}
 use Rattle.format.specs.declared.Tag.the-variants.{At}
 use Rattle.log_read.specs.Found.{timeAt}
 use Rattle.log_words.specs.declared.item.Laid.{Laid}
+use Rattle.log_words.specs.Words.{leftBy}
 
 abbrev pub isMil : Kind → Bool
 isMil Unused = false
@@ -39,13 +40,15 @@ pub record Puts (at : ℕ) (new before after : List ℕ) (r : ℕ) : Type 0 wher
 -- of the tag at the bit p: its words are put behind n others, or its time is refused
 pub data Tags (s : List ℕ) (bus p n : ℕ) (before after : List ℕ) (r : Laid) : Type 0 where
   timely : tagInTime (At (timeAt s p)) ≡ true → r .number ≡ 0 → r .at ≡ p + 46 → Puts n (map wordFor (tagParts bus (At (timeAt s p)))) before after (r .count) → Tags s bus p n before after r
-  late : tagInTime (At (timeAt s p)) ≡ false → r ≡ faulty 4 → Tags s bus p n before after r
+  late : tagInTime (At (timeAt s p)) ≡ false → r ≡ faulty 4 → after ≡ before → Tags s bus p n before after r
 
--- of what stands at the bit p of a log of e bits: it is cut, refused, or its words are put behind n others;
+-- of what stands at the bit p of a log of e bits: it is cut, refused (and some of its words may be left behind n others), or its
+-- words are put behind n others;
 -- a word of an item takes 17 bits of the log or more
 pub data Lays (check : Item → ℕ) (p n e : ℕ) (next : Next) (before after : List ℕ) (r : Laid) : Type 0 where
-  cut : next ≡ wrong → r ≡ faulty 2 → Lays check p n e next before after r
-  refused : (i : Item) (q : ℕ) → next ≡ has i q → (check i ≡ 0 → ⊥) → r ≡ faulty (check i) → Lays check p n e next before after r
+  cut : next ≡ wrong → r ≡ faulty 2 → after ≡ before → Lays check p n e next before after r
+  refused : (i : Item) (q : ℕ) → next ≡ has i q → (check i ≡ 0 → ⊥) → r ≡ faulty (check i)
+      → after ≡ written n (leftBy (check i) i) before → Lays check p n e next before after r
   laid : (i : Item) (q : ℕ) → next ≡ has i q → check i ≡ 0 → r .number ≡ 0 → r .at ≡ q → Puts n (itemWords i) before after (r .count)
       → 17 * length (itemWords i) + p ≤ q → q ≤ e → Lays check p n e next before after r
 

@@ -2,3 +2,4 @@
 pub mod Words
 pub mod Laid
 pub mod Single
+pub mod Row

@@ -1,11 +1,7 @@
 // The words of a log's items (document 01, "Items and their words"), put into a row as the log is parsed.
-ghost use mathlib.Core.Path.{_≡_};
-ghost use Prim.Native.Nat.{ℕ, _+_, _*_, _≤_};
-ghost use lib.ListN.{length, take};
-ghost use Rattle.format.specs.Log.{onPlan, parsed};
-ghost use Rattle.log_read.specs.Tally.{talliedOf};
-ghost use Rattle.log_read.specs.declared.Tally.the-variants.{Items};
-ghost use Rattle.log_words.specs.Words.{wordsFrom};
+ghost use Prim.Native.Nat.{_+_, _*_, _≤_};
+ghost use lib.ListN.{length};
+ghost use Rattle.log_words.specs.Row.{LaysLog};
 use crate::item::lay_item;
 use crate::item::mark_number;
 use format::Kind;
@@ -14,11 +10,10 @@ use log_read::Tally;
 
 mod item;
 
-// "the items in order, each for 2, 3, 4"; where there is no fault, the row begins with all their words.
+// "the items in order, each for 2, 3, 4"; the row begins with their words, all of them or those up to the first fault.
 pub fn lay(kinds: [Kind; 16], log: &[u8], words: &mut [u32]) -> Tally
     requires { ⌜ (length (now log) ≤ 32768) × (length (now log) * 8 + 85 ≤ 17 * length (now words)) ⌝ }
-    ensures { λ r. ⌜ (r ≡ talliedOf (parsed (onPlan kinds) (now (log .entry))))
-        × ((n w : ℕ) → r ≡ Items n w → take w (now (words .exit)) ≡ wordsFrom (now (log .entry)) 0) ⌝ }
+    ensures { λ r. ⌜ LaysLog kinds (now (log .entry)) (now (words .entry)) (now (words .exit)) r ⌝ }
 {
     let total = log.len() * 8;
     let mut at = Cursor { at: 0 };

@@ -1,16 +1,15 @@
 -- A small capture has a small log: at most 26 bits a word.
-use Prim.Native.Nat.{ℕ, zero, suc, _+_, _*_, _/_, _%_, _^_, _≤_, _<_}
+use Prim.Native.Nat.{ℕ, _+_, _*_, _/_, _%_, _≤_, _<_}
+use native.Mathlib.Nat.{mul-le-mul-left}
 use native.Mathlib.Omega.{arith}
 use mathlib.Core.Path.{_≡_, refl, sym, ap, _∙_}
 use mathlib.Core.List.{List, [], _∷_, _++_, flatMap}
 use lib.ListN.{length, getD, replicate, length-append, length-replicate, length-map}
 use Rattle.format.specs.Bits.{bitsOf, packed}
-use Rattle.format.specs.Word.{Part, wordAt, isFill, partOf}
+use Rattle.format.specs.Word.{Part, isFill, partOf}
 use Rattle.format.specs.Item.{itemFields, itemBits, itemParts}
-use Rattle.format.specs.Lists.{All, nil, cons, list}
 use Rattle.format.specs.Log.{logOf}
-use Rattle.format.specs.Plan.{groupWords, lead, slots, placeOf}
-use Rattle.format.specs.Group.{groupSlots}
+use Rattle.format.specs.Plan.{groupWords}
 use Rattle.format.specs.Reader.{Slot, dataOf}
 use Rattle.format.specs.Read.{slotsFrom}
 use Rattle.format.specs.declared.Tag.the-variants.{Untagged, At}
@@ -19,10 +18,12 @@ use Rattle.format.specs.declared.Item.{Item}
 use Rattle.format.specs.declared.Item.the-variants.{Command, Status, Data, BusError, Arinc, Notice, User, Overflow}
 use Rattle.format.specs.declared.Kind.{Kind}
 use Rattle.format.specs.declared.Plan.{Plan}
-use Rattle.format.specs.Laws.Lists.{all-append, all-list, length-list}
+use Rattle.format.specs.Laws.Word.Bytes.{all-bytes}
 use Rattle.format.specs.Laws.Log.Fields.{Packs, packs, length-bits, length-bytes}
 use Rattle.format.specs.Laws.Log.Sizes.{bits-low, items-low, fields-length}
+use Rattle.format.specs.Laws.Accepted.Exact.{slots-count, slots-low}
 use Rattle.format.specs.Laws.Accepted.Faultless.{accepted-parts}
+use Rattle.format.specs.Laws.Accepted.Together.{data-all}
 use Rattle.format.specs.Laws.Limits.{Shape}
 use Rattle.read.specs.Room.{Enough}
 use Rattle.data_items.proofs.Items.{yes-or-no}
@@ -66,47 +67,22 @@ unfolding dataOf
 data-few [] = omega arith
 data-few (s ∷ ss) = yes-or-no (isFill (s .1)) (λ e. rw e (omega (arith, data-few ss))) (λ e. rw e (omega (arith, data-few ss)))
 
-data-low : (ss : List Slot) → All (λ s. s .1 < 2 ^ 24) ss → All (λ w. w < 2 ^ 24) (dataOf ss)
-unfolding dataOf
-data-low [] nil = nil
-data-low (s ∷ ss) (cons h t) = yes-or-no (isFill (s .1)) (λ e. rw e (data-low ss t)) (λ e. rw e (cons h (data-low ss t)))
-
 module _ (p : Plan) (c : List ℕ) (bytes : (i : ℕ) → getD c i 0 < 256) where
-  stored-low : (i : ℕ) → wordAt c i < 2 ^ 24
-  unfolding wordAt
-  stored-low i = omega (arith, bytes (3 * i), bytes (3 * i + 1), bytes (3 * i + 2))
-
-  abbrev slot : ℕ → ℕ → Slot
-  slot first s = (first + placeOf p s, wordAt c (first + placeOf p s))
-
-  slots-low : (n g : ℕ) → All (λ s. s .1 < 2 ^ 24) (slotsFrom p c n g)
-  unfolding slotsFrom groupSlots
-  slots-low zero g = nil
-  slots-low (suc n) g =
-      all-append
-      (all-list (λ (s : Slot). s .1 < 2 ^ 24) (slot (g * groupWords p)) (slots p) (lead p)
-      (λ i h. stored-low (g * groupWords p + placeOf p (lead p + i))))
-      (slots-low n (g + 1))
-
-  slots-count : Shape p → (n g : ℕ) → length (slotsFrom p c n g) ≤ n * groupWords p
-  unfolding slotsFrom groupSlots
-  slots-count s zero g = omega arith
-  slots-count s (suc n) g =
-      rw (
-        length-append (list (slot (g * groupWords p)) (lead p) (slots p)) (slotsFrom p c n (g + 1)),
-        length-list (slot (g * groupWords p)) (lead p) (slots p),
-      )
-      (omega (arith, slots-few p s, slots-count s n (g + 1)))
+  -- no more slots than words
+  slots-fewer : Shape p → (n g : ℕ) → length (slotsFrom p c n g) ≤ n * groupWords p
+  slots-fewer s n g =
+      omega
+      (arith, sym (length-map (slotsFrom p c n g) (λ (s : Slot). s .1)) ∙ slots-count p c n g, mul-le-mul-left n (slots-few p s))
 
   -- 628 words and their end mark fit 2,048 bytes
   pub small-enough : (ks : List Kind) (room : ℕ) → Shape p → length c % (3 * groupWords p) ≡ 0 → length c ≤ 1884 → Enough p ks c 2056 room
   small-enough ks room s z h = record {
     room = λ is e a b.
         let n : ℕ = length c / (3 * groupWords p) in
-        let k = accepted-parts p ks c n is e (data-low (slotsFrom p c n 0) (slots-low n 0)) in
+        let k = accepted-parts p ks c n is e (data-all (slotsFrom p c n 0) (slots-low p c (all-bytes c bytes) n 0)) in
         let d : length (dataOf (slotsFrom p c n 0)) ≡ length (flatMap itemParts is) =
         sym (length-map (dataOf (slotsFrom p c n 0)) (partOf (p .parity))) ∙ ap (λ (l : List Part). length l) (k .0) in
-        omega (arith, d, items-short is, log-short is, data-few (slotsFrom p c n 0), slots-count s n 0, whole-groups p (length c) z);
+        omega (arith, d, items-short is, log-short is, data-few (slotsFrom p c n 0), slots-fewer s n 0, whole-groups p (length c) z);
   }
 
 -- and so does every log that a small room holds

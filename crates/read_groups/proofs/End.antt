@@ -18,6 +18,7 @@ use Rattle.format.specs.Laws.Lists.{flatMap-append}
 use Rattle.data_start.specs.declared.Step.{Step}
 use Rattle.data_word.specs.Holding.{heldOf}
 use Rattle.data_word.specs.Meaning.{Brings, Closes}
+use Rattle.data_word.proofs.Meaning.{Finished, finished}
 use Rattle.data_run.specs.declared.Pass.{Pass}
 use Rattle.data_run.specs.declared.fill.Fills.{Fills}
 use Rattle.read_groups.specs.declared.Walk.{Walk}
@@ -39,15 +40,6 @@ finish-cut (Half bus c high) at r m z = refl
 finish-cut (TagHigh x high) at r m z = refl
 finish-cut (TagLow x high low) at r m z = refl
 finish-cut (Answering bus t) at r m z = refl
-
-record Finished (g : Got) (r : Step) : Type 0 where
-  items : List Item
-  is : g ≡ got items
-  brings : Brings items Nothing r
-
-finished : (g : Got) (r : Step) → Closes g r → r .bad ≡ false → Finished g r
-finished (got js) r m z = record { items = js; is = refl; brings = m }
-finished (stopped k q) r m z = clash (sym z ∙ m)
 
 pub closing-fits : (g : Got) (r : Step) → Closes g r → r .bad ≡ false → Strings r
 closing-fits g r m z =

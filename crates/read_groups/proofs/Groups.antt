@@ -24,7 +24,8 @@ use Rattle.group_read.specs.Faults.{faultOf}
 use Rattle.group_read.proofs.Numbers.{number-none, number-found}
 use Rattle.data_start.specs.Holding.{flat}
 use Rattle.data_word.specs.Holding.{heldOf}
-use Rattle.data_word.proofs.Meaning.{nothing-is-sane, nothing-is-held}
+use Rattle.data_word.proofs.Flat.{nothing-is-held}
+use Rattle.data_word.proofs.Meaning.{nothing-is-sane}
 use Rattle.data_run.specs.declared.Pass.{Pass}
 use Rattle.data_run.specs.declared.fill.Fills.{Fills}
 use Rattle.data_run.specs.Fills.{fillsIn}

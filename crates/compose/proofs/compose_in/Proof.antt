@@ -1,12 +1,43 @@
-use Rattle.compose.proofs.Laws.{all-bytes}
-use Rattle.compose.proofs.Answered.{log-counted, log-faulty, row-holds}
-use lib.Seq.{length-take-le}
-use lib.ListN.{length}
-use mathlib.Core.Path.{refl, sym, _∙_}
+use Prim.Native.Nat.{ℕ}
 use native.Mathlib.Omega.{arith}
+use mathlib.Core.List.{List}
+use mathlib.Core.Path.{_≡_, refl, sym, _∙_}
+use lib.ListN.{length, take}
+use lib.Seq.{length-take-le}
 use borrow.Author.Needs.{needs}
+use Rattle.format.specs.Log.{onPlan}
+use Rattle.log_words.specs.Words.{wordsFrom}
+use Rattle.compose.proofs.Laws.{all-bytes}
+use Rattle.compose.proofs.Answered.{Counted, log-counted, log-faulty, row-begins, row-holds}
 use Rattle.compose.proofs.compose_in.Statement.{statement}
 use Rattle.compose.proofs.compose_in.Tie as tie
+
+-- where a log without a fault was told: the words laid before, the function's entry, how many words there are and which
+abbrev laid : tie.After-words → tie.After-lay
+laid c = c .before .before .before .before
+
+abbrev entry : tie.After-lay → tie.Start
+entry c = c .before .before .before .before .before .before
+
+abbrev count : tie.After-words → ℕ
+count c = c .words .given .0 .1 .0
+
+abbrev words : tie.After-words → List ℕ
+words c = wordsFrom (onPlan (entry (laid c) .args .kinds)) (entry (laid c) .args .log .now) 0
+
+abbrev row : tie.After-words → List ℕ
+row c = laid c .lay .last .1 .1 .0
+
+counted : (c : tie.After-words) → Counted (entry (laid c) .args .plan) (entry (laid c) .args .kinds) (entry (laid c) .args .log .now) (count c)
+counted c =
+    let a = entry (laid c) in
+    let g = c .words .given in
+    log-counted (a .args .plan) (a .args .kinds) (a .args .log .now) (a .pre .0)
+    (all-bytes (a .args .log .now) (λ i. omega (arith, laid c .before .before .before .before .before .shared-slice-known .given i)))
+    (g .0 .0) (count c) (sym (g .1) ∙ laid c .lay .ensures .0)
+
+begins : (c : tie.After-words) → take (count c) (row c) ≡ words c
+begins c = row-begins (count c) (row c) (words c) (entry (laid c) .args .row .now) (laid c .lay .ensures .1) (counted c .count)
 
 lay-requires : tie.Need-lay-requires
 lay-requires c κs = search needs
@@ -16,30 +47,19 @@ enum-known-words c = search needs
 
 slice-reshare-prefix-compose-words : tie.Need-slice-reshare-prefix-compose-words
 slice-reshare-prefix-compose-words c =
-    let a = c .before .before .before .before .before .before .before .before .before .before .before .args in
-    let g = c .before .words .given in
-    let l = c .before .before .before .before .before .lay in
-    let k = log-counted (a .plan) (a .kinds) (a .log .now) (c .before .before .before .before .before .before .before .before .before .before .before .pre .0) (all-bytes (a .log .now) (λ i. omega (arith, c .before .before .before .before .before .before .before .before .before .before .shared-slice-known .given i))) (g .0 .0) (g .0 .1 .0) (sym (g .1) ∙ l .ensures .0) in
-    let v = l .ensures .1 (g .0 .0) (g .0 .1 .0) (g .1) in
-    row-holds (g .0 .1 .0) (l .last .1 .1 .0) _ v (k .count)
+    let w = c .before in
+    row-holds (count w) (row w) (words w) (begins w) (counted w .count)
 
 slice-aggregate-compose-words : tie.Need-slice-aggregate-compose-words
 slice-aggregate-compose-words c =
-    let a = c .before .before .before .before .before .before .before .before .before .before .before .before .args in
-    let g = c .before .before .words .given in
-    let l = c .before .before .before .before .before .before .lay in
-    let k = log-counted (a .plan) (a .kinds) (a .log .now) (c .before .before .before .before .before .before .before .before .before .before .before .before .pre .0) (all-bytes (a .log .now) (λ i. omega (arith, c .before .before .before .before .before .before .before .before .before .before .before .shared-slice-known .given i))) (g .0 .0) (g .0 .1 .0) (sym (g .1) ∙ l .ensures .0) in
-    let v = l .ensures .1 (g .0 .0) (g .0 .1 .0) (g .1) in
-    sym (length-take-le (g .0 .1 .0) (l .last .1 .1 .0) (row-holds (g .0 .1 .0) (l .last .1 .1 .0) _ v (k .count)))
+    let w = c .before .before in
+    sym (length-take-le (count w) (row w) (row-holds (count w) (row w) (words w) (begins w) (counted w .count)))
 
 compose-words-requires : tie.Need-compose-words-requires
 compose-words-requires c κs =
-    let a = c .before .before .before .before .before .before .before .before .before .before .before .before .before .args in
-    let g = c .before .before .before .words .given in
-    let l = c .before .before .before .before .before .before .before .lay in
-    let k = log-counted (a .plan) (a .kinds) (a .log .now) (c .before .before .before .before .before .before .before .before .before .before .before .before .before .pre .0) (all-bytes (a .log .now) (λ i. omega (arith, c .before .before .before .before .before .before .before .before .before .before .before .before .shared-slice-known .given i))) (g .0 .0) (g .0 .1 .0) (sym (g .1) ∙ l .ensures .0) in
-    let v = l .ensures .1 (g .0 .0) (g .0 .1 .0) (g .1) in
-    rw v (k .shape, omega (arith, k .count, k .few), k .unsent)
+    let w = c .before .before .before in
+    let k = counted w in
+    rw (begins w) (k .shape, omega (arith, k .count, k .few), k .unsent)
 
 enum-known-number : tie.Need-enum-known-number
 enum-known-number c = search needs
@@ -55,21 +75,20 @@ same-length-2 c = search needs
 
 returns : tie.Need-returns
 returns c =
-    let a = c .before .before .before .before .before .before .before .before .before .before .before .before .before .before .before .before .args in
-    let g = c .before .before .before .before .before .before .words .given in
-    let l = c .before .before .before .before .before .before .before .before .before .before .lay in
-    let k = log-counted (a .plan) (a .kinds) (a .log .now) (c .before .before .before .before .before .before .before .before .before .before .before .before .before .before .before .before .pre .0) (all-bytes (a .log .now) (λ i. omega (arith, c .before .before .before .before .before .before .before .before .before .before .before .before .before .before .before .shared-slice-known .given i))) (g .0 .0) (g .0 .1 .0) (sym (g .1) ∙ l .ensures .0) in
-    let v = l .ensures .1 (g .0 .0) (g .0 .1 .0) (g .1) in
-    rw (k .is (a .times .now) (length (a .out .now))) (rw v at (c .before .before .compose-words .ensures))
+    let w = c .before .before .before .before .before .before in
+    let a = entry (laid w) .args in
+    rw (counted w .is (a .times .now) (length (a .out .now))) (rw (begins w) at (c .before .before .compose-words .ensures))
 
 same-length-3 : tie.Need-same-length-3
 same-length-3 c = search needs
 
 returns-2 : tie.Need-returns-2
 returns-2 c =
-    let a = c .before .before .before .before .before .before .before .before .before .before .before .before .args in
     let g = c .before .before .number .given in
-    rw (log-faulty (a .plan) (a .kinds) (a .log .now) (a .times .now) (length (a .out .now)) (c .before .before .before .before .before .before .before .before .before .before .before .before .pre .0) (g .0 .0) (g .0 .1 .0) (sym (g .1) ∙ c .before .before .before .before .before .before .lay .ensures .0))
+    let l = c .before .before .before .before .before .before in
+    let a = entry l in
+    rw (log-faulty (a .args .plan) (a .args .kinds) (a .args .log .now) (a .args .times .now) (length (a .args .out .now)) (a .pre .0)
+    (g .0 .0) (g .0 .1 .0) (sym (g .1) ∙ l .lay .ensures .0))
     (c .refusal .ensures, refl)
 
 pub compose-in-spec : {M : Type 1} → statement M

@@ -1,5 +1,5 @@
-use Rattle.compose.proofs.Answered.{times-wrong, time-late, room-short, all-made, capture-length}
-use Rattle.compose.proofs.Laws.{small, timely}
+use Rattle.compose.proofs.Answered.{times-wrong, time-late, room-short, all-made}
+use Rattle.compose.proofs.Laws.{capture-length, small, timely}
 use Rattle.format.specs.Plan.{groupWords}
 use Rattle.format.specs.Compose.{groupsFor}
 use Rattle.format.specs.Answer.{refusal, success}
@@ -121,7 +121,7 @@ returns-4 c =
     let bytes : c .before .before .before .before .before .before .before .before .before .before .groups-for .result * (3 * c .before .before .before .before .before .group-words .result) ≡ groupsFor (a .plan) (length ws) * (3 * groupWords (a .plan)) =
     ap₂ (λ (g w : ℕ). g * (3 * w)) groups (c .before .before .before .before .before .group-words .ensures .0) in
     rw (all-made (a .plan) ts (length (a .out .now)) ws number size (rw bytes at (c .before .before .before .before .if3 .left)))
-    (ap (λ (k : ℕ). success k 0) (bytes ∙ sym (capture-length (a .plan) ts (length (a .out .now)) ws (q .0))), c .before .before .write-groups .ensures)
+    (ap (λ (k : ℕ). success k 0) (bytes ∙ sym (capture-length (a .plan) (omega (arith, q .0 .words-least)) (q .0 .tracks-least) ts ws)), c .before .before .write-groups .ensures)
 
 pub compose-words-spec : {M : Type 1} → statement M
 compose-words-spec =

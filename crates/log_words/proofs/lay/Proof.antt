@@ -1,30 +1,83 @@
-use Rattle.log_words.proofs.Logged.{behind, closes, ended-bad, ended-good, fault-told, items-words, no-more, stops}
-use Rattle.log_read.proofs.Items.{next-past, next-end, next-item}
-use Prim.Native.Nat.{ℕ, _*_, _-_, _≤_}
-use Rattle.log_words.specs.Words.{wordsFrom}
-use Rattle.log_read.proofs.Parsing.{onward, tally-start}
-use Rattle.log_read.specs.Tally.{talliedOf}
-use Rattle.format.specs.Log.{onPlan, parsed}
-use lib.ListN.{length, take}
-use mathlib.Core.List.{_++_}
-use mathlib.Core.Path.{_≡_, refl, sym, _∙_}
+use Prim.Native.Nat.{ℕ, _*_, _-_, _/_, _^_, _≤_}
 use native.Mathlib.Omega.{arith}
+use mathlib.Core.Path.{_≡_, refl, ap, sym, _∙_}
+use mathlib.Core.List.{List}
+use lib.ListN.{length}
 use borrow.Author.Needs.{needs}
+use Rattle.format.specs.Bits.{bytesBits}
+use Rattle.format.specs.Log.{endAt, itemAt, nextAt, onPlan, parsed}
+use Rattle.format.specs.declared.Kind.{Kind}
+use Rattle.log_read.specs.Found.{foundOf}
+use Rattle.log_read.specs.Tally.{talliedOf}
+use Rattle.log_read.specs.declared.Found.the-variants.{End, Wrong}
+use Rattle.log_read.proofs.Eight.{window-is}
+use Rattle.log_read.proofs.Items.{next-past, next-end, next-item}
+use Rattle.log_read.proofs.Parsing.{onward, tally-start}
+use Rattle.log_words.specs.Laid.{written}
+use Rattle.log_words.specs.Row.{onto}
+use Rattle.log_words.specs.Words.{wordsFrom}
+use Rattle.log_words.proofs.Logged.{behind, closes, ended-bad, ended-good, fault-told, none-left, stops}
+use Rattle.log_words.proofs.Row.{first-written}
 use Rattle.log_words.proofs.lay.Statement.{statement}
 use Rattle.log_words.proofs.lay.Tie as tie
 
 abbrev Inv-loop : tie.InvT-loop
 Inv-loop log words₀ kinds total at₀ items₀ count₀ words at items count =
-    (items * 8 ≤ at .at) × (at .at ≤ length log * 8) × (17 * count ≤ at .at) × (length words ≡ length words₀) × (talliedOf (parsed (onPlan kinds) log) ≡ onward (onPlan kinds) log (at .at) items count) × (take count words ++ wordsFrom log (at .at) ≡ wordsFrom log 0)
+    (items * 8 ≤ at .at) × (at .at ≤ length log * 8) × (17 * count ≤ at .at) × (length words ≡ length words₀)
+    × (talliedOf (parsed (onPlan kinds) log) ≡ onward (onPlan kinds) log (at .at) items count)
+    × (written count (wordsFrom (onPlan kinds) log (at .at)) words ≡ onto (wordsFrom (onPlan kinds) log 0) words₀)
 
 abbrev μ-loop : tie.MeasureT-loop
 μ-loop log words₀ kinds total at₀ items₀ count₀ words at items count = length log * 8 - at .at
+
+-- at the loop: the function's entry, the log, and the bits that are left
+abbrev entry : tie.At-loop Inv-loop μ-loop → tie.Start Inv-loop μ-loop
+entry c = c .before .before .before
+
+abbrev log : tie.At-loop Inv-loop μ-loop → List ℕ
+log c = entry c .args .log .now
+
+abbrev kinds : tie.At-loop Inv-loop μ-loop → List Kind
+kinds c = entry c .args .t1
+
+abbrev left : tie.At-loop Inv-loop μ-loop → ℕ
+left c = length (log c) * 8 - c .loop .at .at
+
+-- the turn, and where its window, its end mark and its item were read
+abbrev turn : tie.After-window Inv-loop μ-loop → tie.At-loop Inv-loop μ-loop
+turn c = c .before .before .before
+
+abbrev marked : tie.After-mark-number Inv-loop μ-loop → tie.At-loop Inv-loop μ-loop
+marked c = turn (c .before .before)
+
+abbrev item : tie.After-lay-item Inv-loop μ-loop → tie.At-loop Inv-loop μ-loop
+item c = turn (c .before .before .before .before)
+
+abbrev whole : tie.After-lay-item Inv-loop μ-loop → tie.After-window Inv-loop μ-loop
+whole c = c .before .before .before .before
+
+-- what stands at the cursor: an end mark, or an item
+ends-here : (c : tie.After-mark-number Inv-loop μ-loop)
+    → nextAt (bytesBits (log (marked c))) (marked c .loop .at .at) ≡ endAt (bytesBits (log (marked c))) (marked c .loop .at .at)
+ends-here c =
+    next-end (log (marked c)) (marked c .loop .at .at) (left (marked c)) (c .before .before .window .result)
+    (window-is _ _ (c .before .before .window .ensures)) (omega arith) (omega arith) (omega arith) (c .before .if2 .taken)
+
+item-here : (c : tie.After-lay-item Inv-loop μ-loop)
+    → nextAt (bytesBits (log (item c))) (item c .loop .at .at)
+    ≡ itemAt (bytesBits (log (item c))) (item c .loop .at .at) (whole c .window .result / 2 ^ 60)
+item-here c =
+    next-item (log (item c)) (item c .loop .at .at) (left (item c)) (whole c .window .result)
+    (window-is _ _ (whole c .window .ensures)) (omega arith) (omega arith) (omega arith) _ (omega (arith, c .before .before .before .if2 .left)) refl
 
 mul-total : tie.Need-mul-total Inv-loop μ-loop
 mul-total c = search needs
 
 loop-holds : tie.Need-loop-holds Inv-loop μ-loop
-loop-holds c = (omega arith, omega arith, omega arith, refl, tally-start (onPlan (c .before .before .args .t1)) (c .before .before .args .log .now) (c .before .before .pre .0), refl)
+loop-holds c =
+    let a = c .before .before in
+    let ks = onPlan (a .args .t1) in
+    (omega arith, omega arith, omega arith, refl, tally-start ks (a .args .log .now) (a .pre .0), first-written (wordsFrom ks (a .args .log .now) 0) (a .args .words .now))
 
 sub-left : tie.Need-sub-left Inv-loop μ-loop
 sub-left c = search needs
@@ -34,89 +87,89 @@ same-length c = c .before .before .loop .inv .3
 
 returns : tie.Need-returns Inv-loop μ-loop
 returns c =
-    let a = c .before .before .before .before .before .args in
-    let o = c .before .before .loop in
-    (sym (o .inv .4 ∙ stops (a .t1) (a .log .now) (o .at .at) (o .items) (o .count) (o .inv .0) (o .inv .1) (next-past (a .log .now) (o .at .at) (omega arith))), λ n w z. let q : _≡_ {A = ℕ} 0 1 = cc in absurd (omega arith))
+    let o = c .before .before in
+    let e = next-past (log o) (o .loop .at .at) (omega arith) in (
+      sym (o .loop .inv .4 ∙ stops (kinds o) (log o) (o .loop .at .at) (o .loop .items) (o .loop .count) (o .loop .inv .0) (o .loop .inv .1) e),
+      none-left (kinds o) (log o) (o .loop .at .at) (o .loop .items) (o .loop .count) (o .loop .inv .0) (o .loop .inv .1) (o .loop .words) Wrong (ap foundOf e) tt ∙ o .loop .inv .5,
+    )
 
 window-requires : tie.Need-window-requires Inv-loop μ-loop
 window-requires c κs = search needs
 
 mark-number-requires : tie.Need-mark-number-requires Inv-loop μ-loop
-mark-number-requires c κs = (c .before .window .ensures, (omega arith, c .before .before .before .before .before .before .before .pre .0, omega arith, c .if2 .taken))
+mark-number-requires c κs =
+    (window-is _ _ (c .before .window .ensures), (omega arith, entry (turn (c .before)) .pre .0, omega arith, c .if2 .taken))
 
 same-length-2 : tie.Need-same-length-2 Inv-loop μ-loop
-same-length-2 c = c .before .before .before .before .before .before .loop .inv .3
+same-length-2 c = marked (c .before) .loop .inv .3
 
 returns-2 : tie.Need-returns-2 Inv-loop μ-loop
 returns-2 c =
-    let a = c .before .before .before .before .before .before .before .before .before .args in
-    let o = c .before .before .before .before .before .before .loop in
-    let w = c .before .before .before .window in
-    let e = next-end (a .log .now) (o .at .at) (length (a .log .now) * 8 - o .at .at) (w .result) (w .ensures) (omega arith) (omega arith) (omega arith) (c .before .before .if2 .taken) in
+    let o = marked (c .before) in
     let b = ended-bad (c .before .mark-number .ensures) (c .if3 .taken) in
-    (rw (b .1) (sym (o .inv .4 ∙ stops (a .t1) (a .log .now) (o .at .at) (o .items) (o .count) (o .inv .0) (o .inv .1) (e ∙ b .0))), λ n w z. let q : _≡_ {A = ℕ} 0 1 = cc in absurd (omega arith))
+    let e = ends-here (c .before) ∙ b .0 in (
+      rw (b .1) (sym (o .loop .inv .4 ∙ stops (kinds o) (log o) (o .loop .at .at) (o .loop .items) (o .loop .count) (o .loop .inv .0) (o .loop .inv .1) e)),
+      none-left (kinds o) (log o) (o .loop .at .at) (o .loop .items) (o .loop .count) (o .loop .inv .0) (o .loop .inv .1) (o .loop .words) Wrong (ap foundOf e) tt ∙ o .loop .inv .5,
+    )
 
 same-length-3 : tie.Need-same-length-3 Inv-loop μ-loop
-same-length-3 c = c .before .before .before .before .before .before .loop .inv .3
+same-length-3 c = marked (c .before) .loop .inv .3
 
 returns-3 : tie.Need-returns-3 Inv-loop μ-loop
 returns-3 c =
-    let a = c .before .before .before .before .before .before .before .before .before .args in
-    let o = c .before .before .before .before .before .before .loop in
-    let w = c .before .before .before .window in
-    let e = next-end (a .log .now) (o .at .at) (length (a .log .now) * 8 - o .at .at) (w .result) (w .ensures) (omega arith) (omega arith) (omega arith) (c .before .before .if2 .taken) in
-    let z = e ∙ ended-good (c .before .mark-number .ensures) (c .if3 .left) in
-    (sym (o .inv .4 ∙ closes (a .t1) (a .log .now) (o .at .at) (o .items) (o .count) (o .inv .0) (o .inv .1) z), λ n w t. rw (items-words t) (no-more (a .log .now) (o .at .at) (take (o .count) (o .words)) z (o .inv .5)))
+    let o = marked (c .before) in
+    let e = ends-here (c .before) ∙ ended-good (c .before .mark-number .ensures) (c .if3 .left) in (
+      sym (o .loop .inv .4 ∙ closes (kinds o) (log o) (o .loop .at .at) (o .loop .items) (o .loop .count) (o .loop .inv .0) (o .loop .inv .1) e),
+      none-left (kinds o) (log o) (o .loop .at .at) (o .loop .items) (o .loop .count) (o .loop .inv .0) (o .loop .inv .1) (o .loop .words) End (ap foundOf e) tt ∙ o .loop .inv .5,
+    )
 
 array-copy-out-lay-item : tie.Need-array-copy-out-lay-item Inv-loop μ-loop
 array-copy-out-lay-item c = search needs
 
 lay-item-requires : tie.Need-lay-item-requires Inv-loop μ-loop
-lay-item-requires c κs = (c .before .before .before .window .ensures, (omega arith, c .before .before .before .before .before .before .before .before .before .pre .0, omega (arith, c .before .before .before .before .before .before .loop .inv .2, c .before .before .before .before .before .before .loop .inv .3)))
+lay-item-requires c κs =
+    let o = turn (c .before .before .before) in (
+      window-is _ _ (c .before .before .before .window .ensures),
+      (omega arith, entry o .pre .0, omega (arith, o .loop .inv .2, o .loop .inv .3)),
+    )
 
 cast-t24 : tie.Need-cast-t24 Inv-loop μ-loop
 cast-t24 c =
-    let a = c .before .before .before .before .before .before .before .before .before .before .before .before .before .before .before .args in
-    let o = c .before .before .before .before .before .before .before .before .before .before .before .before .loop in
-    let w = c .before .before .before .before .before .before .before .before .before .window in
-    let e = next-item (a .log .now) (o .at .at) (length (a .log .now) * 8 - o .at .at) (w .result) (w .ensures) (omega arith) (omega arith) (omega arith) _ (omega (arith, c .before .before .before .before .before .before .before .before .if2 .left)) refl in
-    let l = c .before .before .before .before .before .lay-item .ensures (a .t1) refl in
-    omega (arith, fault-told (a .t1) (a .log .now) (o .at .at) (o .items) (o .count) (o .inv .0) (o .inv .1) e l (c .before .if4 .taken) .1)
+    let d = c .before .before .before .before .before in
+    let o = item d in
+    let t = fault-told (kinds o) (log o) (o .loop .at .at) (o .loop .items) (o .loop .count) (o .loop .inv .0) (o .loop .inv .1)
+    (item-here d) (d .lay-item .ensures (kinds o) refl) (c .before .if4 .taken) in
+    omega (arith, t .small)
 
 same-length-4 : tie.Need-same-length-4 Inv-loop μ-loop
 same-length-4 c = search needs
 
 returns-4 : tie.Need-returns-4 Inv-loop μ-loop
 returns-4 c =
-    let a = c .before .before .before .before .before .before .before .before .before .before .before .before .before .before .before .args in
-    let o = c .before .before .before .before .before .before .before .before .before .before .before .before .loop in
-    let w = c .before .before .before .before .before .before .before .before .before .window in
-    let e = next-item (a .log .now) (o .at .at) (length (a .log .now) * 8 - o .at .at) (w .result) (w .ensures) (omega arith) (omega arith) (omega arith) _ (omega (arith, c .before .before .before .before .before .before .before .before .if2 .left)) refl in
-    let l = c .before .before .before .before .before .lay-item .ensures (a .t1) refl in
-    (sym (o .inv .4 ∙ fault-told (a .t1) (a .log .now) (o .at .at) (o .items) (o .count) (o .inv .0) (o .inv .1) e l (c .before .if4 .taken) .0), λ n w z. let q : _≡_ {A = ℕ} 0 1 = cc in absurd (omega arith))
+    let d = c .before .before .before .before .before in
+    let o = item d in
+    let t = fault-told (kinds o) (log o) (o .loop .at .at) (o .loop .items) (o .loop .count) (o .loop .inv .0) (o .loop .inv .1)
+    (item-here d) (d .lay-item .ensures (kinds o) refl) (c .before .if4 .taken) in
+    (sym (o .loop .inv .4 ∙ t .tally), t .row ∙ o .loop .inv .5)
 
 add-items : tie.Need-add-items Inv-loop μ-loop
 add-items c = search needs
 
 loop-less : tie.Need-loop-less Inv-loop μ-loop
 loop-less c =
-    let a = c .before .before .before .before .before .before .before .before .before .before .before .before .before .before .args in
-    let o = c .before .before .before .before .before .before .before .before .before .before .before .loop in
-    let w = c .before .before .before .before .before .before .before .before .window in
-    let e = next-item (a .log .now) (o .at .at) (length (a .log .now) * 8 - o .at .at) (w .result) (w .ensures) (omega arith) (omega arith) (omega arith) _ (omega (arith, c .before .before .before .before .before .before .before .if2 .left)) refl in
-    let l = c .before .before .before .before .lay-item .ensures (a .t1) refl in
-    let b = behind (a .t1) (a .log .now) (o .at .at) (o .items) (o .count) (o .inv .0) (o .inv .1) e l (c .if4 .left) (omega (arith, o .inv .2, o .inv .3)) in
+    let d = c .before .before .before .before in
+    let o = item d in
+    let b = behind (kinds o) (log o) (o .loop .at .at) (o .loop .items) (o .loop .count) (o .loop .inv .0) (o .loop .inv .1)
+    (item-here d) (d .lay-item .ensures (kinds o) refl) (c .if4 .left) (omega (arith, o .loop .inv .2, o .loop .inv .3)) in
     omega (arith, b .far, b .within)
 
 loop-again : tie.Need-loop-again Inv-loop μ-loop
 loop-again c =
-    let a = c .before .before .before .before .before .before .before .before .before .before .before .before .before .before .args in
-    let o = c .before .before .before .before .before .before .before .before .before .before .before .loop in
-    let w = c .before .before .before .before .before .before .before .before .window in
-    let e = next-item (a .log .now) (o .at .at) (length (a .log .now) * 8 - o .at .at) (w .result) (w .ensures) (omega arith) (omega arith) (omega arith) _ (omega (arith, c .before .before .before .before .before .before .before .if2 .left)) refl in
-    let l = c .before .before .before .before .lay-item .ensures (a .t1) refl in
-    let b = behind (a .t1) (a .log .now) (o .at .at) (o .items) (o .count) (o .inv .0) (o .inv .1) e l (c .if4 .left) (omega (arith, o .inv .2, o .inv .3)) in
-    (omega (arith, b .far), b .within, omega (arith, b .dense), b .same ∙ o .inv .3, o .inv .4 ∙ b .tally, b .row ∙ o .inv .5)
+    let d = c .before .before .before .before in
+    let o = item d in
+    let b = behind (kinds o) (log o) (o .loop .at .at) (o .loop .items) (o .loop .count) (o .loop .inv .0) (o .loop .inv .1)
+    (item-here d) (d .lay-item .ensures (kinds o) refl) (c .if4 .left) (omega (arith, o .loop .inv .2, o .loop .inv .3)) in
+    (omega (arith, b .far), b .within, omega (arith, b .dense), b .same ∙ o .loop .inv .3, o .loop .inv .4 ∙ b .tally, b .row ∙ o .loop .inv .5)
 
 pub lay-spec : {M : Type 1} → statement M
 lay-spec =

@@ -1,4 +1,6 @@
-use Rattle.log_read.proofs.Eight.{ending-is}
+use native.Mathlib.Omega.{arith}
+use Rattle.log_read.specs.Cursor.{endingOf}
+use Rattle.log_read.proofs.Eight.{said-is}
 use borrow.Author.Needs.{needs}
 use Rattle.log_read.proofs.Cursor.ending.Statement.{statement}
 use Rattle.log_read.proofs.Cursor.ending.Tie as tie
@@ -28,7 +30,8 @@ shr-result : tie.Need-shr-result
 shr-result c = search needs
 
 returns : tie.Need-returns
-returns c = ending-is (c .before .before .args .log .now) (c .before .before .args .self .at) (c .eight-in .result) (c .before .before .pre .0) (c .before .before .pre .1) (c .eight-in .ensures)
+unfolding endingOf
+returns c = rw (← said-is _ _ (c .eight-in .result) (omega arith) (c .eight-in .ensures))
 
 pub ending-spec : {M : Type 1} → statement M
 ending-spec =

@@ -3,7 +3,7 @@ use native.Mathlib.Omega.{arith}
 use lib.ListN.{length}
 use borrow.Author.Tests.{le-leb, lt-leb}
 use Rattle.format.specs.Bits.{bytesBits}
-use Rattle.log_read.proofs.Eight.{window-top}
+use Rattle.log_read.proofs.Eight.{window-is, window-top}
 use Rattle.format.specs.Laws.Bits.{length-bytes}
 use borrow.Author.Needs.{needs}
 use Rattle.log_read.proofs.Cursor.take.Statement.{statement}
@@ -42,7 +42,7 @@ returns-3 c =
     let a = c .before .before .before .before .args in
     let s = bytesBits (a .log .now) in
     let l : a .self .at + a .width ≤ length s = omega (arith, length-bytes (a .log .now)) in
-    rw (le-leb (a .self .at + a .width) (length s) l, window-top s (a .self .at) (c .window .result) (a .width) (c .window .ensures) (omega arith) (c .before .before .before .before .pre .1) l)
+    rw (le-leb (a .self .at + a .width) (length s) l, window-top s (a .self .at) (c .window .result) (a .width) (window-is _ _ (c .window .ensures)) (omega arith) (c .before .before .before .before .pre .1) l)
 
 pub take-spec : {M : Type 1} → statement M
 take-spec =

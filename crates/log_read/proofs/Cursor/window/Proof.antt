@@ -1,4 +1,6 @@
-use Rattle.log_read.proofs.Eight.{window-is}
+use native.Mathlib.Omega.{arith}
+use Rattle.log_read.specs.Cursor.{windowOf}
+use Rattle.log_read.proofs.Eight.{said-is}
 use borrow.Author.Needs.{needs}
 use Rattle.log_read.proofs.Cursor.window.Statement.{statement}
 use Rattle.log_read.proofs.Cursor.window.Tie as tie
@@ -16,7 +18,8 @@ shl-result : tie.Need-shl-result
 shl-result c = search needs
 
 returns : tie.Need-returns
-returns c = window-is (c .before .before .args .log .now) (c .before .before .args .self .at) (c .eight-at .result) (c .eight-at .ensures)
+unfolding windowOf
+returns c = rw (← said-is _ _ (c .eight-at .result) (omega arith) (c .eight-at .ensures))
 
 pub window-spec : {M : Type 1} → statement M
 window-spec = tie.close (tie.spec eight-at-requires cast-result cast-result-2 shl-result returns)

@@ -1,3 +1,4 @@
+use Rattle.log_read.proofs.Eight.{window-is}
 use Rattle.log_read.proofs.Items.{time-whole}
 use native.Mathlib.Omega.{arith}
 use Prim.Native.Nat.{_*_, _-_}
@@ -22,7 +23,7 @@ returns : tie.Need-returns
 returns c =
     let a = c .before .before .args in
     let n = length (a .log .now) * 8 - a .at in
-    rw (time-whole (a .log .now) (a .at) n (c .window .result) (c .window .ensures) (omega arith) (omega arith) (omega arith))
+    rw (time-whole (a .log .now) (a .at) n (c .window .result) (window-is _ _ (c .window .ensures)) (omega arith) (omega arith) (omega arith))
 
 pub time-at-spec : {M : Type 1} → statement M
 time-at-spec = tie.close (tie.spec window-requires cast-t6 cast-t9 cast-t12 returns)

@@ -12,13 +12,13 @@ fault-requires : tie.Need-fault-requires
 fault-requires c κs = search needs
 
 returns : tie.Need-returns
-returns c = λ ks h. cut (arinc-cut (c .before .before .before .before .args .log .now) (c .before .before .before .before .args .at) (c .before .before .before .before .args .left) (c .before .before .before .before .args .w) (c .before .before .before .before .pre .0) (c .before .before .before .before .pre .1 .0) (c .before .if1 .taken)) (c .fault .ensures)
+returns c = λ ks h. cut (arinc-cut (c .before .before .before .before .args .log .now) (c .before .before .before .before .args .at) (c .before .before .before .before .args .left) (c .before .before .before .before .args .w) (c .before .before .before .before .pre .0) (c .before .before .before .before .pre .1 .0) (c .before .if1 .taken)) (c .fault .ensures) refl
 
 fault-requires-2 : tie.Need-fault-requires-2
 fault-requires-2 c κs = search needs
 
 returns-2 : tie.Need-returns-2
-returns-2 c = λ ks h. cut (arinc-tag-cut (c .before .before .before .before .before .before .args .log .now) (c .before .before .before .before .before .before .args .at) (c .before .before .before .before .before .before .args .left) (c .before .before .before .before .before .before .args .w) (c .before .before .before .before .before .before .pre .0) (c .before .before .before .before .before .before .pre .1 .0) (c .before .before .before .if1 .left) (c .before .before .if2 .taken) (c .before .if3 .taken)) (c .fault2 .ensures)
+returns-2 c = λ ks h. cut (arinc-tag-cut (c .before .before .before .before .before .before .args .log .now) (c .before .before .before .before .before .before .args .at) (c .before .before .before .before .before .before .args .left) (c .before .before .before .before .before .before .args .w) (c .before .before .before .before .before .before .pre .0) (c .before .before .before .before .before .before .pre .1 .0) (c .before .before .before .if1 .left) (c .before .before .if2 .taken) (c .before .if3 .taken)) (c .fault2 .ensures) refl
 
 is-arinc-requires : tie.Need-is-arinc-requires
 is-arinc-requires c κs = search needs
@@ -41,14 +41,14 @@ same-length c = search needs
 returns-3 : tie.Need-returns-3
 unfolding busOfItem inTime itemWords
 returns-3 c = λ ks h. tag-laid ks (c .before .before .before .before .before .before .before .before .before .before .before .before .before .before .before .before .args .kind) _ _ (arinc-tag (c .before .before .before .before .before .before .before .before .before .before .before .before .before .before .before .before .args .log .now) (c .before .before .before .before .before .before .before .before .before .before .before .before .before .before .before .before .args .at) (c .before .before .before .before .before .before .before .before .before .before .before .before .before .before .before .before .args .left) (c .before .before .before .before .before .before .before .before .before .before .before .before .before .before .before .before .args .w) (c .before .before .before .before .before .before .before .before .before .before .before .before .before .before .before .before .pre .0) (c .before .before .before .before .before .before .before .before .before .before .before .before .before .before .before .before .pre .1 .0) (c .before .before .before .before .before .before .before .before .before .before .before .if3 .left) (c .before .before .before .before .before .before .before .before .before .before .before .before .if2 .taken)) h (arinc-stands _ _ _ _ _ ∙ sym (c .before .before .before .before .before .before .before .before .before .before .is-arinc .ensures) ∙ c .before .before .before .before .before .before .before .before .before .if4 .taken) refl
-    _ (rw (c .before .before .before .bus-in .ensures .0)) refl (c .before .before .before .before .before .before .before .lay-syllables .ensures .2) (omega arith) (c .before .before .lay-tag .ensures) (omega arith) (omega arith)
+    _ refl (rw (c .before .before .before .bus-in .ensures .0)) refl (c .before .before .before .before .before .before .before .lay-syllables .ensures .2) (omega arith) (c .before .before .lay-tag .ensures) (omega arith) (omega arith)
 
 fault-requires-3 : tie.Need-fault-requires-3
 fault-requires-3 c κs = search needs
 
 returns-4 : tie.Need-returns-4
 unfolding busOfItem inTime itemWords
-returns-4 c = λ ks h. no-place ks (c .before .before .before .before .before .before .before .before .args .kind) _ _ (arinc-tag (c .before .before .before .before .before .before .before .before .args .log .now) (c .before .before .before .before .before .before .before .before .args .at) (c .before .before .before .before .before .before .before .before .args .left) (c .before .before .before .before .before .before .before .before .args .w) (c .before .before .before .before .before .before .before .before .pre .0) (c .before .before .before .before .before .before .before .before .pre .1 .0) (c .before .before .before .if3 .left) (c .before .before .before .before .if2 .taken)) h (arinc-stands _ _ _ _ _ ∙ sym (c .before .before .is-arinc .ensures) ∙ c .before .if4 .left) (c .fault3 .ensures)
+returns-4 c = λ ks h. no-place ks (c .before .before .before .before .before .before .before .before .args .kind) _ _ (arinc-tag (c .before .before .before .before .before .before .before .before .args .log .now) (c .before .before .before .before .before .before .before .before .args .at) (c .before .before .before .before .before .before .before .before .args .left) (c .before .before .before .before .before .before .before .before .args .w) (c .before .before .before .before .before .before .before .before .pre .0) (c .before .before .before .before .before .before .before .before .pre .1 .0) (c .before .before .before .if3 .left) (c .before .before .before .before .if2 .taken)) h (arinc-stands _ _ _ _ _ ∙ sym (c .before .before .is-arinc .ensures) ∙ c .before .if4 .left) (c .fault3 .ensures) refl
 
 is-arinc-requires-2 : tie.Need-is-arinc-requires-2
 is-arinc-requires-2 c κs = search needs
@@ -72,7 +72,7 @@ fault-requires-4 c κs = search needs
 
 returns-6 : tie.Need-returns-6
 unfolding busOfItem inTime itemWords
-returns-6 c = λ ks h. no-place ks (c .before .before .before .before .before .before .before .args .kind) _ _ (arinc-plain (c .before .before .before .before .before .before .before .args .log .now) (c .before .before .before .before .before .before .before .args .at) (c .before .before .before .before .before .before .before .args .left) (c .before .before .before .before .before .before .before .args .w) (c .before .before .before .before .before .before .before .pre .0) (c .before .before .before .before .before .before .before .pre .1 .0) (c .before .before .before .before .if1 .left) (c .before .before .before .if2 .left)) h (arinc-stands _ _ _ _ _ ∙ sym (c .before .before .is-arinc2 .ensures) ∙ c .before .if5 .left) (c .fault4 .ensures)
+returns-6 c = λ ks h. no-place ks (c .before .before .before .before .before .before .before .args .kind) _ _ (arinc-plain (c .before .before .before .before .before .before .before .args .log .now) (c .before .before .before .before .before .before .before .args .at) (c .before .before .before .before .before .before .before .args .left) (c .before .before .before .before .before .before .before .args .w) (c .before .before .before .before .before .before .before .pre .0) (c .before .before .before .before .before .before .before .pre .1 .0) (c .before .before .before .before .if1 .left) (c .before .before .before .if2 .left)) h (arinc-stands _ _ _ _ _ ∙ sym (c .before .before .is-arinc2 .ensures) ∙ c .before .if5 .left) (c .fault4 .ensures) refl
 
 pub arinc-spec : {M : Type 1} → statement M
 arinc-spec =

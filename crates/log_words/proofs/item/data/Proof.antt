@@ -13,7 +13,7 @@ fault-requires : tie.Need-fault-requires
 fault-requires c κs = search needs
 
 returns : tie.Need-returns
-returns c = let a = c .before .before .before .before .args in let q = c .before .before .before .before .pre in λ ks h. cut (data-cut (a .log .now) (a .at) (a .left) (a .w) (q .0) (q .1 .0) (c .before .if1 .taken)) (c .fault .ensures)
+returns c = let a = c .before .before .before .before .args in let q = c .before .before .before .before .pre in λ ks h. cut (data-cut (a .log .now) (a .at) (a .left) (a .w) (q .0) (q .1 .0) (c .before .if1 .taken)) (c .fault .ensures) refl
 
 is-1553-requires : tie.Need-is-1553-requires
 is-1553-requires c κs = search needs
@@ -49,7 +49,7 @@ fault-requires-2 c κs = search needs
 
 returns-3 : tie.Need-returns-3
 unfolding busOfItem inTime itemWords
-returns-3 c = let a = c .before .before .before .before .before .before .args in let q = c .before .before .before .before .before .before .pre in λ ks h. no-place ks (a .kind) _ _ (data-whole (a .log .now) (a .at) (a .left) (a .w) (q .0) (q .1 .0) (c .before .before .before .if1 .left)) h (data-stands _ _ _ _ ∙ sym (c .before .before .is-1553 .ensures) ∙ c .before .if2 .left) (c .fault2 .ensures)
+returns-3 c = let a = c .before .before .before .before .before .before .args in let q = c .before .before .before .before .before .before .pre in λ ks h. no-place ks (a .kind) _ _ (data-whole (a .log .now) (a .at) (a .left) (a .w) (q .0) (q .1 .0) (c .before .before .before .if1 .left)) h (data-stands _ _ _ _ ∙ sym (c .before .before .is-1553 .ensures) ∙ c .before .if2 .left) (c .fault2 .ensures) refl
 
 pub data-spec : {M : Type 1} → statement M
 data-spec =

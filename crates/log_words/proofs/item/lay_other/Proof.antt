@@ -12,7 +12,7 @@ fault-requires : tie.Need-fault-requires
 fault-requires c κs = search needs
 
 returns : tie.Need-returns
-returns c = λ ks h. cut (none-zero _ _ _ (c .before .if1 .taken)) (c .fault .ensures)
+returns c = λ ks h. cut (none-zero _ _ _ (c .before .if1 .taken)) (c .fault .ensures) refl
 
 is-timed-requires : tie.Need-is-timed-requires
 is-timed-requires c κs = search needs
@@ -48,7 +48,7 @@ fault-requires-2 : tie.Need-fault-requires-2
 fault-requires-2 c κs = search needs
 
 returns-5 : tie.Need-returns-5
-returns-5 c = λ ks h. cut (none-higher _ _ _ (c .before .if5 .taken)) (c .fault2 .ensures)
+returns-5 c = λ ks h. cut (none-higher _ _ _ (c .before .if5 .taken)) (c .fault2 .ensures) refl
 
 single-requires : tie.Need-single-requires
 single-requires c κs = let a = c .before .before .before .before .before .before .before .before .args in let q = c .before .before .before .before .before .before .before .before .pre in (q .0, (q .1 .0, q .1 .1, q .1 .2, single-left (a .number) (a .w) (c .before .before .before .before .before .if1 .left) (q .1 .3) (q .1 .4) (c .before .before .if4 .left) (c .before .if5 .left) (sym (c .before .before .before .before .is-timed .ensures) ∙ c .before .before .before .if2 .left)))

@@ -13,7 +13,7 @@ fault-requires : tie.Need-fault-requires
 fault-requires c κs = search needs
 
 returns : tie.Need-returns
-returns c = λ ks h. cut (notice-cut (c .before .before .before .before .args .log .now) (c .before .before .before .before .args .at) (c .before .before .before .before .args .left) (c .before .before .before .before .args .w) (c .before .before .before .before .pre .0) (c .before .before .before .before .pre .1 .0) (c .before .if1 .taken)) (c .fault .ensures)
+returns c = λ ks h. cut (notice-cut (c .before .before .before .before .args .log .now) (c .before .before .before .before .args .at) (c .before .before .before .before .args .left) (c .before .before .before .before .args .w) (c .before .before .before .before .pre .0) (c .before .before .before .before .pre .1 .0) (c .before .if1 .taken)) (c .fault .ensures) refl
 
 is-arinc-requires : tie.Need-is-arinc-requires
 is-arinc-requires c κs = search needs
@@ -67,7 +67,7 @@ fault-requires-2 c κs = search needs
 
 returns-3 : tie.Need-returns-3
 unfolding busOfItem inTime itemWords
-returns-3 c = λ ks h. no-place ks (c .before .before .before .before .before .before .args .kind) _ _ (notice-whole (c .before .before .before .before .before .before .args .log .now) (c .before .before .before .before .before .before .args .at) (c .before .before .before .before .before .before .args .left) (c .before .before .before .before .before .before .args .w) (c .before .before .before .before .before .before .pre .0) (c .before .before .before .before .before .before .pre .1 .0) (c .before .before .before .if1 .left)) h (notice-stands _ _ _ _ ∙ sym (c .before .before .is-arinc .ensures) ∙ c .before .if2 .left) (c .fault2 .ensures)
+returns-3 c = λ ks h. no-place ks (c .before .before .before .before .before .before .args .kind) _ _ (notice-whole (c .before .before .before .before .before .before .args .log .now) (c .before .before .before .before .before .before .args .at) (c .before .before .before .before .before .before .args .left) (c .before .before .before .before .before .before .args .w) (c .before .before .before .before .before .before .pre .0) (c .before .before .before .before .before .before .pre .1 .0) (c .before .before .before .if1 .left)) h (notice-stands _ _ _ _ ∙ sym (c .before .before .is-arinc .ensures) ∙ c .before .if2 .left) (c .fault2 .ensures) refl
 
 pub notice-spec : {M : Type 1} → statement M
 notice-spec =

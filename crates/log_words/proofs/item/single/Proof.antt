@@ -13,7 +13,7 @@ fault-requires : tie.Need-fault-requires
 fault-requires c κs = search needs
 
 returns : tie.Need-returns
-returns c = let a = c .before .before .before .before .before .args in let q = c .before .before .before .before .before .pre in λ ks h. cut (single-cut (a .log .now) (a .at) (a .left) (a .w) (q .0) (q .1 .0) (a .number) (q .1 .3) (omega (arith, c .before .if1 .taken, c .before .before .single-bits .ensures .0))) (c .fault .ensures)
+returns c = let a = c .before .before .before .before .before .args in let q = c .before .before .before .before .before .pre in λ ks h. cut (single-cut (a .log .now) (a .at) (a .left) (a .w) (q .0) (q .1 .0) (a .number) (q .1 .3) (omega (arith, c .before .if1 .taken, c .before .before .single-bits .ensures .0))) (c .fault .ensures) refl
 
 single-stands-requires : tie.Need-single-stands-requires
 single-stands-requires c κs = search needs
@@ -59,7 +59,7 @@ fault-requires-2 : tie.Need-fault-requires-2
 fault-requires-2 c κs = search needs
 
 returns-3 : tie.Need-returns-3
-returns-3 c = let a = c .before .before .before .before .before .before .before .args in let q = c .before .before .before .before .before .before .before .pre in λ ks h. single-no-place (a .log .now) (a .at) (a .left) (a .w) (q .0) (q .1 .0) ks (a .kind) (a .number) (c .before .before .before .before .single-bits .result) (q .1 .3) (c .before .before .before .before .single-bits .ensures .0) (c .before .before .before .if1 .left) h (sym (c .before .before .single-stands .ensures) ∙ c .before .if2 .left) (c .fault2 .ensures)
+returns-3 c = let a = c .before .before .before .before .before .before .before .args in let q = c .before .before .before .before .before .before .before .pre in λ ks h. single-no-place (a .log .now) (a .at) (a .left) (a .w) (q .0) (q .1 .0) ks (a .kind) (a .number) (c .before .before .before .before .single-bits .result) (q .1 .3) (c .before .before .before .before .single-bits .ensures .0) (c .before .before .before .if1 .left) h (sym (c .before .before .single-stands .ensures) ∙ c .before .if2 .left) (c .fault2 .ensures) refl
 
 pub single-spec : {M : Type 1} → statement M
 single-spec =

@@ -1,5 +1,5 @@
 use Rattle.log_words.proofs.Laying.{no-place, status-stands, timed-cut, too-late, words-laid}
-use Rattle.log_words.proofs.Row.{puts-more}
+use Rattle.log_words.proofs.Row.{none-written, puts-more}
 use Rattle.log_words.specs.Laid.{cut}
 use Rattle.log_read.proofs.Items.{status-response}
 use Rattle.format.specs.Item.{busOfItem, inTime, itemWords}
@@ -15,7 +15,7 @@ fault-requires : tie.Need-fault-requires
 fault-requires c κs = search needs
 
 returns : tie.Need-returns
-returns c = let a = c .before .before .before .before .args in let q = c .before .before .before .before .pre in λ ks h. cut (timed-cut (a .log .now) (a .at) (a .left) (a .w) (q .0) (q .1 .0) (q .1 .3) (c .before .if1 .taken)) (c .fault .ensures)
+returns c = let a = c .before .before .before .before .args in let q = c .before .before .before .before .pre in λ ks h. cut (timed-cut (a .log .now) (a .at) (a .left) (a .w) (q .0) (q .1 .0) (q .1 .3) (c .before .if1 .taken)) (c .fault .ensures) refl
 
 is-1553-requires : tie.Need-is-1553-requires
 is-1553-requires c κs = search needs
@@ -54,14 +54,14 @@ fault-requires-2 c κs = search needs
 
 returns-3 : tie.Need-returns-3
 unfolding busOfItem inTime itemWords
-returns-3 c = let a = c .before .before .before .before .before .before .before .args in let q = c .before .before .before .before .before .before .before .pre in λ ks h. too-late ks (a .kind) _ _ (status-response (a .log .now) (a .at) (a .left) (a .w) (q .0) (q .1 .0) (c .before .before .before .before .if1 .left) (q .1 .3)) h (status-stands _ _ _ _ _ ∙ sym (c .before .before .before .is-1553 .ensures) ∙ c .before .before .if2 .taken) (le-ltb _ _ (c .before .if3 .left)) (c .fault2 .ensures)
+returns-3 c = let a = c .before .before .before .before .before .before .before .args in let q = c .before .before .before .before .before .before .before .pre in λ ks h. too-late ks (a .kind) _ _ (status-response (a .log .now) (a .at) (a .left) (a .w) (q .0) (q .1 .0) (c .before .before .before .before .if1 .left) (q .1 .3)) h (status-stands _ _ _ _ _ ∙ sym (c .before .before .before .is-1553 .ensures) ∙ c .before .before .if2 .taken) (le-ltb _ _ (c .before .if3 .left)) (c .fault2 .ensures) (sym (none-written (a .count) (a .words .now)))
 
 fault-requires-3 : tie.Need-fault-requires-3
 fault-requires-3 c κs = search needs
 
 returns-4 : tie.Need-returns-4
 unfolding busOfItem inTime itemWords
-returns-4 c = let a = c .before .before .before .before .before .before .args in let q = c .before .before .before .before .before .before .pre in λ ks h. no-place ks (a .kind) _ _ (status-response (a .log .now) (a .at) (a .left) (a .w) (q .0) (q .1 .0) (c .before .before .before .if1 .left) (q .1 .3)) h (status-stands _ _ _ _ _ ∙ sym (c .before .before .is-1553 .ensures) ∙ c .before .if2 .left) (c .fault3 .ensures)
+returns-4 c = let a = c .before .before .before .before .before .before .args in let q = c .before .before .before .before .before .before .pre in λ ks h. no-place ks (a .kind) _ _ (status-response (a .log .now) (a .at) (a .left) (a .w) (q .0) (q .1 .0) (c .before .before .before .if1 .left) (q .1 .3)) h (status-stands _ _ _ _ _ ∙ sym (c .before .before .is-1553 .ensures) ∙ c .before .if2 .left) (c .fault3 .ensures) refl
 
 pub status-spec : {M : Type 1} → statement M
 status-spec =
