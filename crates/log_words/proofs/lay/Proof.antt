@@ -88,9 +88,10 @@ same-length c = c .before .before .loop .inv .3
 returns : tie.Need-returns Inv-loop μ-loop
 returns c =
     let o = c .before .before in
-    let e = next-past (log o) (o .loop .at .at) (omega arith) in
-    (sym (o .loop .inv .4 ∙ stops (kinds o) (log o) (o .loop .at .at) (o .loop .items) (o .loop .count) (o .loop .inv .0) (o .loop .inv .1) e),
-      none-left (kinds o) (log o) (o .loop .at .at) (o .loop .items) (o .loop .count) (o .loop .inv .0) (o .loop .inv .1) (o .loop .words) Wrong (ap foundOf e) tt ∙ o .loop .inv .5)
+    let e = next-past (log o) (o .loop .at .at) (omega arith) in (
+      sym (o .loop .inv .4 ∙ stops (kinds o) (log o) (o .loop .at .at) (o .loop .items) (o .loop .count) (o .loop .inv .0) (o .loop .inv .1) e),
+      none-left (kinds o) (log o) (o .loop .at .at) (o .loop .items) (o .loop .count) (o .loop .inv .0) (o .loop .inv .1) (o .loop .words) Wrong (ap foundOf e) tt ∙ o .loop .inv .5,
+    )
 
 window-requires : tie.Need-window-requires Inv-loop μ-loop
 window-requires c κs = search needs
@@ -106,9 +107,10 @@ returns-2 : tie.Need-returns-2 Inv-loop μ-loop
 returns-2 c =
     let o = marked (c .before) in
     let b = ended-bad (c .before .mark-number .ensures) (c .if3 .taken) in
-    let e = ends-here (c .before) ∙ b .0 in
-    (rw (b .1) (sym (o .loop .inv .4 ∙ stops (kinds o) (log o) (o .loop .at .at) (o .loop .items) (o .loop .count) (o .loop .inv .0) (o .loop .inv .1) e)),
-      none-left (kinds o) (log o) (o .loop .at .at) (o .loop .items) (o .loop .count) (o .loop .inv .0) (o .loop .inv .1) (o .loop .words) Wrong (ap foundOf e) tt ∙ o .loop .inv .5)
+    let e = ends-here (c .before) ∙ b .0 in (
+      rw (b .1) (sym (o .loop .inv .4 ∙ stops (kinds o) (log o) (o .loop .at .at) (o .loop .items) (o .loop .count) (o .loop .inv .0) (o .loop .inv .1) e)),
+      none-left (kinds o) (log o) (o .loop .at .at) (o .loop .items) (o .loop .count) (o .loop .inv .0) (o .loop .inv .1) (o .loop .words) Wrong (ap foundOf e) tt ∙ o .loop .inv .5,
+    )
 
 same-length-3 : tie.Need-same-length-3 Inv-loop μ-loop
 same-length-3 c = marked (c .before) .loop .inv .3
@@ -116,25 +118,27 @@ same-length-3 c = marked (c .before) .loop .inv .3
 returns-3 : tie.Need-returns-3 Inv-loop μ-loop
 returns-3 c =
     let o = marked (c .before) in
-    let e = ends-here (c .before) ∙ ended-good (c .before .mark-number .ensures) (c .if3 .left) in
-    (sym (o .loop .inv .4 ∙ closes (kinds o) (log o) (o .loop .at .at) (o .loop .items) (o .loop .count) (o .loop .inv .0) (o .loop .inv .1) e),
-      none-left (kinds o) (log o) (o .loop .at .at) (o .loop .items) (o .loop .count) (o .loop .inv .0) (o .loop .inv .1) (o .loop .words) End (ap foundOf e) tt ∙ o .loop .inv .5)
+    let e = ends-here (c .before) ∙ ended-good (c .before .mark-number .ensures) (c .if3 .left) in (
+      sym (o .loop .inv .4 ∙ closes (kinds o) (log o) (o .loop .at .at) (o .loop .items) (o .loop .count) (o .loop .inv .0) (o .loop .inv .1) e),
+      none-left (kinds o) (log o) (o .loop .at .at) (o .loop .items) (o .loop .count) (o .loop .inv .0) (o .loop .inv .1) (o .loop .words) End (ap foundOf e) tt ∙ o .loop .inv .5,
+    )
 
 array-copy-out-lay-item : tie.Need-array-copy-out-lay-item Inv-loop μ-loop
 array-copy-out-lay-item c = search needs
 
 lay-item-requires : tie.Need-lay-item-requires Inv-loop μ-loop
 lay-item-requires c κs =
-    let o = turn (c .before .before .before) in
-    (window-is _ _ (c .before .before .before .window .ensures),
-      (omega arith, entry o .pre .0, omega (arith, o .loop .inv .2, o .loop .inv .3)))
+    let o = turn (c .before .before .before) in (
+      window-is _ _ (c .before .before .before .window .ensures),
+      (omega arith, entry o .pre .0, omega (arith, o .loop .inv .2, o .loop .inv .3)),
+    )
 
 cast-t24 : tie.Need-cast-t24 Inv-loop μ-loop
 cast-t24 c =
     let d = c .before .before .before .before .before in
     let o = item d in
     let t = fault-told (kinds o) (log o) (o .loop .at .at) (o .loop .items) (o .loop .count) (o .loop .inv .0) (o .loop .inv .1)
-        (item-here d) (d .lay-item .ensures (kinds o) refl) (c .before .if4 .taken) in
+    (item-here d) (d .lay-item .ensures (kinds o) refl) (c .before .if4 .taken) in
     omega (arith, t .small)
 
 same-length-4 : tie.Need-same-length-4 Inv-loop μ-loop
@@ -145,7 +149,7 @@ returns-4 c =
     let d = c .before .before .before .before .before in
     let o = item d in
     let t = fault-told (kinds o) (log o) (o .loop .at .at) (o .loop .items) (o .loop .count) (o .loop .inv .0) (o .loop .inv .1)
-        (item-here d) (d .lay-item .ensures (kinds o) refl) (c .before .if4 .taken) in
+    (item-here d) (d .lay-item .ensures (kinds o) refl) (c .before .if4 .taken) in
     (sym (o .loop .inv .4 ∙ t .tally), t .row ∙ o .loop .inv .5)
 
 add-items : tie.Need-add-items Inv-loop μ-loop
@@ -156,7 +160,7 @@ loop-less c =
     let d = c .before .before .before .before in
     let o = item d in
     let b = behind (kinds o) (log o) (o .loop .at .at) (o .loop .items) (o .loop .count) (o .loop .inv .0) (o .loop .inv .1)
-        (item-here d) (d .lay-item .ensures (kinds o) refl) (c .if4 .left) (omega (arith, o .loop .inv .2, o .loop .inv .3)) in
+    (item-here d) (d .lay-item .ensures (kinds o) refl) (c .if4 .left) (omega (arith, o .loop .inv .2, o .loop .inv .3)) in
     omega (arith, b .far, b .within)
 
 loop-again : tie.Need-loop-again Inv-loop μ-loop
@@ -164,7 +168,7 @@ loop-again c =
     let d = c .before .before .before .before in
     let o = item d in
     let b = behind (kinds o) (log o) (o .loop .at .at) (o .loop .items) (o .loop .count) (o .loop .inv .0) (o .loop .inv .1)
-        (item-here d) (d .lay-item .ensures (kinds o) refl) (c .if4 .left) (omega (arith, o .loop .inv .2, o .loop .inv .3)) in
+    (item-here d) (d .lay-item .ensures (kinds o) refl) (c .if4 .left) (omega (arith, o .loop .inv .2, o .loop .inv .3)) in
     (omega (arith, b .far), b .within, omega (arith, b .dense), b .same ∙ o .loop .inv .3, o .loop .inv .4 ∙ b .tally, b .row ∙ o .loop .inv .5)
 
 pub lay-spec : {M : Type 1} → statement M
