@@ -1,16 +1,18 @@
 -- What a reading carries from slot to slot, and what one slot does to it.
 use Prim.Native.Nat.{ℕ, _+_, _*_, _^_, _≤_, _<_}
 use mathlib.Core.Bool.{Bool, true, false, cond}
-use mathlib.Core.Path.{_≡_}
+use mathlib.Core.Path.{_≡_, ap, sym, _∙_}
 use mathlib.Core.List.{List, _++_, flatMap}
 use lib.ListN.{length}
 use Rattle.format.specs.Word.{isFill, busOf, labelOf, infoOf}
 use Rattle.format.specs.Item.{itemBits}
 use Rattle.format.specs.Reader.{Slot, Ran, badAt, ran, run, more, feed, since}
 use Rattle.format.specs.declared.Kind.{Kind}
+use Rattle.format.specs.declared.Held.{Held}
 use Rattle.format.specs.declared.Item.{Item}
 use Rattle.format.specs.declared.Plan.{Plan}
 use Rattle.data_start.specs.declared.Step.{Step}
+use Rattle.data_start.specs.Holding.{flat}
 use Rattle.data_word.specs.Holding.{heldOf, Sane}
 use Rattle.data_word.specs.Step.{stepOf}
 use Rattle.format.specs.Plan.{lead, slots}
@@ -100,6 +102,18 @@ pub record Brought (x₀ : Pass) (out₀ : List ℕ) (is : List Item) (x : Pass)
 abbrev pub RanTo : Pass → List ℕ → Ran → Fills → Pass → List ℕ → Type 0
 RanTo x₀ out₀ (badAt place) f x out = (x .bad ≡ true) × (x .since ≡ place)
 RanTo x₀ out₀ (ran is h place) f x out = Brought x₀ out₀ is x out × (heldOf (x .held) ≡ h) × (x .since ≡ place) × (x .fills ≡ f)
+
+-- what of it is one: whether a word was bad, and its place or that of what is held; and after a good run what is held and the fill.
+-- After a bad word the other numbers are read by nobody; the pen and the array are told by the bits they hold.
+pub ran-to-one : (x₀ : Pass) (out₀ : List ℕ) (t : Ran) (f : Fills) (x x′ : Pass) (out out′ : List ℕ)
+    → RanTo x₀ out₀ t f x out → RanTo x₀ out₀ t f x′ out′ → (x .bad ≡ x′ .bad) × (x .since ≡ x′ .since)
+ran-to-one x₀ out₀ (badAt place) f x x′ out out′ a b = (a .0 ∙ sym (b .0), a .1 ∙ sym (b .1))
+ran-to-one x₀ out₀ (ran is h place) f x x′ out out′ a b = (a .0 .sound .good ∙ sym (b .0 .sound .good), a .2 ∙ sym (b .2))
+
+pub ran-held-one : (x₀ : Pass) (out₀ : List ℕ) (is : List Item) (h : Held) (place : ℕ) (f : Fills) (x x′ : Pass) (out out′ : List ℕ)
+    → RanTo x₀ out₀ (ran is h place) f x out → RanTo x₀ out₀ (ran is h place) f x′ out′ → (x .held ≡ x′ .held) × (x .fills ≡ x′ .fills)
+ran-held-one x₀ out₀ is h place f x x′ out out′ a b =
+    (a .0 .sound .sane .is ∙ ap flat (a .1 ∙ sym (b .1)) ∙ sym (b .0 .sound .sane .is), a .3 ∙ sym (b .3))
 
 -- within the group: i slots were passed, and `rest` are to come
 pub record Along (ks : List Kind) (p : Plan) (slots : List Slot) (x₀ : Pass) (out₀ : List ℕ) (i : ℕ) (rest : List Slot) (x : Pass) (out : List ℕ) : Type 0 where

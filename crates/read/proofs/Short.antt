@@ -18,6 +18,7 @@ use Rattle.format.specs.declared.Item.{Item}
 use Rattle.format.specs.declared.Item.the-variants.{Command, Status, Data, BusError, Arinc, Notice, User, Overflow}
 use Rattle.format.specs.declared.Kind.{Kind}
 use Rattle.format.specs.declared.Plan.{Plan}
+use Rattle.format.specs.Laws.Lists.{all-append}
 use Rattle.format.specs.Laws.Word.Bytes.{all-bytes}
 use Rattle.format.specs.Laws.Log.Fields.{Packs, packs, length-bits, length-bytes}
 use Rattle.format.specs.Laws.Log.Sizes.{bits-low, items-low, fields-length}

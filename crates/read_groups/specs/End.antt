@@ -1,10 +1,13 @@
 -- The end of the walk over the groups: the cut item, and the log closed.
-use Prim.Native.Nat.{ℕ, _+_, _≤_}
-use mathlib.Core.Path.{_≡_}
+use Prim.Native.Nat.{ℕ, zero, suc, _+_, _-_, _≤_}
+use native.Mathlib.Omega.{arith}
+use mathlib.Core.Path.{_≡_, refl, ap, ap₂, sym, _∙_}
 use mathlib.Core.List.{List}
 use lib.ListN.{length, take}
+use borrow.Author.Tests.{ne-eqb}
 use Rattle.format.specs.Log.{logOf}
-use Rattle.format.specs.Read.{got, stopped, readGroups, misplaced}
+use Rattle.format.specs.Group.{none, found}
+use Rattle.format.specs.Read.{Got, got, stopped, readGroups, misplaced}
 use Rattle.format.specs.declared.Kind.{Kind}
 use Rattle.format.specs.declared.Item.{Item}
 use Rattle.format.specs.declared.Held.the-variants.{Nothing}
@@ -32,3 +35,61 @@ pub record Refused (ks : List Kind) (p : Plan) (c : List ℕ) (n : ℕ) (r : Out
 pub record Ended (ks : List Kind) (p : Plan) (c : List ℕ) (n : ℕ) (r : Outcome) (out : List ℕ) : Type 0 where
   pub logged : r .number ≡ 0 → Logged ks p c n r out
   pub refused : (r .number ≡ 0 → ⊥) → Refused ks p c n r
+
+-- ---- what of it is one: all that is returned, and the log where both arrays have room for it; the rest of an array is work room
+
+same-outcome : (r r′ : Outcome) → r .number ≡ r′ .number → r .place ≡ r′ .place → r .bytes ≡ r′ .bytes → r .misplaced ≡ r′ .misplaced → r ≡ r′
+same-outcome r r′ a b d e =
+    ap₂ (λ (x y : ℕ). record { number = x; place = y; bytes = r .bytes; misplaced = r .misplaced }) a b
+    ∙ ap₂ (λ (x y : ℕ). record { number = r′ .number; place = r′ .place; bytes = x; misplaced = y }) d e
+
+told-some : (a : ℕ) → told (suc a) ≡ found 14 a
+told-some a = let e : suc a - 1 ≡ a = omega arith in rw (ne-eqb (suc a) 0 (λ z. omega (arith, z)), e)
+
+some-or-none : {A : Type 0} {a : ℕ} → found 14 a ≡ none → A
+some-or-none e = let z : _≡_ {A = ℕ} 0 1 = cc in absurd (omega arith)
+
+same-place : {a b : ℕ} → found 14 a ≡ found 14 b → a ≡ b
+same-place e = cc
+
+told-one : (a b : ℕ) → told a ≡ told b → a ≡ b
+told-one zero zero e = refl
+told-one zero (suc b) e = some-or-none (sym (told-some b) ∙ sym e)
+told-one (suc a) zero e = some-or-none (sym (told-some a) ∙ e)
+told-one (suc a) (suc b) e = ap suc (same-place (sym (told-some a) ∙ e ∙ told-some b))
+
+same-items : {g : Got} {is js : List Item} → g ≡ got is → g ≡ got js → is ≡ js
+same-items e f = cc
+
+not-both : {A : Type 0} {g : Got} {is : List Item} {n q : ℕ} → g ≡ got is → g ≡ stopped n q → A
+not-both e f = let z : _≡_ {A = ℕ} 0 1 = cc in absurd (omega arith)
+
+same-number : {g : Got} {n q m k : ℕ} → g ≡ stopped n q → g ≡ stopped m k → (n ≡ m) × (q ≡ k)
+same-number e f = (cc, cc)
+
+module _ (ks : List Kind) (p : Plan) (c : List ℕ) (n : ℕ) {r r′ : Outcome} {out out′ : List ℕ} (a : Ended ks p c n r out) (b : Ended ks p c n r′ out′) where
+  same-log : (x : Logged ks p c n r out) (y : Logged ks p c n r′ out′) → logOf (x .items) ≡ logOf (y .items)
+  same-log x y = ap logOf (same-items (x .is) (y .is))
+
+  pub ended-one : r ≡ r′
+  ended-one = go (r .number) (r′ .number) refl refl
+    where
+      go : (m k : ℕ) → r .number ≡ m → r′ .number ≡ k → r ≡ r′
+      go zero zero e f =
+          let x = a .logged e in
+          let y = b .logged f in
+          same-outcome r r′ (e ∙ sym f) (x .place ∙ sym (y .place)) (x .bytes ∙ ap length (same-log x y) ∙ sym (y .bytes))
+          (told-one (r .misplaced) (r′ .misplaced) (x .fill ∙ sym (y .fill)))
+      go zero (suc k) e f = not-both (a .logged e .is) (b .refused (λ z. omega (arith, z, f)) .is)
+      go (suc m) zero e f = not-both (b .logged f .is) (a .refused (λ z. omega (arith, z, e)) .is)
+      go (suc m) (suc k) e f =
+          let x = a .refused (λ z. omega (arith, z, e)) in
+          let y = b .refused (λ z. omega (arith, z, f)) in
+          let s = same-number (x .is) (y .is) in
+          same-outcome r r′ (s .0) (s .1) (x .bytes ∙ sym (y .bytes)) (x .misplaced ∙ sym (y .misplaced))
+
+  pub ended-log-one : r .number ≡ 0 → r .bytes + 7 ≤ length out → r′ .bytes + 7 ≤ length out′ → take (r .bytes) out ≡ take (r′ .bytes) out′
+  ended-log-one e h k =
+      let x = a .logged e in
+      let y = b .logged (sym (ap (λ (o : Outcome). o .number) ended-one) ∙ e) in
+      x .log h ∙ same-log x y ∙ sym (y .log k)
