@@ -73,3 +73,19 @@ share-taken s from to ws e = go (leb (from + s) (length ws)) refl
         let few : length (drop from ws) ≤ to - from = rw length-drop (omega arith) in
         let less : length (drop from ws) ≤ s = rw length-drop (omega arith) in
         take-all (to - from) (drop from ws) few ∙ sym (take-all s (drop from ws) less)
+
+-- the turn of a group of n words whose number is told by R: plain numbers, so that no turn's facts are read for them
+pub next-turn : {g m : ℕ} → g < m → g + 1 ≤ m
+next-turn h = omega arith
+
+pub start-at : (g n : ℕ) → g * (3 * n) ≡ 3 * (g * n)
+start-at g n = omega arith
+
+pub part-size : (g R n : ℕ) → R ≡ n → 3 * n ≤ g * (3 * R) + 3 * R - g * (3 * R)
+part-size g R n e = omega (arith, e)
+
+pub part-room : (g R l : ℕ) → g * (3 * R) + 3 * R ≤ l → g * (3 * R) + (g * (3 * R) + 3 * R - g * (3 * R)) ≤ l
+part-room g R l h = omega (arith, h)
+
+pub part-next : (g n : ℕ) → g * n + n ≡ (g + 1) * n
+part-next g n = omega arith

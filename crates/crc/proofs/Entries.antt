@@ -1,35 +1,17 @@
--- The tables hold their rule, and three look-ups are the check of a word.
+-- Three look-ups are the check of a word.
 use Prim.Native.Nat.{ℕ, _+_, _*_, _/_, _%_, _^_, _<_}
 use native.Mathlib.Nat.{mod-lt, add-zero, mul-one}
 use native.Mathlib.Omega.{arith}
-use mathlib.Core.Bool.{Bool, true, false, _&&_}
 use mathlib.Core.Path.{_≡_, refl, sym, ap, ap₂, _∙_}
 use mathlib.Core.List.{List, [], _∷_}
-use lib.ListN.{length, getD}
+use lib.ListN.{getD}
 use lib.Pow.{pow-pos, split}
-use lib.Dec.{T, eqb, eqb→eq, lit<}
+use lib.Dec.{lit<}
 use lib.Bits.{bitXor, xor-lt, xor-comm, xor-zero-l, xor-shifted, xor-block}
 use Rattle.format.specs.Check.{checkOf}
-use Rattle.format.specs.Lists.{list}
 use Rattle.format.specs.Laws.Lists.{getD-list}
 use Rattle.crc.specs.Running.{nextCheck, entryOf, entries}
 use Rattle.crc.proofs.Running.{check-xor}
-
--- every entry from i on is what f says
-abbrev pub holds : (ℕ → ℕ) → ℕ → List ℕ → Bool
-holds f i [] = true
-holds f i (x ∷ xs) = eqb x (f i) && holds f (i + 1) xs
-
-both : (a b : Bool) → T (a && b) → T a × T b
-both true b t = (tt, t)
-both false b t = absurd t
-
-pub holds-list : (f : ℕ → ℕ) (i : ℕ) (xs : List ℕ) → T (holds f i xs) → xs ≡ list f i (length xs)
-unfolding list
-holds-list f i [] t = refl
-holds-list f i (x ∷ xs) t =
-    let p = both (eqb x (f i)) (holds f (i + 1) xs) t in
-    ap₂ (λ (u : ℕ) (l : List ℕ). u ∷ l) (eqb→eq x (f i) (p .0)) (holds-list f (i + 1) xs (p .1))
 
 -- the entry of a byte k with p bytes below it
 entry-at : (p k i : ℕ) → i ≡ p * 256 + k → p < 3 → k < 256 → getD entries i 0 ≡ checkOf (k * 2 ^ (8 * p) ∷ [])

@@ -4,3 +4,5 @@ pub mod Division
 pub mod Running
 pub mod Entries
 pub mod Two
+pub mod Spanned
+pub mod Linear

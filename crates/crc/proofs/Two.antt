@@ -19,7 +19,7 @@ shifted-xor a b =
     ap₂ bitXor (sym (add-zero (a * 2 ^ 8))) (sym (add-zero (b * 2 ^ 8))) ∙ xor-block 8 a b 0 0 (pow-pos 8) (pow-pos 8) ∙ add-zero (bitXor a b * 2 ^ 8)
 
 -- the next check is linear in the check and the word together
-next-xor : (a b u v : ℕ) → nextCheck (bitXor a b) (bitXor u v) ≡ bitXor (nextCheck a u) (nextCheck b v)
+pub next-xor : (a b u v : ℕ) → nextCheck (bitXor a b) (bitXor u v) ≡ bitXor (nextCheck a u) (nextCheck b v)
 unfolding nextCheck
 next-xor a b u v =
     ap (λ (n : ℕ). checkOf (n ∷ [])) (ap (λ (n : ℕ). bitXor n (bitXor u v)) (sym (shifted-xor a b)) ∙ xor-swap (a * 2 ^ 8) (b * 2 ^ 8) u v)

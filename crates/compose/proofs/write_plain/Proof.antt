@@ -1,4 +1,4 @@
-use Rattle.compose.proofs.Groups.{groups-none, groups-more, groups-all, part-within, share-starts, share-taken, written-all}
+use Rattle.compose.proofs.Groups.{groups-none, groups-more, groups-all, next-turn, part-next, part-room, part-size, part-within, share-starts, share-taken, start-at, written-all}
 use Rattle.compose.proofs.Laws.{Written, all-drop, all-take, group-count, written-length, written-none, written-part}
 use Rattle.compose.specs.Compose.{groupsTo}
 use Rattle.format.specs.Plan.{groupWords, slots}
@@ -110,12 +110,12 @@ loop-again c =
     let n = groupWords (a .plan) in
     let R = c .before .before .before .before .before .before .before .before .before .group-words .result in
     let e : R ≡ n = c .before .before .before .before .before .before .before .before .before .group-words .ensures .0 in
-    let start : o .group * (3 * R) ≡ 3 * (o .group * n) = ap (λ (k : ℕ). o .group * (3 * k)) e ∙ omega arith in
+    let start : o .group * (3 * R) ≡ 3 * (o .group * n) = ap (λ (k : ℕ). o .group * (3 * k)) e ∙ start-at (o .group) n in
     let r = room (c .before .before .before .before .before .before .before) in
     let share = share-taken (c .before .before .before .before .before .before .before .before .before .before .slots .result) (o .group * c .before .before .before .before .before .before .before .before .before .before .slots .result) (c .before .before .before .before .before .before .share-end .result) (a .words .now) (c .before .before .before .before .before .before .share-end .ensures) in (
-      omega arith,
+      next-turn (c .before .before .before .before .before .before .before .loop-test .taken),
       rw (groups-more (a .plan) (a .times .now) (a .words .now) (o .group))
-          (written-part (o .group * (3 * R)) (o .group * (3 * R) + 3 * R - o .group * (3 * R)) _ (o .inv .1) start (group-count (a .plan) _ (q .0 .0)) (omega (arith, e)) (omega (arith, r)) (omega arith)
+          (written-part (o .group * (3 * R)) (o .group * (3 * R) + 3 * R - o .group * (3 * R)) _ (o .inv .1) start (group-count (a .plan) _ (q .0 .0)) (part-size (o .group) R n e) (part-room (o .group) R _ r) (part-next (o .group) n)
           (rw (c .before .before .before .before .before .time-of .ensures, share, c .before .before .before .before .before .before .before .before .before .before .slots .ensures .0) at (w .ensures))),
     )
 

@@ -1,3 +1,4 @@
+use mathlib.Core.Path.{refl}
 use borrow.Author.Needs.{needs}
 use Rattle.format.specs.Word.{wordOf}
 use Rattle.word.proofs.join.Statement.{statement}
@@ -17,7 +18,7 @@ add-result-2 c = search needs
 
 returns : tie.Need-returns
 unfolding wordOf
-returns c = search needs
+returns c = refl
 
 pub join-spec : {M : Type 1} → statement M
 join-spec = tie.close (tie.spec mul-result mul-result-2 add-result add-result-2 returns)
