@@ -1,12 +1,12 @@
-/* Document 01's second program, over the independent implementation: every bench case that is not marked P, the list "Tempting
- * and wrong", each refusal of each entry point, and ten blocks of 200 pseudo-random cases.
+/* Document 01's second program, over the independent implementation: the named cases, which standard input has, and ten blocks of
+ * 200 pseudo-random cases. The program `cases` of the library runs the same over the library and must write the same bytes.
  *
- * The program `cases` of the library runs the same cases over the library and must write the same bytes. So this file is kept
- * plain: fixed arrays, unsigned numbers, no arithmetic that wraps, names of four letters and a number.
+ *     target/independent/cases <crates/cases/stdin
  *
- * A line of a named case: its name, then for each call a letter (c composing, r reading, x the closed reading), number, place,
- * bytes, times, and the digest of each lent buffer over its lent length: out; or log and times. Lent buffers hold A5 before.
- * A line of a block: `block N` and one digest of all that. */
+ * A line of a named case: its name, then for each call a letter (c composing, r reading, x the closed reading), number, place, second,
+ * bytes, times, and the digest of each lent buffer over its lent length (out and 0, or log and times), and `differs` if number, place
+ * or length are not those that the case asks for. Lent buffers hold A5 before. A line of a block: `block N` and one digest of all
+ * that. */
 #include "cases.h"
 
 #define UNTOUCHED 0xA5
@@ -61,32 +61,6 @@ result reading(int closed, plan_numbers p, uint32_t capture_len, uint32_t log_le
     r.first = fold_bytes(0, log_out, log_len);
     r.second = fold_bytes(0, times_out, times_len);
     return r;
-}
-
-/* ==== A named case's line ==== */
-
-void name(const char letters[4], uint32_t number)
-{
-    printf("%.4s %" PRIu32 ":", letters, number);
-}
-
-void say(char function, result r)
-{
-    printf(" %c %" PRIu32 " %" PRIu64 " %" PRIu64 " %" PRIu64 " %" PRIu64, function, r.answer.number, r.answer.place,
-           r.answer.bytes, r.answer.times, r.first);
-    if (function != 'c')
-        printf(" %" PRIu64, r.second);
-}
-
-void line_end(void)
-{
-    printf("\n");
-}
-
-void say_both_readings(plan_numbers p, uint32_t capture_len, uint32_t log_len, uint32_t times_len)
-{
-    say('r', reading(0, p, capture_len, log_len, times_len));
-    say('x', reading(1, p, capture_len, log_len, times_len));
 }
 
 /* ==== What cases are made of ==== */
@@ -158,14 +132,6 @@ uint32_t put_end(uint32_t bit)
     return bit / 8;
 }
 
-uint32_t log_of_data(uint32_t items)
-{
-    uint32_t bit = 0;
-    for (uint32_t n = 0; n < items; n++)
-        bit = put_data(bit, 3, 2, 0, n % 65536);
-    return put_end(bit);
-}
-
 void put_time(uint32_t index, uint64_t time)
 {
     for (uint32_t n = 0; n < 8; n++)
@@ -179,14 +145,6 @@ void word(uint32_t place, uint32_t bits)
     capture[3 * place + 2] = bits & 255;
 }
 
-uint32_t group_of_fill(plan_numbers p, uint32_t group)
-{
-    uint32_t words = p.words * p.tracks;
-    for (uint32_t n = 0; n < words; n++)
-        word(group * words + n, n % p.words == 0 ? 0xFAF320 : 0x01AAAA);
-    return 3 * words;
-}
-
 void take_composed(uint32_t length)
 {
     for (uint32_t n = 0; n < length; n++)
@@ -195,8 +153,7 @@ void take_composed(uint32_t length)
 
 int main(void)
 {
-    tempting_cases();
-    refusal_cases();
+    named_cases();
     random_cases();
     return 0;
 }

@@ -12,7 +12,7 @@ use crate::draws::draw;
 use crate::draws::draw_plan;
 use crate::draws::one_in;
 use crate::draws::spoil_plan;
-use crate::lines::line_end;
+use crate::lines::end_line;
 use crate::lines::name;
 use crate::lines::say_number;
 use crate::logs::draw_log;
@@ -175,7 +175,7 @@ fn random_block(seed: &mut u64, block: u32) {
     }
     name(b"block", block);
     say_number(digest);
-    line_end();
+    end_line();
 }
 
 pub(crate) fn random_cases() {

@@ -1,21 +1,27 @@
-use Prim.Native.Nat.{_-_}
+use Prim.Native.Nat.{_<_, _-_}
 use mathlib.Core.Path.{_≡_}
 use lib.ListN.{length}
 use borrow.Author.Needs.{needs}
-use Rattle.cases.proofs.rooms.put_commands.Statement.{statement}
-use Rattle.cases.proofs.rooms.put_commands.Tie as tie
+use Rattle.cases.proofs.named.put_fill.Statement.{statement}
+use Rattle.cases.proofs.named.put_fill.Tie as tie
 
 abbrev Inv-loop : tie.InvT-loop
-Inv-loop capture₀ commands end place₀ capture place = length capture ≡ length capture₀
+Inv-loop line capture₀ words end place₀ capture place = (length capture ≡ length capture₀) × (end < 65536)
 
 abbrev μ-loop : tie.MeasureT-loop
-μ-loop capture₀ commands end place₀ capture place = «end» - place
+μ-loop line capture₀ words end place₀ capture place = end - place
+
+size-requires : tie.Need-size-requires Inv-loop μ-loop
+size-requires c κs = search needs
+
+size-requires-2 : tie.Need-size-requires-2 Inv-loop μ-loop
+size-requires-2 c κs = search needs
 
 loop-holds : tie.Need-loop-holds Inv-loop μ-loop
 loop-holds c = search needs
 
-command-at-requires : tie.Need-command-at-requires Inv-loop μ-loop
-command-at-requires c κs = search needs
+fill-word-requires : tie.Need-fill-word-requires Inv-loop μ-loop
+fill-word-requires c κs = search needs
 
 put-word-requires : tie.Need-put-word-requires Inv-loop μ-loop
 put-word-requires c κs = search needs
@@ -35,14 +41,16 @@ same-length c = search needs
 returns : tie.Need-returns Inv-loop μ-loop
 returns c = search needs
 
-pub put-commands-spec : {M : Type 1} → statement M
-put-commands-spec =
+pub put-fill-spec : {M : Type 1} → statement M
+put-fill-spec =
     tie.close
     (tie.spec
     Inv-loop
     μ-loop
+    size-requires
+    size-requires-2
     loop-holds
-    command-at-requires
+    fill-word-requires
     put-word-requires
     add-place
     loop-less

@@ -2,14 +2,14 @@ use Prim.Native.Nat.{_≤_, _-_}
 use mathlib.Core.Path.{_≡_}
 use lib.ListN.{length}
 use borrow.Author.Needs.{needs}
-use Rattle.cases.proofs.calls.untouched.Statement.{statement}
-use Rattle.cases.proofs.calls.untouched.Tie as tie
+use Rattle.cases.proofs.calls.set_all.Statement.{statement}
+use Rattle.cases.proofs.calls.set_all.Tie as tie
 
 abbrev Inv-loop : tie.InvT-loop
-Inv-loop bytes₀ at₀ bytes at = length bytes ≡ length bytes₀
+Inv-loop bytes₀ byte at₀ bytes at = length bytes ≡ length bytes₀
 
 abbrev μ-loop : tie.MeasureT-loop
-μ-loop bytes₀ at₀ bytes at = length bytes₀ - at
+μ-loop bytes₀ byte at₀ bytes at = length bytes₀ - at
 
 loop-holds : tie.Need-loop-holds Inv-loop μ-loop
 loop-holds c = search needs
@@ -32,8 +32,8 @@ same-length c = search needs
 returns : tie.Need-returns Inv-loop μ-loop
 returns c = search needs
 
-pub untouched-spec : {M : Type 1} → statement M
-untouched-spec =
+pub set-all-spec : {M : Type 1} → statement M
+set-all-spec =
     tie.close
     (tie.spec
     Inv-loop
