@@ -85,45 +85,6 @@ uint32_t put(uint32_t bit, uint32_t width, uint64_t value)
     return bit;
 }
 
-uint32_t put_command(uint32_t bit, uint32_t bus, uint32_t b, uint32_t tagged, uint32_t word, uint32_t micro)
-{
-    bit = put(put(put(put(put(bit, 4, 1), 4, bus), 1, b), 1, tagged), 16, word);
-    if (tagged)
-        bit = put(put(put(bit, 16, 1), 16, word), 14, micro);
-    return bit;
-}
-
-uint32_t put_status(uint32_t bit, uint32_t bus, uint32_t b, uint32_t timed, uint32_t word, uint32_t response)
-{
-    bit = put(put(put(put(put(bit, 4, 2), 4, bus), 1, b), 1, timed), 16, word);
-    if (timed)
-        bit = put(bit, 14, response);
-    return bit;
-}
-
-uint32_t put_data(uint32_t bit, uint32_t kind, uint32_t bus, uint32_t b, uint32_t word)
-{
-    return put(put(put(put(bit, 4, kind), 4, bus), 1, b), 16, word);
-}
-
-uint32_t put_arinc(uint32_t bit, uint32_t bus, uint32_t channel, uint32_t tagged, uint64_t word, uint32_t micro)
-{
-    bit = put(put(put(put(put(bit, 4, 5), 4, bus), 2, channel), 1, tagged), 32, word);
-    if (tagged)
-        bit = put(put(put(bit, 16, 2), 16, word % 65536), 14, micro);
-    return bit;
-}
-
-uint32_t put_notice(uint32_t bit, uint32_t bus, uint32_t channel, uint32_t diagnostics)
-{
-    return put(put(put(put(bit, 4, 6), 4, bus), 2, channel), 8, diagnostics);
-}
-
-uint32_t put_overflow(uint32_t bit, uint32_t bus, uint32_t word)
-{
-    return put(put(put(bit, 4, 8), 4, bus), 16, word);
-}
-
 uint32_t put_end(uint32_t bit)
 {
     bit = put(bit, 4, 0);

@@ -8,7 +8,6 @@ mod captures;
 mod digest;
 mod draws;
 mod lines;
-mod log_items;
 mod logs;
 mod named;
 mod random;
