@@ -1,12 +1,12 @@
-/* Document 01's second program, over the independent implementation: every bench case that is not marked P, the list "Tempting
- * and wrong", each refusal of each entry point, and ten blocks of 200 pseudo-random cases.
+/* Document 01's second program, over the independent implementation: the named cases, which standard input has, and ten blocks of
+ * 200 pseudo-random cases. The program `cases` of the library runs the same over the library and must write the same bytes.
  *
- * The program `cases` of the library runs the same cases over the library and must write the same bytes. So this file is kept
- * plain: fixed arrays, unsigned numbers, no arithmetic that wraps, names of four letters and a number.
+ *     target/independent/cases <crates/cases/stdin
  *
- * A line of a named case: its name, then for each call a letter (c composing, r reading, x the closed reading), number, place,
- * bytes, times, and the digest of each lent buffer over its lent length: out; or log and times. Lent buffers hold A5 before.
- * A line of a block: `block N` and one digest of all that. */
+ * A line of a named case: its name, then for each call a letter (c composing, r reading, x the closed reading), number, place, second,
+ * bytes, times, and the digest of each lent buffer over its lent length (out and 0, or log and times), and `differs` if number, place
+ * or length are not those that the case asks for. Lent buffers hold A5 before. A line of a block: `block N` and one digest of all
+ * that. */
 #include "cases.h"
 
 #define UNTOUCHED 0xA5
@@ -63,32 +63,6 @@ result reading(int closed, plan_numbers p, uint32_t capture_len, uint32_t log_le
     return r;
 }
 
-/* ==== A named case's line ==== */
-
-void name(const char letters[4], uint32_t number)
-{
-    printf("%.4s %" PRIu32 ":", letters, number);
-}
-
-void say(char function, result r)
-{
-    printf(" %c %" PRIu32 " %" PRIu64 " %" PRIu64 " %" PRIu64 " %" PRIu64, function, r.answer.number, r.answer.place,
-           r.answer.bytes, r.answer.times, r.first);
-    if (function != 'c')
-        printf(" %" PRIu64, r.second);
-}
-
-void line_end(void)
-{
-    printf("\n");
-}
-
-void say_both_readings(plan_numbers p, uint32_t capture_len, uint32_t log_len, uint32_t times_len)
-{
-    say('r', reading(0, p, capture_len, log_len, times_len));
-    say('x', reading(1, p, capture_len, log_len, times_len));
-}
-
 /* ==== What cases are made of ==== */
 
 plan_numbers plan(uint32_t words, uint32_t tracks, uint32_t frame_time, uint32_t crc, uint32_t parity)
@@ -111,59 +85,12 @@ uint32_t put(uint32_t bit, uint32_t width, uint64_t value)
     return bit;
 }
 
-uint32_t put_command(uint32_t bit, uint32_t bus, uint32_t b, uint32_t tagged, uint32_t word, uint32_t micro)
-{
-    bit = put(put(put(put(put(bit, 4, 1), 4, bus), 1, b), 1, tagged), 16, word);
-    if (tagged)
-        bit = put(put(put(bit, 16, 1), 16, word), 14, micro);
-    return bit;
-}
-
-uint32_t put_status(uint32_t bit, uint32_t bus, uint32_t b, uint32_t timed, uint32_t word, uint32_t response)
-{
-    bit = put(put(put(put(put(bit, 4, 2), 4, bus), 1, b), 1, timed), 16, word);
-    if (timed)
-        bit = put(bit, 14, response);
-    return bit;
-}
-
-uint32_t put_data(uint32_t bit, uint32_t kind, uint32_t bus, uint32_t b, uint32_t word)
-{
-    return put(put(put(put(bit, 4, kind), 4, bus), 1, b), 16, word);
-}
-
-uint32_t put_arinc(uint32_t bit, uint32_t bus, uint32_t channel, uint32_t tagged, uint64_t word, uint32_t micro)
-{
-    bit = put(put(put(put(put(bit, 4, 5), 4, bus), 2, channel), 1, tagged), 32, word);
-    if (tagged)
-        bit = put(put(put(bit, 16, 2), 16, word % 65536), 14, micro);
-    return bit;
-}
-
-uint32_t put_notice(uint32_t bit, uint32_t bus, uint32_t channel, uint32_t diagnostics)
-{
-    return put(put(put(put(bit, 4, 6), 4, bus), 2, channel), 8, diagnostics);
-}
-
-uint32_t put_overflow(uint32_t bit, uint32_t bus, uint32_t word)
-{
-    return put(put(put(bit, 4, 8), 4, bus), 16, word);
-}
-
 uint32_t put_end(uint32_t bit)
 {
     bit = put(bit, 4, 0);
     while (bit % 8 != 0)
         bit = put(bit, 1, 0);
     return bit / 8;
-}
-
-uint32_t log_of_data(uint32_t items)
-{
-    uint32_t bit = 0;
-    for (uint32_t n = 0; n < items; n++)
-        bit = put_data(bit, 3, 2, 0, n % 65536);
-    return put_end(bit);
 }
 
 void put_time(uint32_t index, uint64_t time)
@@ -179,14 +106,6 @@ void word(uint32_t place, uint32_t bits)
     capture[3 * place + 2] = bits & 255;
 }
 
-uint32_t group_of_fill(plan_numbers p, uint32_t group)
-{
-    uint32_t words = p.words * p.tracks;
-    for (uint32_t n = 0; n < words; n++)
-        word(group * words + n, n % p.words == 0 ? 0xFAF320 : 0x01AAAA);
-    return 3 * words;
-}
-
 void take_composed(uint32_t length)
 {
     for (uint32_t n = 0; n < length; n++)
@@ -195,8 +114,7 @@ void take_composed(uint32_t length)
 
 int main(void)
 {
-    tempting_cases();
-    refusal_cases();
+    named_cases();
     random_cases();
     return 0;
 }

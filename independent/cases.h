@@ -31,31 +31,16 @@ result composing(plan_numbers p, uint32_t log_len, uint32_t times_len, uint32_t 
 result reading(int closed, plan_numbers p, uint32_t capture_len, uint32_t log_len, uint32_t times_len);
 uint64_t fold(uint64_t digest, uint64_t value);
 
-/* A named case's line. */
-void name(const char letters[4], uint32_t number);
-void say(char function, result r);
-void say_both_readings(plan_numbers p, uint32_t capture_len, uint32_t log_len, uint32_t times_len);
-void line_end(void);
-
-/* What cases are made of. A put_ function puts an item at a bit of log_in and returns the bit behind it. */
+/* What cases are made of. */
 plan_numbers plan(uint32_t words, uint32_t tracks, uint32_t frame_time, uint32_t crc, uint32_t parity);
-uint32_t put(uint32_t bit, uint32_t width, uint64_t value);
-uint32_t put_command(uint32_t bit, uint32_t bus, uint32_t b, uint32_t tagged, uint32_t word, uint32_t micro);
-uint32_t put_status(uint32_t bit, uint32_t bus, uint32_t b, uint32_t timed, uint32_t word, uint32_t response);
-uint32_t put_data(uint32_t bit, uint32_t kind, uint32_t bus, uint32_t b, uint32_t word); /* kind 3, 4, or 7: a user word */
-uint32_t put_arinc(uint32_t bit, uint32_t bus, uint32_t channel, uint32_t tagged, uint64_t word, uint32_t micro);
-uint32_t put_notice(uint32_t bit, uint32_t bus, uint32_t channel, uint32_t diagnostics);
-uint32_t put_overflow(uint32_t bit, uint32_t bus, uint32_t word);
+uint32_t put(uint32_t bit, uint32_t width, uint64_t value); /* bits at a bit of log_in; returns the bit behind them */
 uint32_t put_end(uint32_t bit);            /* ends the log; returns its length in bytes */
-uint32_t log_of_data(uint32_t items);      /* so many data words on bus 2; returns the log's length in bytes */
 void put_time(uint32_t index, uint64_t time);
 void word(uint32_t place, uint32_t bits);  /* a word of the capture */
-uint32_t group_of_fill(plan_numbers p, uint32_t group); /* of a plan without frame time and CRC; returns its length in bytes */
 void take_composed(uint32_t length);       /* what was composed becomes the capture to read */
 
 /* The cases. */
-void tempting_cases(void);
-void refusal_cases(void);
+void named_cases(void);
 void random_cases(void);
 
 #endif

@@ -17,6 +17,12 @@ static int one_in(uint32_t n)
     return draw(n) == 0;
 }
 
+/* One in so many, where faults are asked for. */
+static int faulty(uint32_t faults, uint32_t n)
+{
+    return faults == 1 && one_in(n);
+}
+
 /* ==== Plans ==== */
 
 static uint32_t draw_words(void)
@@ -71,70 +77,72 @@ static plan_numbers spoil_plan(plan_numbers p)
     return p;
 }
 
-/* The n-th used bus, counted from a drawn number; 16 if no bus is used. */
+/* The first used bus from a drawn one on, bus 0 behind bus 15; 16 if no bus is used. */
 static uint32_t draw_bus(plan_numbers p)
 {
-    uint32_t used = 0, wanted, found = 16;
-    for (uint32_t bus = 0; bus < 16; bus++)
-        if (p.kinds[bus] != 0)
-            used = used + 1;
-    if (used == 0)
-        return 16;
-    wanted = draw(used);
-    for (uint32_t bus = 0; bus < 16; bus++)
-        if (p.kinds[bus] != 0) {
-            if (wanted == 0 && found == 16)
-                found = bus;
-            else if (wanted > 0)
-                wanted = wanted - 1;
-        }
-    return found;
+    uint32_t first = draw(16);
+    for (uint32_t n = 0; n < 16; n++)
+        if (p.kinds[(first + n) % 16] != 0)
+            return (first + n) % 16;
+    return 16;
 }
 
 /* ==== Logs ==== */
 
-static uint32_t draw_below_10000(uint32_t faults)
+/* The bits of an item's fields behind its bus, up to its word, its diagnostics or its information. */
+static uint32_t fields_width(uint32_t kind)
 {
-    if (faults == 1 && one_in(100))
-        return draw(16384);
-    return draw(10000);
+    static const uint32_t widths[16] = {0, 18, 18, 17, 17, 35, 10, 17, 16};
+    return widths[kind];
 }
 
-/* An item of the bus's kind; with faults, now and then of another. */
+/* The bits of a tag or a response. */
+static uint32_t tail_width(uint32_t kind, uint32_t flag)
+{
+    if (flag == 0)
+        return 0;
+    return kind == 1 || kind == 5 ? 46 : kind == 2 ? 14 : 0;
+}
+
+/* An item of the bus's kind; with faults, now and then of another. The flag says "tagged" or "timed"; it stands before a word of 16
+ * bits, and before one of 32. A tag's last 14 bits are a response. */
 static uint32_t draw_item(uint32_t bit, uint32_t bus, uint32_t bus_kind, uint32_t faults)
 {
     static const uint32_t kinds[2][8] = {{1, 1, 2, 2, 3, 4, 7, 8}, {5, 5, 5, 5, 6, 6, 7, 8}};
-    uint32_t kind, b = draw(4), flag = draw(2), word = draw(65536), other = draw(65536), limited = draw_below_10000(faults);
-    kind = kinds[bus_kind == 2 ? 1 : 0][draw(8)];
-    if (faults == 1 && one_in(100))
+    uint64_t fields, tail;
+    uint32_t kind, flag;
+    if (faulty(faults, 100))
         kind = draw(16);
-    if (faults == 1 && one_in(100))
+    else {
+        uint32_t n = draw(8);
+        kind = bus_kind < 4 ? kinds[bus_kind / 2][n] : 8;
+    }
+    if (faulty(faults, 100))
         bus = draw(16);
-    if (kind == 1)
-        return put_command(bit, bus, b, flag, word, limited);
-    if (kind == 2)
-        return put_status(bit, bus, b, flag, word, limited);
-    if (kind == 3 || kind == 4 || kind == 7)
-        return put_data(bit, kind, bus, b, word);
-    if (kind == 5)
-        return put_arinc(bit, bus, b, flag, (uint64_t)word * 65536 + other, limited);
-    if (kind == 6)
-        return put_notice(bit, bus, b, word);
-    if (kind == 8)
-        return put_overflow(bit, bus, word);
-    return put(bit, 4, kind);
+    flag = draw(2);
+    fields = 2 * draw(4) + flag;
+    fields = 65536 * fields + 2 * draw(32768) + flag;
+    fields = 65536 * fields + draw(65536);
+    tail = draw(65536);
+    tail = 65536 * tail + draw(65536);
+    tail = 16384 * tail + (faulty(faults, 100) ? draw(16384) : draw(10000));
+    bit = put(put(bit, 4, kind), 4, bus);
+    bit = put(bit, fields_width(kind), fields);
+    return put(bit, tail_width(kind, flag), tail);
 }
 
 /* A byte less, a byte more, or a byte changed. */
 static uint32_t spoil_log(uint32_t length)
 {
-    uint32_t what = draw(3), at = draw(length), byte = draw(256);
+    uint32_t what = draw(3), at, byte;
     if (what == 0)
         return length - 1;
     if (what == 1) {
         log_in[length] = 0;
         return length + 1;
     }
+    at = draw(length);
+    byte = draw(256);
     log_in[at] = (uint8_t)byte;
     return length;
 }
@@ -142,15 +150,15 @@ static uint32_t spoil_log(uint32_t length)
 /* A log of up to 60 items, or of up to 600, or of none; returns its length in bytes. */
 static uint32_t draw_log(plan_numbers p, uint32_t faults)
 {
-    uint32_t few = draw(60), many = draw(600), shape = draw(16), bit = 0, length;
-    uint32_t items = shape == 0 ? many : shape == 1 ? 0 : few;
+    uint32_t shape = draw(16), bit = 0, length;
+    uint32_t items = shape == 0 ? draw(600) : shape == 1 ? 0 : draw(60);
     for (uint32_t n = 0; n < items; n++) {
         uint32_t bus = draw_bus(p);
         if (bus < 16)
             bit = draw_item(bit, bus, p.kinds[bus], faults);
     }
     length = put_end(bit);
-    if (faults == 1 && one_in(4))
+    if (faulty(faults, 4))
         length = spoil_log(length);
     return length;
 }
@@ -159,7 +167,7 @@ static void draw_times(uint32_t times, uint32_t faults)
 {
     for (uint32_t n = 0; n < times; n++) {
         uint64_t high = draw(65536), low = draw(65536), micro = draw(10000);
-        if (faults == 1 && one_in(20))
+        if (faulty(faults, 20))
             put_time(n, 42949672950000 + 2 * micro); /* about the limit */
         else
             put_time(n, 10000 * (65536 * high + low) + micro);
@@ -190,24 +198,29 @@ static uint32_t draw_word(plan_numbers p)
     return p.parity == 1 ? odd_parity(bits) : bits;
 }
 
-/* A word drawn, noise, fill, a bit turned, two words made alike, or the label of track 1's second word. */
+static uint32_t word_at(uint32_t place)
+{
+    return 65536u * capture[3 * place] + 256u * capture[3 * place + 1] + capture[3 * place + 2];
+}
+
+/* Often one of the first three: sync, and a frame time's words where there is one. */
+static uint32_t draw_place(uint32_t words)
+{
+    return one_in(6) ? draw(3) : draw(words);
+}
+
+/* A word drawn, noise, fill, a bit turned, another word, or another label. */
 static void damage_once(plan_numbers p, uint32_t length)
 {
-    uint32_t what = draw(6), place = draw(length / 3), from = draw(length / 3), byte = draw(length), turned = draw(8);
-    uint32_t noise = draw(16777216), drawn = draw_word(p);
-    if (what == 0)
-        word(place, drawn);
-    if (what == 1)
-        word(place, noise);
-    if (what == 2)
-        word(place, 0x01AAAA);
-    if (what == 3)
-        capture[byte] = (uint8_t)(capture[byte] ^ (1u << turned));
-    if (what == 4)
-        for (uint32_t n = 0; n < 3; n++)
-            capture[3 * place + n] = capture[3 * from + n];
-    if (what == 5)
-        capture[3] = capture[3] ^ 3;
+    uint32_t place = draw_place(length / 3), other = draw_place(length / 3), old = word_at(place);
+    switch (draw(6)) {
+    case 0: word(place, draw_word(p)); break;
+    case 1: word(place, draw(16777216)); break;
+    case 2: word(place, 0x01AAAA); break;
+    case 3: word(place, old ^ (1u << draw(24))); break;
+    case 4: word(place, word_at(other)); break;
+    default: word(place, old ^ 0x030000);
+    }
 }
 
 static void damage(plan_numbers p, uint32_t length)
@@ -217,24 +230,13 @@ static void damage(plan_numbers p, uint32_t length)
         damage_once(p, length);
 }
 
-/* A group from a place on: each frame a sync, three drawn words, and fill. Returns the place behind it. */
-static uint32_t noise_group(plan_numbers p, uint32_t place)
-{
-    for (uint32_t track = 0; track < p.tracks; track++)
-        for (uint32_t n = 0; n < p.words; n++) {
-            word(place, n == 0 ? 0xFAF320 : n < 4 ? draw_word(p) : 0x01AAAA);
-            place = place + 1;
-        }
-    return place;
-}
-
-/* One or two groups of a plan without frame time and CRC; returns their length in bytes. */
+/* One to eight frames of a plan without frame time and CRC, each a sync, three drawn words, and fill; returns their length in bytes. */
 static uint32_t noise(plan_numbers p)
 {
-    uint32_t words = noise_group(p, 0);
-    if (one_in(2))
-        return 3 * words;
-    return 3 * noise_group(p, words);
+    uint32_t frames = 1 + draw(8);
+    for (uint32_t place = 0; place < frames * p.words; place++)
+        word(place, place % p.words == 0 ? 0xFAF320 : place % p.words < 4 ? draw_word(p) : 0x01AAAA);
+    return 3 * frames * p.words;
 }
 
 /* ==== A case ==== */
@@ -249,7 +251,7 @@ static uint64_t fold_result(uint64_t digest, result r)
 /* A byte less now and then, where faults are asked for. */
 static uint32_t draw_less(uint32_t size, uint32_t faults)
 {
-    if (faults == 1 && size > 0 && one_in(8))
+    if (size > 0 && faulty(faults, 8))
         return size - 1;
     return size;
 }
@@ -263,11 +265,11 @@ static uint32_t draw_room(ind_answer asked, uint32_t otherwise)
     return otherwise;
 }
 
-/* Room for enough times; with faults, now and then for up to nine. */
+/* Room for enough times; with faults, now and then for up to two. */
 static uint32_t draw_times_room(uint32_t faults)
 {
-    if (faults == 1 && one_in(2))
-        return 8 * draw(10);
+    if (faulty(faults, 2))
+        return 8 * draw(3);
     return 1000 + draw(8);
 }
 
@@ -289,7 +291,7 @@ static uint32_t times_needed(ind_answer asked, uint32_t faults)
 {
     if (asked.number != 5 || asked.place >= 120)
         return 0;
-    if (faults == 1 && one_in(8))
+    if (faulty(faults, 8))
         return (uint32_t)asked.place + 1;
     return (uint32_t)asked.place;
 }

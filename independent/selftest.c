@@ -81,16 +81,21 @@ static size_t log_of(const item *items, size_t count)
     return bytes;
 }
 
+/* Whether the lister's text of a log is this one, byte for byte. */
+static bool lists(const uint8_t *log, size_t log_len, const char *text)
+{
+    static char listed[IND_TEXT_MAX];
+    size_t size = ind_list(log, log_len, listed, sizeof listed);
+    return size == strlen(text) && memcmp(listed, text, size) == 0;
+}
+
 static void p1_p2(void)
 {
     static const uint8_t log[13] = {0x12, 0x42, 0x10, 0xC0, 0, 0, 0, 0x40, 0x05, 0x32, 0x5F, 0x77, 0x80};
     static const uint32_t plain[5] = {0x2F0843, 0x270000, 0x260001, 0x250005, 0x2DBEEF};
     static const uint32_t with_parity[5] = {0x2F0843, 0xA70000, 0xA60001, 0x250005, 0x2DBEEF};
-    static const char listed[] = "cmd 2 A 0843 at 10005\ndat 2 A BEEF\nend 2\n";
-    char text[200];
 
-    CHECK(ind_list(log, sizeof log, text, sizeof text) == strlen(listed));
-    CHECK(memcmp(text, listed, strlen(listed)) == 0);
+    CHECK(lists(log, sizeof log, "cmd 2 A 0843 at 10005\ndat 2 A BEEF\nend 2\n"));
     memcpy(log_in, log, sizeof log);
     for (parity = 0; parity <= 1; parity++) {
         plan_is(129, 1, 0, 0, parity);
@@ -153,19 +158,16 @@ static void p9(void)
 {
     time_words top = {0xFFFF, 0xFFFF, 9999};
     item command = {.kind = COMMAND, .bus = 2, .tagged = true, .time = top};
-    static const char listed[] = "cmd 2 A 0000 at 42949672959999\nend 1\n";
-    char text[200];
     size_t bytes = log_of(&command, 1);
     CHECK(time_join(top) == UINT64_C(42949672959999));
-    CHECK(ind_list(log_in, bytes, text, sizeof text) == strlen(listed));
-    CHECK(memcmp(text, listed, strlen(listed)) == 0);
+    CHECK(lists(log_in, bytes, "cmd 2 A 0000 at 42949672959999\nend 1\n"));
     plan_is(129, 1, 0, 0, 0);
     kinds[2] = BUS_1553;
     CHECK(answers(composed(bytes, 0), 0, 0, 387, 0));
     command.time.micro = 10000;
     bytes = log_of(&command, 1);
     CHECK(answers(composed(bytes, 0), 4, 0, 0, 0));
-    CHECK(ind_list(log_in, bytes, text, sizeof text) == strlen("refused 4 at 0\n"));
+    CHECK(lists(log_in, bytes, "refused 4 at 0\n"));
 }
 
 static void p10(void)
@@ -288,14 +290,11 @@ static void lister_lines(void)
                     {.kind = OVERFLOW_MARK, .bus = 10, .word = 0x00FF}};
     static const char listed[] = "cmd 15 B ABCD\nsta 0 A 000F resp 9999\nsta 1 B FFFF\nerr 9 A 0010\narn 5 4 0000BEEF\n"
                                  "arn 5 1 DEADBEEF at 10002\nare 5 3 0A\nusr 7 3 0001\nusr 7 2 0002\novf 10 00FF\nend 10\n";
-    char text[400];
     size_t bytes = log_of(items, sizeof items / sizeof *items);
-    CHECK(ind_list(log_in, bytes, text, sizeof text) == strlen(listed));
-    CHECK(memcmp(text, listed, strlen(listed)) == 0);
-    CHECK(ind_list(log_in, bytes - 1, text, sizeof text) == strlen("refused 2 at 341\n"));
-    CHECK(memcmp(text, "refused 2 at 341\n", strlen("refused 2 at 341\n")) == 0);
-    CHECK(ind_list(log_in, 0, text, sizeof text) == strlen("refused 2 at 0\n"));
-    CHECK(ind_list(log_in, 32769, text, sizeof text) == strlen("refused 2 at 0\n"));
+    CHECK(lists(log_in, bytes, listed));
+    CHECK(lists(log_in, bytes - 1, "refused 2 at 341\n"));
+    CHECK(lists(log_in, 0, "refused 2 at 0\n"));
+    CHECK(lists(log_in, 32769, "refused 2 at 0\n"));
 }
 
 int main(void)

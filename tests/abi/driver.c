@@ -228,6 +228,29 @@ static void one_case(void)
 
 /* ==== The whole run ==== */
 
+/* Document 01: "Composing checks 1; the log's length; the items in order, each for 2, 3, 4; then 5 ..; then 6. Reading checks 1, 8; then
+ * group by group: .. 9 .. 10 .. 11 .., then 12, then 13 ..; after the last group the cut item, 14, 6, 7." 14 is of the closed reading
+ * only. */
+static const char can_answer[3][16] = {"yyyyyyy........", "yy....yyyyyyyy.", "yy....yyyyyyyyy"};
+
+/* In a run of this many cases every answer that a function can give must occur. */
+#define MANY_CASES 20000
+
+/* Whether every answer that can be given occurred, and no other. */
+static bool every_answer(uint64_t count)
+{
+    bool every = true;
+    for (int f = 0; f < 3; f++)
+        for (int n = 0; n < 15; n++) {
+            bool can = can_answer[f][n] == 'y', occurred = run.calls[f][n] > 0;
+            if (occurred == can || (can && count < MANY_CASES))
+                continue;
+            printf("FAILED: seed %" PRIu64 ": %s %s %d\n", run.seed, names[f], can ? "never answered" : "cannot answer", n);
+            every = false;
+        }
+    return every;
+}
+
 static void report(uint64_t count)
 {
     printf("%" PRIu64 " cases of seed %" PRIu64 ": no difference\n", count, run.seed);
@@ -266,5 +289,5 @@ int main(int argc, char **argv)
     for (run.number = first; run.number < first + count; run.number++)
         one_case();
     report(count);
-    return 0;
+    return every_answer(count) ? 0 : 1;
 }

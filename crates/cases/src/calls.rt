@@ -46,22 +46,24 @@ pub(crate) fn with_bus(p: Numbers, bus: usize, kind: u8) -> Numbers {
     q
 }
 
+// Kinds by the sixteen hexadecimal digits of a number, bus 0 first.
+pub(crate) fn with_kinds(p: Numbers, digits: u64) -> Numbers {
+    let mut q = p;
+    let mut left = digits;
+    let mut bus = 16;
+    while 0 < bus {
+        bus -= 1;
+        q = with_bus(q, bus, (left % 16) as u8);
+        left = left / 16;
+    }
+    q
+}
+
 // With only so many kinds lent.
 pub(crate) fn with_kinds_len(p: Numbers, kinds_len: usize) -> Numbers {
     let mut q = p;
     q.kinds_len = kinds_len;
     q
-}
-
-// With bus 2 a 1553 bus.
-pub(crate) fn data_plan(
-    words: u32,
-    tracks: u32,
-    frame_time: u32,
-    crc: u32,
-    parity: u32,
-) -> Numbers {
-    with_bus(plan(words, tracks, frame_time, crc, parity), 2, 1)
 }
 
 fn with_digests(answer: Answer, first_digest: u64, second_digest: u64) -> Outcome {
@@ -76,16 +78,16 @@ fn with_digests(answer: Answer, first_digest: u64, second_digest: u64) -> Outcom
     }
 }
 
-fn untouched(bytes: &mut [u8]) {
+pub(crate) fn set_all(bytes: &mut [u8], byte: u8) {
     let mut at = 0;
     while at < bytes.len() {
-        bytes[at] = 0xA5;
+        bytes[at] = byte;
         at += 1;
     }
 }
 
 fn compose_run(p: Numbers, kinds: [u8; 16], log: &[u8], times: &[u8], out: &mut [u8]) -> Outcome {
-    untouched(out);
+    set_all(out, 0xA5);
     let kinds_end = part(&kinds, p.kinds_len);
     let answer = vinculampe::vin_compose(
         p.words,

@@ -6,7 +6,6 @@ use crate::draws::draw;
 use crate::draws::draw_bus;
 use crate::draws::one_in;
 use crate::runs::put_word;
-use crate::runs::turn;
 use crate::runs::word_at;
 
 fn odd_parity(bits: u32) -> u32 {
@@ -21,13 +20,11 @@ fn shaped(information: u32, shape: u32) -> u32
     requires { ⌜ information < 65536 ⌝ }
     ensures { λ r. ⌜ r < 65536 ⌝ }
 {
-    if shape == 0 {
-        return 0xAAAA;
+    match shape {
+        0 => 0xAAAA,
+        1 => information % 12000,
+        _ => information,
     }
-    if shape == 1 {
-        return information % 12000;
-    }
-    information
 }
 
 fn draw_bits(seed: &mut u64, p: Numbers) -> u32 {
@@ -50,25 +47,36 @@ fn draw_word(seed: &mut u64, p: Numbers) -> u32 {
     bits
 }
 
-// A word drawn, noise, fill, a bit turned, two words made alike, or the label of track 1's second word.
+// A word drawn, noise, fill, a bit turned, another word, or another label.
+fn damaged(seed: &mut u64, p: Numbers, old: u32, other: u32) -> u32 {
+    let what = draw(seed, 6);
+    match what {
+        0 => draw_word(seed, p),
+        1 => draw(seed, 16777216),
+        2 => 0x01AAAA,
+        3 => old ^ (1 << draw(seed, 24)),
+        4 => other,
+        _ => old ^ 0x030000,
+    }
+}
+
+// Often one of the first three: sync, and a frame time's words where there is one.
+fn draw_place(seed: &mut u64, words: u32) -> usize
+    requires { ⌜ 0 < words ⌝ }
+{
+    if one_in(seed, 6) {
+        return draw(seed, 3) as usize;
+    }
+    draw(seed, words) as usize
+}
+
 fn damage_once(seed: &mut u64, p: Numbers, capture: &mut [u8], size: u32)
     requires { ⌜ 3 ≤ size ⌝ }
 {
-    let what = draw(seed, 6);
-    let place = draw(seed, size / 3) as usize;
-    let from = draw(seed, size / 3) as usize;
-    let byte = draw(seed, size) as usize;
-    let turned = draw(seed, 8);
-    let noise = draw(seed, 16777216);
-    let word = draw_word(seed, p);
-    match what {
-        0 => put_word(capture, place, word),
-        1 => put_word(capture, place, noise),
-        2 => put_word(capture, place, 0x01AAAA),
-        3 => turn(capture, byte, 1 << turned),
-        4 => put_word(capture, place, word_at(capture, from)),
-        _ => turn(capture, 3, 3),
-    }
+    let place = draw_place(seed, size / 3);
+    let other = draw_place(seed, size / 3);
+    let word = damaged(seed, p, word_at(capture, place), word_at(capture, other));
+    put_word(capture, place, word);
 }
 
 fn damages(seed: &mut u64, p: Numbers, capture: &mut [u8], size: u32, times: u32)
@@ -104,17 +112,16 @@ fn noise_word(seed: &mut u64, p: Numbers, position: u32) -> u32 {
     0x01AAAA
 }
 
-fn place_behind(from: u32, words: u32) -> u32 {
-    if from < 65536 {
-        if words < 65536 {
-            return from + words;
-        }
-    }
-    from
+fn place_behind(from: u32, words: u32) -> u32
+    ensures { λ r. ⌜ r < 131072 ⌝ }
+{
+    from % 65536 + words % 65536
 }
 
 // A frame from a place on; returns the place behind it.
-fn noise_frame(seed: &mut u64, p: Numbers, capture: &mut [u8], from: u32) -> u32 {
+fn noise_frame(seed: &mut u64, p: Numbers, capture: &mut [u8], from: u32) -> u32
+    ensures { λ r. ⌜ r < 131072 ⌝ }
+{
     let words = p.words;
     let mut position = 0;
     while position < words {
@@ -125,23 +132,13 @@ fn noise_frame(seed: &mut u64, p: Numbers, capture: &mut [u8], from: u32) -> u32
     place_behind(from, words)
 }
 
-// A group from a place on; returns the place behind it.
-fn noise_group(seed: &mut u64, p: Numbers, capture: &mut [u8], from: u32) -> u32 {
-    let tracks = p.tracks;
-    let mut place = from;
-    let mut track = 0;
-    while track < tracks {
-        place = noise_frame(seed, p, capture, place);
-        track += 1;
-    }
-    place
-}
-
-// One or two groups of a plan without frame time and CRC; returns their length in bytes.
+// One to eight frames of a plan without frame time and CRC; returns their length in bytes.
 pub(crate) fn noise(seed: &mut u64, p: Numbers, capture: &mut [u8]) -> usize {
-    let words = noise_group(seed, p, capture, 0);
-    if one_in(seed, 2) {
-        return 3 * words as usize;
+    let mut left = 1 + draw(seed, 8);
+    let mut place = 0;
+    while 0 < left {
+        left -= 1;
+        place = noise_frame(seed, p, capture, place);
     }
-    3 * noise_group(seed, p, capture, words) as usize
+    3 * place as usize
 }

@@ -21,15 +21,23 @@ pub(crate) fn one_in(seed: &mut u64, n: u32) -> bool
     draw(seed, n) == 0
 }
 
+// One in so many, where faults are asked for.
+pub(crate) fn faulty(seed: &mut u64, faults: bool, n: u32) -> bool
+    requires { ⌜ 0 < n ⌝ }
+{
+    if faults {
+        return one_in(seed, n);
+    }
+    false
+}
+
 fn draw_words(seed: &mut u64) -> u32 {
     let shape = draw(seed, 4);
-    if shape == 0 {
-        return 129;
+    match shape {
+        0 => 129,
+        1 => 511,
+        _ => 129 + draw(seed, 383),
     }
-    if shape == 1 {
-        return 511;
-    }
-    129 + draw(seed, 383)
 }
 
 fn draw_one_bus(seed: &mut u64, p: Numbers, buses: u32) -> Numbers
@@ -84,15 +92,6 @@ pub(crate) fn spoil_plan(seed: &mut u64, p: Numbers) -> Numbers {
     q
 }
 
-fn is_used(kind: u8) -> u32
-    ensures { λ r. ⌜ r ≤ 1 ⌝ }
-{
-    if kind == 0 {
-        return 0;
-    }
-    1
-}
-
 // 0 of a bus that there is not.
 pub(crate) fn kind_at(p: Numbers, bus: usize) -> u8 {
     if bus < 16 {
@@ -101,37 +100,16 @@ pub(crate) fn kind_at(p: Numbers, bus: usize) -> u8 {
     0
 }
 
-fn used_buses(p: Numbers) -> u32 {
-    let mut used = 0;
-    let mut bus = 0;
-    while bus < 16 {
-        used += is_used(p.kinds[bus]);
-        bus += 1;
-    }
-    used
-}
-
-// The used bus behind so many others; 16 if there is none.
-fn used_bus(p: Numbers, others: u32) -> u32 {
-    let mut left = others;
-    let mut bus: u32 = 0;
-    while bus < 16 {
-        if p.kinds[bus as usize] != 0 {
-            if left == 0 {
-                return bus;
-            }
-            left -= 1;
+// The first used bus from a drawn one on, bus 0 behind bus 15; 16 if no bus is used.
+pub(crate) fn draw_bus(seed: &mut u64, p: Numbers) -> u32 {
+    let mut bus = draw(seed, 16);
+    let mut n: u32 = 0;
+    while n < 16 {
+        if kind_at(p, bus as usize) != 0 {
+            return bus;
         }
-        bus += 1;
+        bus = (bus + 1) % 16;
+        n += 1;
     }
     16
-}
-
-// A used bus; 16 if no bus is used.
-pub(crate) fn draw_bus(seed: &mut u64, p: Numbers) -> u32 {
-    let used = used_buses(p);
-    if used == 0 {
-        return 16;
-    }
-    used_bus(p, draw(seed, used))
 }

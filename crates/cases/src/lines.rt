@@ -1,9 +1,6 @@
-// A named case's line: its name, then a letter and the numbers of each call.
+// A named case's line: its name, then a letter and the numbers of each call, and `differs` where they are not as they must be.
 
-use crate::calls::Numbers;
 use crate::calls::Outcome;
-use crate::calls::composing;
-use crate::calls::reading;
 
 pub(crate) fn say_number(number: u64) {
     io::write_all(1, b" ");
@@ -16,45 +13,58 @@ pub(crate) fn name(letters: &[u8], number: u32) {
     io::write_all(1, b":");
 }
 
+// =NAME: begins a line.
+pub(crate) fn say_name(line: &[u8]) {
+    if 1 < line.len() {
+        io::write_all(1, &line[1..]);
+    }
+    io::write_all(1, b":");
+}
+
+pub(crate) fn end_line() {
+    io::write_all(1, b"\n");
+}
+
+pub(crate) fn say_unknown() {
+    io::write_all(1, b" unknown");
+}
+
 fn say_answer(o: Outcome) {
     say_number(o.number as u64);
     say_number(o.place);
+    say_number(o.second);
     say_number(o.bytes);
     say_number(o.times);
     say_number(o.first_digest);
+    say_number(o.second_digest);
 }
 
-pub(crate) fn say_composing(
-    p: Numbers,
-    log: &[u8],
-    log_len: usize,
-    times: &[u8],
-    times_len: usize,
-    out: &mut [u8],
-    out_len: usize,
-) {
-    let composed = composing(p, log, log_len, times, times_len, out, out_len);
-    io::write_all(1, b" c");
-    say_answer(composed);
+// "On success: number 0, place 0 and the lengths written": so many bytes.
+fn accepts(o: Outcome, bytes: u64) -> bool {
+    o.place == 0 && o.bytes == bytes
 }
 
-pub(crate) fn say_both_readings(
-    p: Numbers,
-    capture: &[u8],
-    capture_len: usize,
-    log_len: usize,
-    times_len: usize,
-) {
-    let plain = reading(false, p, capture, capture_len, log_len, times_len);
-    io::write_all(1, b" r");
-    say_answer(plain);
-    say_number(plain.second_digest);
-    let closed = reading(true, p, capture, capture_len, log_len, times_len);
-    io::write_all(1, b" x");
-    say_answer(closed);
-    say_number(closed.second_digest);
+// "A refusal returns number, place and lengths 0."
+fn refuses(o: Outcome, number: u64, place: u64) -> bool {
+    o.number as u64 == number && o.place == place && o.bytes == 0 && o.times == 0
 }
 
-pub(crate) fn line_end() {
-    io::write_all(1, b"\n");
+// Number 0 and the bytes written; or a refusal's number and place.
+fn is_asked(o: Outcome, number: u64, value: u64) -> bool {
+    if o.number == 0 {
+        return number == 0 && accepts(o, value);
+    }
+    refuses(o, number, value)
+}
+
+pub(crate) fn say_checked(letters: &[u8], o: Outcome, number: u64, value: u64) {
+    io::write_all(1, letters);
+    say_answer(o);
+    if o.second != 0 {
+        io::write_all(1, b" differs");
+    }
+    if is_asked(o, number, value) {
+        return;
+    }
+    io::write_all(1, b" differs");
 }

@@ -10,9 +10,9 @@ use crate::captures::noise;
 use crate::digest::fold;
 use crate::draws::draw;
 use crate::draws::draw_plan;
-use crate::draws::one_in;
+use crate::draws::faulty;
 use crate::draws::spoil_plan;
-use crate::lines::line_end;
+use crate::lines::end_line;
 use crate::lines::name;
 use crate::lines::say_number;
 use crate::logs::draw_log;
@@ -26,11 +26,9 @@ fn fold_outcome(digest: &mut u64, o: Outcome) {
 
 // A byte less now and then, where faults are asked for.
 fn draw_less(seed: &mut u64, size: usize, faults: bool) -> usize {
-    if faults {
-        if 0 < size {
-            if one_in(seed, 8) {
-                return size - 1;
-            }
+    if 0 < size {
+        if faulty(seed, faults, 8) {
+            return size - 1;
         }
     }
     size
@@ -47,12 +45,10 @@ fn draw_room(seed: &mut u64, asked: Outcome, otherwise: usize) -> usize {
     otherwise
 }
 
-// Room for enough times; with faults, now and then for up to nine.
+// Room for enough times; with faults, now and then for up to two.
 fn draw_times_room(seed: &mut u64, faults: bool) -> usize {
-    if faults {
-        if one_in(seed, 2) {
-            return 8 * draw(seed, 10) as usize;
-        }
+    if faulty(seed, faults, 2) {
+        return 8 * draw(seed, 3) as usize;
     }
     1000 + draw(seed, 8) as usize
 }
@@ -80,10 +76,8 @@ fn read_case(
 fn times_needed(seed: &mut u64, asked: Outcome, faults: bool) -> u32 {
     if asked.number == 5 {
         if asked.place < 120 {
-            if faults {
-                if one_in(seed, 8) {
-                    return asked.place as u32 + 1;
-                }
+            if faulty(seed, faults, 8) {
+                return asked.place as u32 + 1;
             }
             return asked.place as u32;
         }
@@ -175,7 +169,7 @@ fn random_block(seed: &mut u64, block: u32) {
     }
     name(b"block", block);
     say_number(digest);
-    line_end();
+    end_line();
 }
 
 pub(crate) fn random_cases() {

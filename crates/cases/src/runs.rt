@@ -3,16 +3,6 @@
 ghost use Prim.Native.Nat.{_<_, _≤_};
 ghost use Rattle.io.specs.Counts.{Counts};
 
-fn least(a: usize, b: usize) -> usize
-    ensures { λ r. ⌜ r ≤ a ⌝ }
-    ensures { λ r. ⌜ r ≤ b ⌝ }
-{
-    if a < b {
-        return a;
-    }
-    b
-}
-
 // So many bytes, or all if there are fewer.
 pub(crate) fn part(bytes: &[u8], size: usize) -> usize
     ensures { λ r. ⌜ Counts r (now (bytes .entry)) ⌝ }
@@ -21,14 +11,6 @@ pub(crate) fn part(bytes: &[u8], size: usize) -> usize
         return size;
     }
     bytes.len()
-}
-
-// What is left of a; none if b is more.
-pub(crate) fn less(a: usize, b: usize) -> usize {
-    if b < a {
-        return a - b;
-    }
-    0
 }
 
 pub(crate) fn put_byte(bytes: &mut [u8], at: usize, byte: u8) {
@@ -113,35 +95,5 @@ pub(crate) fn put_word(capture: &mut [u8], place: usize, bits: u32) {
 pub(crate) fn put_time(times: &mut [u8], index: usize, time: u64) {
     if index < 128 {
         put(times, 64 * index, 64, time);
-    }
-}
-
-// Frames of a plan without frame time and CRC: the sync word and fill, to the end of the run.
-pub(crate) fn put_fill(capture: &mut [u8], words: usize)
-    requires { ⌜ 0 < words ⌝ }
-{
-    let end = capture.len() / 3;
-    let mut place = 0;
-    while place < end {
-        put_word(
-            capture,
-            place,
-            if place % words == 0 {
-                0xFAF320
-            } else {
-                0x01AAAA
-            },
-        );
-        place += 1;
-    }
-}
-
-// The first bytes of one run put into another.
-pub(crate) fn copy(from: &[u8], to: &mut [u8], size: usize) {
-    let end = least(size, least(from.len(), to.len()));
-    let mut at = 0;
-    while at < end {
-        to[at] = from[at];
-        at += 1;
     }
 }

@@ -33,8 +33,8 @@ name-requires c κs = search needs
 say-number-requires : tie.Need-say-number-requires Inv-loop μ-loop
 say-number-requires c κs = search needs
 
-line-end-requires : tie.Need-line-end-requires Inv-loop μ-loop
-line-end-requires c κs = search needs
+end-line-requires : tie.Need-end-line-requires Inv-loop μ-loop
+end-line-requires c κs = search needs
 
 returns : tie.Need-returns Inv-loop μ-loop
 returns c = search needs
@@ -53,5 +53,5 @@ random-block-spec =
     slice-aggregate-name
     name-requires
     say-number-requires
-    line-end-requires
+    end-line-requires
     returns)
