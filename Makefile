@@ -3,7 +3,7 @@
 # make test                 the gate, .ci/run: everything from nothing
 #
 # All programs are for x86-64. On another processor they are made by the cross compiler and run under the emulator RUNNER.
-VERSION := 0.1.0
+VERSION := $(shell sed -n 's/^\#define VIN_VERSION "\(.*\)"/\1/p' include/vinculampe.h)
 PREFIX ?= /usr/local
 CFLAGS ?= -O2
 OUT := target/tool
@@ -23,8 +23,8 @@ programs := vin vin-lister
 folder := $(if $(RUNNER),/x86-64)
 built := $(programs:%=$(OUT)$(folder)/%)
 runner_words := $(foreach word,$(RUNNER),"$(word)",)
-flags := -std=c11 -Wall -Wextra -Wpedantic -Werror $(CFLAGS) -DVERSION='"$(VERSION)"' -DRUNNER='$(runner_words)'
-objects := $(patsubst tools/%.c,$(OUT)/%.o,$(wildcard tools/*.c))
+flags := -std=c11 -Wall -Wextra -Wpedantic -Werror $(CFLAGS) -DRUNNER='$(runner_words)'
+objects := $(patsubst tools/%.c,$(OUT)/%.o,$(wildcard tools/*.c tools/commands/*.c))
 proved := $(shell find crates crates.txt -type f -not -path '*/must-fail/*')
 
 all: $(built) $(if $(RUNNER),$(programs:%=$(OUT)/%))
@@ -45,6 +45,7 @@ $(ARCHIVE): $(proved) | $(LISTER)
 
 $(OUT)/%.o: tools/%.c $(wildcard tools/*.h) include/vinculampe.h Makefile | $(OUT)$(folder)
 	@command -v $(firstword $(CC)) >/dev/null || { echo "$(firstword $(CC)) is missing; see README.md" >&2; exit 1; }
+	@mkdir -p $(@D)
 	$(CC) $(flags) -c $< -o $@
 
 $(OUT)$(folder)/vin: $(objects) $(ARCHIVE)
