@@ -48,7 +48,8 @@
 #include <stddef.h>
 #include <stdint.h>
 
-/* The version of library, header and tool; and as a number, to compare: 10000 x major + 100 x minor + patch. */
+/* The version of library, header and tool; and as a number, to compare: 10000 x major + 100 x minor
+ * + patch. */
 #define VIN_VERSION "0.2.0"
 #define VIN_VERSION_NUMBER 200
 
@@ -182,9 +183,9 @@ enum vin_number {
 };
 
 /* A few English words for an answer's number; never null. */
-static inline const char *vin_text(uint32_t number)
+static inline const char *vin_text(uint32_t number_)
 {
-    switch (number) {
+    switch (number_) {
     case VIN_DONE: return "done";
     case VIN_PLAN: return "the plan is illegal";
     case VIN_LOG: return "the log is too long, cut, or has an unknown kind or a bad ending";
@@ -308,7 +309,8 @@ vin_answer vin_read_closed(uint32_t words, uint32_t tracks,
 /* ==== The same with the plan in a struct, and null pointers of length 0 ==========================
  *
  * A null pointer with length 0 becomes a pointer to a byte that is never read nor written. A null
- * pointer with another length is the caller's fault, as for memcpy. */
+ * pointer with another length is the caller's fault, as for memcpy. (Names in these functions end
+ * in an underscore, so that they hide none of the includer's.) */
 
 typedef struct {
     uint32_t words, tracks;
@@ -316,56 +318,57 @@ typedef struct {
     uint8_t kinds[16];                /* enum vin_kind */
 } vin_plan;
 
-/* A plan of so many words and tracks, without frame time, CRC and parity, and with no bus used. Begin every plan with
- * it: a field that a later version adds then has the value that means what was so before. */
+/* A plan of so many words and tracks, without frame time, CRC and parity, and with no bus used. Begin
+ * every plan with it: a field that a later version adds then has the value that means what was so
+ * before. */
 #define VIN_PLAN_INIT(words, tracks) {(uint32_t)(words), (uint32_t)(tracks), 0, 0, 0, {0}}
 
-static inline const uint8_t *vin_run_(const uint8_t *vin_given_)
+static inline const uint8_t *vin_run_(const uint8_t *given_)
 {
-    static const uint8_t vin_nothing_[1] = {0};
-    return vin_given_ ? vin_given_ : vin_nothing_;
+    static const uint8_t nothing_[1] = {0};
+    return given_ ? given_ : nothing_;
 }
 
-static inline uint8_t *vin_room_(uint8_t *vin_given_)
+static inline uint8_t *vin_room_(uint8_t *given_)
 {
-    static uint8_t vin_nothing_[1];
-    return vin_given_ ? vin_given_ : vin_nothing_;
+    static uint8_t nothing_[1];
+    return given_ ? given_ : nothing_;
 }
 
-static inline vin_answer vin_plan_compose(const vin_plan *plan,
-                                          const uint8_t *log, size_t log_len,
-                                          const uint8_t *times, size_t times_len,
-                                          uint8_t *out, size_t out_len)
+static inline vin_answer vin_plan_compose(const vin_plan *plan_,
+                                          const uint8_t *log_, size_t log_len_,
+                                          const uint8_t *times_, size_t times_len_,
+                                          uint8_t *out_, size_t out_len_)
 {
-    return vin_compose(plan->words, plan->tracks, plan->frame_time, plan->crc, plan->parity,
-                       plan->kinds, sizeof plan->kinds,
-                       vin_run_(log), log_len,
-                       vin_run_(times), times_len,
-                       vin_room_(out), out_len);
+    return vin_compose(plan_->words, plan_->tracks, plan_->frame_time, plan_->crc, plan_->parity,
+                       plan_->kinds, sizeof plan_->kinds,
+                       vin_run_(log_), log_len_,
+                       vin_run_(times_), times_len_,
+                       vin_room_(out_), out_len_);
 }
 
-static inline vin_answer vin_plan_read(const vin_plan *plan,
-                                       const uint8_t *capture, size_t capture_len,
-                                       uint8_t *log, size_t log_len,
-                                       uint8_t *times, size_t times_len)
+static inline vin_answer vin_plan_read(const vin_plan *plan_,
+                                       const uint8_t *capture_, size_t capture_len_,
+                                       uint8_t *log_, size_t log_len_,
+                                       uint8_t *times_, size_t times_len_)
 {
-    return vin_read(plan->words, plan->tracks, plan->frame_time, plan->crc, plan->parity,
-                    plan->kinds, sizeof plan->kinds,
-                    vin_run_(capture), capture_len,
-                    vin_room_(log), log_len,
-                    vin_room_(times), times_len);
+    return vin_read(plan_->words, plan_->tracks, plan_->frame_time, plan_->crc, plan_->parity,
+                    plan_->kinds, sizeof plan_->kinds,
+                    vin_run_(capture_), capture_len_,
+                    vin_room_(log_), log_len_,
+                    vin_room_(times_), times_len_);
 }
 
-static inline vin_answer vin_plan_read_closed(const vin_plan *plan,
-                                              const uint8_t *capture, size_t capture_len,
-                                              uint8_t *log, size_t log_len,
-                                              uint8_t *times, size_t times_len)
+static inline vin_answer vin_plan_read_closed(const vin_plan *plan_,
+                                              const uint8_t *capture_, size_t capture_len_,
+                                              uint8_t *log_, size_t log_len_,
+                                              uint8_t *times_, size_t times_len_)
 {
-    return vin_read_closed(plan->words, plan->tracks, plan->frame_time, plan->crc, plan->parity,
-                           plan->kinds, sizeof plan->kinds,
-                           vin_run_(capture), capture_len,
-                           vin_room_(log), log_len,
-                           vin_room_(times), times_len);
+    return vin_read_closed(plan_->words, plan_->tracks, plan_->frame_time, plan_->crc, plan_->parity,
+                           plan_->kinds, sizeof plan_->kinds,
+                           vin_run_(capture_), capture_len_,
+                           vin_room_(log_), log_len_,
+                           vin_room_(times_), times_len_);
 }
 
 #ifdef __cplusplus
