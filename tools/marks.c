@@ -121,6 +121,14 @@ static void mark_fill(const vin_plan *plan, const run *capture, mark *marks)
     }
 }
 
+static bool any_fault(const mark *marks, uint64_t count)
+{
+    uint64_t n = 0;
+    while (n < count && !marks[n].fault)
+        n++;
+    return n < count;
+}
+
 mark *mark_words(const vin_plan *plan, const run *capture)
 {
     uint64_t count = capture_words(capture), groups = count / group_words(plan);
@@ -139,10 +147,10 @@ mark *mark_words(const vin_plan *plan, const run *capture)
                 mark_item(&w, plan, &s, &marks[s.place]);
         }
     }
-    if (marks) {
+    if (marks)
         mark_cut(&w, plan, marks);
+    if (marks && !any_fault(marks, count))
         mark_fill(plan, capture, marks);
-    }
     return marks;
 }
 

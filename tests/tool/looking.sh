@@ -55,11 +55,26 @@ says 0 "$head_line
     515      0     4  129  0x000609 03F839    0     3 F839  CRC               !11 expected 034B06
     645      1     2    1  0x00078F FAF321                  sync              !9 expected FAF320
     517      1     1    2  0x00060F 040000    0     4    0  frame time high   !12 expected bus 0 and label 7
-    777      1     3    4  0x00091B 01AAAA    0     1 AAAA  fill              !14 data follows it
-    906      1     4    4  0x000A9E 01AAAA    0     1 AAAA  fill              !14 data follows it
-    770      1     2  126  0x000906 31AAAA    3     1 AAAA  fill              !14 its bus is 3 and not 0
     644      1     1  129  0x00078C 03A3DA    0     3 A3DA  CRC               !11 expected 036FBD
     773      1     2  129  0x00090F 03F782    0     3 F782  CRC               !11 expected 032994" dump four-track.plan bad --faults
+# Misplaced fill, all of it, in a capture that is right else; fill that is none.
+plan "words 129" "tracks 2" "bus 2 1553"
+fill=$(printf '01AAAA%.0s' {1..128})
+frame() { printf 'FAF320%s%s' "$1" "${fill:${#1}}"; }
+bytes "$(frame 2D000101AAAA)$(frame 31AAAA2D0002)$(frame "")$(frame 41AAAA)" >bad
+"${vin[@]}" dump p bad --faults >have
+grep -c '!14 its group is after the last data word.s$' have | grep -qx 255
+result "fill after the last data, marked" $?
+grep -v 'its group' have >few
+echo "$head_line
+    130      0     2    2  0x000186 31AAAA    3     1 AAAA  fill              !14 its bus is 3 and not 0
+      2      0     1    3  0x000006 01AAAA    0     1 AAAA  fill              !14 data follows it
+    388      1     2    2  0x00048C 41AAAA    4     1 AAAA  fill              !14 its bus is 4 and not 0" >want
+same "misplaced fill" want few
+bytes "$(frame 2D000101AAAB)$(frame 01AAAA2D0002)" >bad
+says 0 "$head_line
+      2      0     1    3  0x000006 01AAAB    0     1 AAAB  fill, not AAAA    !13 it has label 1, fill, and fill is AAAA" dump p bad --faults
+rm -f few
 plan "words 129" "tracks 1" "parity yes" "bus 2 1553" "bus 5 arinc"
 fill=$(printf '01AAAA%.0s' {1..128})
 broken=AF0001A70000250001D90001AD0001200000D90000

@@ -34,8 +34,8 @@ static const char *meaning(const vin_plan *plan, const stored *s)
     static const char *const furniture[] = {"sync", "frame time high", "frame time low", "frame time micro", "CRC"};
     if (s->slot != SLOT_DATA)
         return furniture[s->slot];
-    if (is_fill(s))
-        return "fill";
+    if (s->label == LABEL_FILL)
+        return is_fill(s) ? "fill" : "fill, not AAAA";
     if (plan->kinds[s->bus] == VIN_KIND_UNUSED)
         return "bus not used";
     return label_name(plan->kinds[s->bus], s->label);
@@ -157,6 +157,7 @@ const command dump_command = {
     "dump", "PLAN CAPTURE [--from WORD] [--count N] [--group G] [--bus B] [--stored] [--no-fill] [--faults]", "print a capture word by word",
     "\nA line a word: its place, where that is, its byte offset, bus, label and information, what it is,\n"
     "the item it belongs to (1, then 1+ for its further words), the time it ends, and behind ! the\n"
-    "number of a refusal and why. All faults are marked, not only the first; 14 is one to check only.\n",
+    "number of a refusal and why. All faults are marked, not only the first; misplaced fill, 14, which\n"
+    "check refuses, only where there is no other.\n",
     2, 2, 0, PRINTS, options, run_dump,
 };
