@@ -1,0 +1,26 @@
+#include <stdio.h>
+
+#include "../commands.h"
+#include "../reading.h"
+
+static int run_check(const arguments *given)
+{
+    reading r;
+    int status = read_capture(given->files[0], given->files[1], vin_plan_read_closed, &r);
+    if (status == DONE) {
+        printf("yes: a log of %llu byte%s, frame times: %llu\n", (unsigned long long)r.answer.bytes,
+               r.answer.bytes == 1 ? "" : "s", (unsigned long long)r.answer.times);
+        say_notes(&r);
+    }
+    drop_reading(&r);
+    return status;
+}
+
+static const option_row options[] = {{OPTIONS, FLAG, NULL, NULL}};
+
+const command check_command = {
+    "check", "PLAN CAPTURE", "say whether composing made exactly this capture",
+    "\nThe closed reading: as read, but fill must stand just where composing puts it. A capture of no\n"
+    "bytes is that of the empty log; a note says so.\n",
+    2, 2, 0, PRINTS, options, run_check,
+};
