@@ -11,6 +11,9 @@ before-top-of c = c .before .before .before
 abbrev before-top-of2 : tie.After-top-of2 → tie.After-top-of
 before-top-of2 c = c .before .before .before
 
+abbrev start-top-of2 : tie.After-top-of2 → tie.Start
+start-top-of2 c = c .before .before .before .before .before .before
+
 add-top-of : tie.Need-add-top-of
 add-top-of c = search needs
 
@@ -50,9 +53,9 @@ add-if2 : tie.Need-add-if2
 add-if2 c = search needs
 
 returns-2 : tie.Need-returns-2
-returns-2 c = tag-second (parityOf ((before-top-of (before-top-of2 (c .before))) .args .tops)) ((before-top-of (before-top-of2 (c .before))) .args .row .now)
-    ((before-top-of (before-top-of2 (c .before))) .args .slot) ((before-top-of (before-top-of2 (c .before))) .args .awaits)
-    ((before-top-of2 (c .before)) .top-of .ensures .0) (c .before .before .before .if1 .left) ((c .before) .top-of2 .ensures .0) (c .if2 .taken)
+returns-2 c = tag-second (parityOf ((start-top-of2 (c .before)) .args .tops)) ((start-top-of2 (c .before)) .args .row .now) ((start-top-of2 (c .before)) .args .slot)
+    ((start-top-of2 (c .before)) .args .awaits) ((before-top-of2 (c .before)) .top-of .ensures .0) (c .before .before .before .if1 .left)
+    ((c .before) .top-of2 .ensures .0) (c .if2 .taken)
 
 add-result : tie.Need-add-result
 add-result c = search needs
@@ -64,9 +67,8 @@ shared-slice-read-result : tie.Need-shared-slice-read-result
 shared-slice-read-result c = search needs
 
 returns-3 : tie.Need-returns-3
-returns-3 c = tag-third (parityOf ((before-top-of (before-top-of2 (c .before .before))) .args .tops))
-    ((before-top-of (before-top-of2 (c .before .before))) .args .row .now) ((before-top-of (before-top-of2 (c .before .before))) .args .slot)
-    ((before-top-of (before-top-of2 (c .before .before))) .args .awaits) ((before-top-of2 (c .before .before)) .top-of .ensures .0)
+returns-3 c = tag-third (parityOf ((start-top-of2 (c .before .before)) .args .tops)) ((start-top-of2 (c .before .before)) .args .row .now)
+    ((start-top-of2 (c .before .before)) .args .slot) ((start-top-of2 (c .before .before)) .args .awaits) ((before-top-of2 (c .before .before)) .top-of .ensures .0)
     (c .before .before .before .before .if1 .left) ((c .before .before) .top-of2 .ensures .0) (c .before .if2 .left)
 
 pub is-tag-spec : {M : Type 1} → statement M

@@ -4,47 +4,62 @@ use borrow.Author.Needs.{needs}
 use Rattle.data_items.proofs.status_at.Statement.{statement}
 use Rattle.data_items.proofs.status_at.Tie as tie
 
-abbrev before-Else1 : tie.Else1 → tie.Start
-before-Else1 c = c .before .before .before .before
+abbrev before-else1 : tie.Else1 → tie.Start
+before-else1 c = c .before .before .before .before
 
 abbrev before-top-of : tie.After-top-of → tie.Else1
 before-top-of c = c .before .before .before
 
-abbrev before-Else2 : tie.Else2 → tie.After-top-of
-before-Else2 c = c .before
+abbrev before-else2 : tie.Else2 → tie.After-top-of
+before-else2 c = c .before
 
-abbrev before-Else3 : tie.Else3 → tie.Else2
-before-Else3 c = c .before
+abbrev before-else3 : tie.Else3 → tie.Else2
+before-else3 c = c .before
 
-abbrev before-Else4 : tie.Else4 → tie.Else3
-before-Else4 c = c .before
+abbrev before-else4 : tie.Else4 → tie.Else3
+before-else4 c = c .before
 
 abbrev before-put-in : tie.After-put-in → tie.Else4
 before-put-in c = c .before .before
+
+abbrev start-top-of : tie.After-top-of → tie.Start
+start-top-of c = c .before .before .before .before .before .before .before
+
+abbrev start-else2 : tie.Else2 → tie.Start
+start-else2 c = c .before .before .before .before .before .before .before .before
+
+abbrev start-else3 : tie.Else3 → tie.Start
+start-else3 c = c .before .before .before .before .before .before .before .before .before
+
+abbrev start-else4 : tie.Else4 → tie.Start
+start-else4 c = c .before .before .before .before .before .before .before .before .before .before
+
+abbrev start-put-in : tie.After-put-in → tie.Start
+start-put-in c = c .before .before .before .before .before .before .before .before .before .before .before .before
 
 returns : tie.Need-returns
 returns c = λ ks k. here-none ((c .before .before .before .before) .pre .0)
 
 add-status : tie.Need-add-status
-add-status c = omega (arith, (before-Else1 (c .before)) .pre .0 .five)
+add-status c = omega (arith, (before-else1 (c .before)) .pre .0 .five)
 
 mul-status : tie.Need-mul-status
-mul-status c = omega (arith, (before-Else1 (c .before)) .pre .0 .five)
+mul-status c = omega (arith, (before-else1 (c .before)) .pre .0 .five)
 
 shared-slice-read-status : tie.Need-shared-slice-read-status
-shared-slice-read-status c = omega (arith, (before-Else1 (c .before .before)) .pre .0 .five)
+shared-slice-read-status c = omega (arith, (before-else1 (c .before .before)) .pre .0 .five)
 
 top-of-requires : tie.Need-top-of-requires
-top-of-requires c κs = ((before-Else1 (c .before .before)) .pre .0 .all, low-at ((before-Else1 (c .before .before)) .pre .0) 1 (omega arith))
+top-of-requires c κs = ((before-else1 (c .before .before)) .pre .0 .all, low-at ((before-else1 (c .before .before)) .pre .0) 1 (omega arith))
 
 returns-2 : tie.Need-returns-2
-returns-2 c = λ ks k. here-none ((before-Else1 (before-top-of (c .before))) .pre .0)
+returns-2 c = λ ks k. here-none ((start-top-of (c .before)) .pre .0)
 
 returns-3 : tie.Need-returns-3
-returns-3 c = λ ks k. here-none ((before-Else1 (before-top-of (before-Else2 (c .before)))) .pre .0)
+returns-3 c = λ ks k. here-none ((start-else2 (c .before)) .pre .0)
 
 returns-4 : tie.Need-returns-4
-returns-4 c = λ ks k. here-none ((before-Else1 (before-top-of (before-Else2 (before-Else3 (c .before))))) .pre .0)
+returns-4 c = λ ks k. here-none ((start-else3 (c .before)) .pre .0)
 
 add-bits : tie.Need-add-bits
 add-bits c = search needs
@@ -81,30 +96,26 @@ add-put-in c = search needs
 
 put-in-requires : tie.Need-put-in-requires
 put-in-requires c κs = (
-  omega (arith, (before-Else1 (before-top-of (before-Else2 (before-Else3 (before-Else4 (c .before)))))) .pre .0 .few),
+  omega (arith, (start-else4 (c .before)) .pre .0 .few),
   omega arith,
-  status-says
-      ((before-Else1 (before-top-of (before-Else2 (before-Else3 (before-Else4 (c .before)))))) .pre .0)
-      ((before-Else1 (before-top-of (before-Else2 (before-Else3 (before-Else4 (c .before)))))) .pre .1)
-      (omega (arith, (before-top-of (before-Else2 (before-Else3 (before-Else4 (c .before))))) .if1 .left))
-      ((before-Else2 (before-Else3 (before-Else4 (c .before)))) .top-of .ensures .0) ((before-Else3 (before-Else4 (c .before))) .if2 .left)
-      ((before-Else4 (c .before)) .if3 .left) ((c .before) .if4 .left) .fits,
-  omega
-      (arith, (before-Else1 (before-top-of (before-Else2 (before-Else3 (before-Else4 (c .before)))))) .pre .0 .room),
+  status-says ((start-else4 (c .before)) .pre .0)
+      ((start-else4 (c .before)) .pre .1) (omega (arith, (before-top-of (before-else2 (before-else3 (before-else4 (c .before))))) .if1 .left))
+      ((before-else2 (before-else3 (before-else4 (c .before)))) .top-of .ensures .0) ((before-else3 (before-else4 (c .before))) .if2 .left)
+      ((before-else4 (c .before)) .if3 .left) ((c .before) .if4 .left) .fits,
+  omega (arith, (start-else4 (c .before)) .pre .0 .room),
 )
 
 add-t15 : tie.Need-add-t15
-add-t15 c = omega (arith, (before-Else1 (before-top-of (before-Else2 (before-Else3 (before-Else4 (before-put-in (c .before .before .before))))))) .pre .0 .five)
+add-t15 c = omega (arith, (start-put-in (c .before .before .before)) .pre .0 .five)
 
 same-length : tie.Need-same-length
 same-length c = search needs
 
 returns-5 : tie.Need-returns-5
-returns-5 c = λ ks k. status-taken ((before-Else1 (before-top-of (before-Else2 (before-Else3 (before-Else4 (before-put-in (c .before .before .before))))))) .pre .0)
-    ((before-Else1 (before-top-of (before-Else2 (before-Else3 (before-Else4 (before-put-in (c .before .before .before))))))) .pre .1)
-    (omega (arith, (before-top-of (before-Else2 (before-Else3 (before-Else4 (before-put-in (c .before .before .before)))))) .if1 .left))
-    ((before-Else2 (before-Else3 (before-Else4 (before-put-in (c .before .before .before))))) .top-of .ensures .0)
-    ((before-Else3 (before-Else4 (before-put-in (c .before .before .before)))) .if2 .left) ((before-Else4 (before-put-in (c .before .before .before))) .if3 .left)
+returns-5 c = λ ks k. status-taken ((start-put-in (c .before .before .before)) .pre .0) ((start-put-in (c .before .before .before)) .pre .1)
+    (omega (arith, (before-top-of (before-else2 (before-else3 (before-else4 (before-put-in (c .before .before .before)))))) .if1 .left))
+    ((before-else2 (before-else3 (before-else4 (before-put-in (c .before .before .before))))) .top-of .ensures .0)
+    ((before-else3 (before-else4 (before-put-in (c .before .before .before)))) .if2 .left) ((before-else4 (before-put-in (c .before .before .before))) .if3 .left)
     ((before-put-in (c .before .before .before)) .if4 .left) ks k ((c .before .before .before) .put-in .ensures)
 
 pub status-at-spec : {M : Type 1} → statement M

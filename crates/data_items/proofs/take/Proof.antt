@@ -17,17 +17,14 @@ Inv-loop parity row out₀ kinds tops openings count slot₀ pen₀ out slot pen
 abbrev μ-loop : tie.MeasureT-loop
 μ-loop parity row out₀ kinds tops openings count slot₀ pen₀ out slot pen = count - slot
 
-abbrev before-tops-of : tie.After-tops-of Inv-loop μ-loop → tie.Start Inv-loop μ-loop
-before-tops-of c = c .before .before .before
-
 abbrev before-openings : tie.After-openings Inv-loop μ-loop → tie.After-tops-of Inv-loop μ-loop
 before-openings c = c .before
 
-abbrev before-At : tie.At-loop Inv-loop μ-loop → tie.After-openings Inv-loop μ-loop
-before-At c = c .before .before
+abbrev before-at : tie.At-loop Inv-loop μ-loop → tie.After-openings Inv-loop μ-loop
+before-at c = c .before .before
 
-abbrev before-In : tie.In-loop Inv-loop μ-loop → tie.At-loop Inv-loop μ-loop
-before-In c = c .before
+abbrev before-in : tie.In-loop Inv-loop μ-loop → tie.At-loop Inv-loop μ-loop
+before-in c = c .before
 
 abbrev before-top-of : tie.After-top-of Inv-loop μ-loop → tie.In-loop Inv-loop μ-loop
 before-top-of c = c .before .before
@@ -35,8 +32,8 @@ before-top-of c = c .before .before
 abbrev before-opening : tie.After-opening Inv-loop μ-loop → tie.After-top-of Inv-loop μ-loop
 before-opening c = c .before .before .before
 
-abbrev before-Then1 : tie.Then1 Inv-loop μ-loop → tie.After-opening Inv-loop μ-loop
-before-Then1 c = c .before
+abbrev before-then1 : tie.Then1 Inv-loop μ-loop → tie.After-opening Inv-loop μ-loop
+before-then1 c = c .before
 
 abbrev before-single : tie.After-single Inv-loop μ-loop → tie.Then1 Inv-loop μ-loop
 before-single c = c .before
@@ -44,59 +41,70 @@ before-single c = c .before
 abbrev before-put-in : tie.After-put-in Inv-loop μ-loop → tie.After-single Inv-loop μ-loop
 before-put-in c = c .before .before
 
-abbrev before-Else1 : tie.Else1 Inv-loop μ-loop → tie.After-opening Inv-loop μ-loop
-before-Else1 c = c .before
+abbrev before-else1 : tie.Else1 Inv-loop μ-loop → tie.After-opening Inv-loop μ-loop
+before-else1 c = c .before
 
-abbrev before-Else2 : tie.Else2 Inv-loop μ-loop → tie.Else1 Inv-loop μ-loop
-before-Else2 c = c .before
+abbrev before-else2 : tie.Else2 Inv-loop μ-loop → tie.Else1 Inv-loop μ-loop
+before-else2 c = c .before
 
 abbrev before-item-at : tie.After-item-at Inv-loop μ-loop → tie.Else2 Inv-loop μ-loop
 before-item-at c = c .before .before
 
-abbrev before-Else3 : tie.Else3 Inv-loop μ-loop → tie.After-item-at Inv-loop μ-loop
-before-Else3 c = c .before .before .before .before
+abbrev before-else3 : tie.Else3 Inv-loop μ-loop → tie.After-item-at Inv-loop μ-loop
+before-else3 c = c .before .before .before .before
+
+abbrev entry : tie.In-loop Inv-loop μ-loop → tie.Start Inv-loop μ-loop
+entry c = c .before .before .before .before .before .before .before
+
+abbrev start-openings : tie.After-openings Inv-loop μ-loop → tie.Start Inv-loop μ-loop
+start-openings c = c .before .before .before .before
+
+abbrev turn-single : tie.After-single Inv-loop μ-loop → tie.In-loop Inv-loop μ-loop
+turn-single c = c .before .before .before .before .before .before .before
+
+abbrev turn-put-in : tie.After-put-in Inv-loop μ-loop → tie.In-loop Inv-loop μ-loop
+turn-put-in c = c .before .before .before .before .before .before .before .before .before
+
+abbrev turn-else1 : tie.Else1 Inv-loop μ-loop → tie.In-loop Inv-loop μ-loop
+turn-else1 c = c .before .before .before .before .before .before
+
+abbrev turn-else2 : tie.Else2 Inv-loop μ-loop → tie.In-loop Inv-loop μ-loop
+turn-else2 c = c .before .before .before .before .before .before .before
+
+abbrev turn-else3 : tie.Else3 Inv-loop μ-loop → tie.In-loop Inv-loop μ-loop
+turn-else3 c = c .before .before .before .before .before .before .before .before .before .before .before .before .before
+
+abbrev turn-item-at : tie.After-item-at Inv-loop μ-loop → tie.In-loop Inv-loop μ-loop
+turn-item-at c = c .before .before .before .before .before .before .before .before .before
 
 -- the word at hand
 spot : (c : tie.After-top-of Inv-loop μ-loop)
-    → Spot ((before-tops-of (before-openings (before-At (before-In (before-top-of c))))) .args .parity)
-    ((before-tops-of (before-openings (before-At (before-In (before-top-of c))))) .args .row .now) ((before-In (before-top-of c)) .loop .slot)
-    (getD ((before-tops-of (before-openings (before-At (before-In (before-top-of c))))) .args .row .now) ((before-In (before-top-of c)) .loop .slot) 0)
-    (c .top-of .result)
+    → Spot ((entry (before-top-of c)) .args .parity) ((entry (before-top-of c)) .args .row .now) ((before-in (before-top-of c)) .loop .slot)
+    (getD ((entry (before-top-of c)) .args .row .now) ((before-in (before-top-of c)) .loop .slot) 0) (c .top-of .result)
 spot c = record {
   within = (before-top-of c) .loop-test .taken;
-  low = (before-tops-of (before-openings (before-At (before-In (before-top-of c))))) .pre .0 _ ((before-top-of c) .loop-test .taken);
+  low = (entry (before-top-of c)) .pre .0 _ ((before-top-of c) .loop-test .taken);
   is = refl;
-  says = rw (parity-back ((before-tops-of (before-openings (before-At (before-In (before-top-of c))))) .args .parity)
-      ((before-openings (before-At (before-In (before-top-of c)))) .tops-of .ensures)) at (c .top-of .ensures .0);
+  says = rw (parity-back ((entry (before-top-of c)) .args .parity) ((before-openings (before-at (before-in (before-top-of c)))) .tops-of .ensures)) at
+      (c .top-of .ensures .0);
 }
 
 -- there is room for what the words from it on bring
 room : (c : tie.In-loop Inv-loop μ-loop)
-    → ((before-In c) .loop .pen .bits < 2 ^ 60) × ((before-In c) .loop .pen .bits + 32 *
-    (length ((before-tops-of (before-openings (before-At (before-In c)))) .args .row .now) - (before-In c) .loop .slot) + 64 ≤ 8 * length ((before-In c) .loop .out))
-room c = took-roomy ((before-In c) .loop .inv) ((before-tops-of (before-openings (before-At (before-In c)))) .pre .1) (c .loop-test .taken)
+    → ((before-in c) .loop .pen .bits < 2 ^ 60) × ((before-in c) .loop .pen .bits + 32 * (length ((entry c) .args .row .now) - (before-in c) .loop .slot) + 64 ≤ 8 *
+    length ((before-in c) .loop .out))
+room c = took-roomy ((before-in c) .loop .inv) ((entry c) .pre .1) (c .loop-test .taken)
 
 -- what was taken at once
 more : (c : tie.After-item-at Inv-loop μ-loop)
-    → Took ((before-tops-of (before-openings (before-At (before-In (before-top-of (before-opening (before-Else1 (before-Else2 (before-item-at c))))))))) .args .t1)
-    ((before-tops-of (before-openings (before-At (before-In (before-top-of (before-opening (before-Else1 (before-Else2 (before-item-at c))))))))) .args .parity)
-    ((before-tops-of (before-openings (before-At (before-In (before-top-of (before-opening (before-Else1 (before-Else2 (before-item-at c))))))))) .args .row .now)
-    (record {
-      slot = (before-In (before-top-of (before-opening (before-Else1 (before-Else2 (before-item-at c)))))) .loop .slot;
-      pen =
-          (before-In (before-top-of (before-opening (before-Else1 (before-Else2 (before-item-at c)))))) .loop .pen;
-    })
-    ((before-In (before-top-of (before-opening (before-Else1 (before-Else2 (before-item-at c)))))) .loop .out) (c .item-at .result)
-    (c .item-at .last .1 .1 .1 .1 .1 .1 .0)
+    → Took ((entry (turn-item-at c)) .args .t1) ((entry (turn-item-at c)) .args .parity) ((entry (turn-item-at c)) .args .row .now)
+    (record { slot = (before-in (turn-item-at c)) .loop .slot; pen = (before-in (turn-item-at c)) .loop .pen }) ((before-in (turn-item-at c)) .loop .out)
+    (c .item-at .result) (c .item-at .last .1 .1 .1 .1 .1 .1 .0)
 more c =
-    rw (parity-back ((before-tops-of (before-openings (before-At (before-In (before-top-of
-    (before-opening (before-Else1 (before-Else2 (before-item-at c))))))))) .args .parity)
-    ((before-openings (before-At (before-In (before-top-of (before-opening (before-Else1 (before-Else2 (before-item-at c)))))))) .tops-of .ensures)) at
-    (c .item-at .ensures ((before-tops-of (before-openings (before-At (before-In
-    (before-top-of (before-opening (before-Else1 (before-Else2 (before-item-at c))))))))) .args .t1)
-    (opens-here _ _ ((before-opening (before-Else1 (before-Else2 (before-item-at c)))) .top-of .ensures .0)
-    ((before-tops-of (before-openings (before-At (before-In (before-top-of (before-opening (before-Else1 (before-Else2 (before-item-at c))))))))) .args .t1)
-    ((before-Else1 (before-Else2 (before-item-at c))) .opening .ensures)))
+    rw (parity-back ((entry (turn-item-at c)) .args .parity) ((before-openings
+    (before-at (before-in (before-top-of (before-opening (before-else1 (before-else2 (before-item-at c)))))))) .tops-of .ensures)) at
+    (c .item-at .ensures ((entry (turn-item-at c)) .args .t1) (opens-here _ _ ((before-opening (before-else1 (before-else2 (before-item-at c)))) .top-of .ensures .0)
+    ((entry (turn-item-at c)) .args .t1) ((before-else1 (before-else2 (before-item-at c))) .opening .ensures)))
 
 tops-of-requires : tie.Need-tops-of-requires Inv-loop μ-loop
 tops-of-requires c κs = search needs
@@ -105,7 +113,7 @@ openings-requires : tie.Need-openings-requires Inv-loop μ-loop
 openings-requires c κs = search needs
 
 loop-holds : tie.Need-loop-holds Inv-loop μ-loop
-loop-holds c = took-none _ _ ((before-tops-of (before-openings (c .before))) .pre .1 .within)
+loop-holds c = took-none _ _ ((start-openings (c .before)) .pre .1 .within)
 
 mul-word : tie.Need-mul-word Inv-loop μ-loop
 mul-word c = search needs
@@ -115,10 +123,8 @@ shared-slice-read-word c = search needs
 
 top-of-requires : tie.Need-top-of-requires Inv-loop μ-loop
 top-of-requires c κs = (
-  tops-all ((before-tops-of (before-openings (before-At (before-In (c .before))))) .args .parity)
-      ((before-openings (before-At (before-In (c .before)))) .tops-of .ensures),
-  (before-tops-of (before-openings (before-At (before-In (c .before))))) .pre .0 _
-      ((c .before) .loop-test .taken),
+  tops-all ((entry (c .before)) .args .parity) ((before-openings (before-at (before-in (c .before)))) .tops-of .ensures),
+  (entry (c .before)) .pre .0 _ ((c .before) .loop-test .taken),
 )
 
 cast-opening : tie.Need-cast-opening Inv-loop μ-loop
@@ -128,90 +134,67 @@ array-copy-out-opening : tie.Need-array-copy-out-opening Inv-loop μ-loop
 array-copy-out-opening c = search needs
 
 opening-requires : tie.Need-opening-requires Inv-loop μ-loop
-opening-requires c κs = ((before-At (before-In (before-top-of (c .before .before)))) .openings .ensures, omega arith)
+opening-requires c κs = ((before-at (before-in (before-top-of (c .before .before)))) .openings .ensures, omega arith)
 
 single-requires : tie.Need-single-requires Inv-loop μ-loop
 single-requires c κs = (
-  opening-low _ _ ((before-Then1 c) .opening .ensures) (omega arith),
-  omega (arith, (before-opening (before-Then1 c)) .top-of .ensures .1),
+  opening-low _ _ ((before-then1 c) .opening .ensures) (omega arith),
+  omega (arith, (before-opening (before-then1 c)) .top-of .ensures .1),
   omega
       arith,
 )
 
 put-in-requires : tie.Need-put-in-requires Inv-loop μ-loop
-put-in-requires c κs = let r = room (before-top-of (before-opening (before-Then1 (before-single (c .before))))) in let f = single-short
-    (spot (before-opening (before-Then1 (before-single (c .before))))) ((before-tops-of
-    (before-openings (before-At (before-In (before-top-of (before-opening (before-Then1 (before-single (c .before))))))))) .args .t1)
-    ((before-Then1 (before-single (c .before))) .opening .ensures) ((before-single (c .before)) .if1 .taken) ((c .before) .single .ensures) in (
+put-in-requires c κs = let r = room (turn-single (c .before)) in let f = single-short (spot (before-opening (before-then1 (before-single (c .before)))))
+    ((entry (turn-single (c .before))) .args .t1) ((before-then1 (before-single (c .before))) .opening .ensures) ((before-single (c .before)) .if1 .taken)
+    ((c .before) .single .ensures) in (
       omega (arith, r .0),
       omega (arith, f),
-      single-fits (spot (before-opening (before-Then1 (before-single (c .before)))))
-          ((before-tops-of (before-openings (before-At (before-In (before-top-of (before-opening (before-Then1 (before-single (c .before))))))))) .args .t1)
-          ((before-Then1 (before-single (c .before))) .opening .ensures) ((before-single (c .before)) .if1 .taken) ((c .before) .single .ensures),
-      omega
-          (arith, r .1, (before-top-of (before-opening (before-Then1 (before-single (c .before))))) .loop-test .taken),
+      single-fits (spot (before-opening (before-then1 (before-single (c .before)))))
+          ((entry (turn-single (c .before))) .args .t1) ((before-then1 (before-single (c .before))) .opening .ensures) ((before-single (c .before)) .if1 .taken)
+          ((c .before) .single .ensures),
+      omega (arith, r .1, (turn-single (c .before)) .loop-test .taken),
     )
 
 add-slot : tie.Need-add-slot Inv-loop μ-loop
-add-slot c = omega (
-  arith,
-  (before-top-of (before-opening (before-Then1 (before-single (before-put-in (c .before .before)))))) .loop-test .taken,
-  (before-tops-of (before-openings (before-At (before-In (before-top-of (before-opening
-      (before-Then1 (before-single (before-put-in (c .before .before)))))))))) .pre .1 .short,
-)
+add-slot c = omega (arith, (turn-put-in (c .before .before)) .loop-test .taken, (entry (turn-put-in (c .before .before))) .pre .1 .short)
 
 loop-less : tie.Need-loop-less Inv-loop μ-loop
-loop-less c = omega (arith, (before-top-of (before-opening (before-Then1 (before-single (before-put-in (c .before .before)))))) .loop-test .taken)
+loop-less c = omega (arith, (turn-put-in (c .before .before)) .loop-test .taken)
 
 loop-again : tie.Need-loop-again Inv-loop μ-loop
-loop-again c = took-then ((before-In (before-top-of (before-opening (before-Then1 (before-single (before-put-in (c .before .before))))))) .loop .inv)
-    (single-taken (spot (before-opening (before-Then1 (before-single (before-put-in (c .before .before))))))
-    ((before-tops-of (before-openings (before-At (before-In (before-top-of (before-opening
-    (before-Then1 (before-single (before-put-in (c .before .before)))))))))) .args .t1)
-    ((before-Then1 (before-single (before-put-in (c .before .before)))) .opening .ensures) ((before-single (before-put-in (c .before .before))) .if1 .taken)
+loop-again c = took-then ((before-in (turn-put-in (c .before .before))) .loop .inv)
+    (single-taken (spot (before-opening (before-then1 (before-single (before-put-in (c .before .before)))))) ((entry (turn-put-in (c .before .before))) .args .t1)
+    ((before-then1 (before-single (before-put-in (c .before .before)))) .opening .ensures) ((before-single (before-put-in (c .before .before))) .if1 .taken)
     ((before-put-in (c .before .before)) .single .ensures) ((c .before .before) .put-in .ensures)) (omega arith)
 
 add-if2 : tie.Need-add-if2 Inv-loop μ-loop
-add-if2 c = omega (
-  arith,
-  (before-top-of (before-opening (before-Else1 c))) .loop-test .taken,
-  (before-tops-of (before-openings (before-At (before-In (before-top-of (before-opening (before-Else1 c))))))) .pre .1 .short,
-)
+add-if2 c = omega (arith, (turn-else1 c) .loop-test .taken, (entry (turn-else1 c)) .pre .1 .short)
 
 item-at-requires : tie.Need-item-at-requires Inv-loop μ-loop
-item-at-requires c κs = let r = room (before-top-of (before-opening (before-Else1 (before-Else2 (c .before))))) in (
+item-at-requires c κs = let r = room (turn-else2 (c .before)) in (
   record {
-    all = tops-all ((before-tops-of (before-openings (before-At (before-In
-        (before-top-of (before-opening (before-Else1 (before-Else2 (c .before))))))))) .args .parity)
-        ((before-openings (before-At (before-In (before-top-of (before-opening (before-Else1 (before-Else2 (c .before)))))))) .tops-of .ensures);
+    all = tops-all ((entry (turn-else2 (c .before))) .args .parity)
+        ((before-openings (before-at (before-in (before-top-of (before-opening (before-else1 (before-else2 (c .before)))))))) .tops-of .ensures);
     words =
-        (before-tops-of (before-openings (before-At (before-In (before-top-of (before-opening (before-Else1 (before-Else2 (c .before))))))))) .pre .0;
-    five = omega
-        (arith, (c .before) .if2 .left);
-    short = (before-tops-of (before-openings
-        (before-At (before-In (before-top-of (before-opening (before-Else1 (before-Else2 (c .before))))))))) .pre .1 .short;
+        (entry (turn-else2 (c .before))) .pre .0;
+    five = omega (arith, (c .before) .if2 .left);
+    short = (entry (turn-else2 (c .before))) .pre .1 .short;
     is = refl;
     says =
-        (before-opening (before-Else1 (before-Else2 (c .before)))) .top-of .ensures .0;
+        (before-opening (before-else1 (before-else2 (c .before)))) .top-of .ensures .0;
     few = r .0;
     room = omega (arith, r .1, (c .before) .if2 .left);
   },
   record
-      { kind = _; is = (before-Else1 (before-Else2 (c .before))) .opening .ensures },
+      { kind = _; is = (before-else1 (before-else2 (c .before))) .opening .ensures },
 )
 
 loop-less-2 : tie.Need-loop-less-2 Inv-loop μ-loop
-loop-less-2 c = let m = more (before-Else3 (c .before)) in omega (
-  arith,
-  m .onward,
-  m .room,
-  (c .before) .if3 .left,
-  (before-top-of (before-opening (before-Else1 (before-Else2 (before-item-at (before-Else3 (c .before))))))) .loop-test .taken,
-)
+loop-less-2 c = let m = more (before-else3 (c .before)) in omega (arith, m .onward, m .room, (c .before) .if3 .left, (turn-else3 (c .before)) .loop-test .taken)
 
 loop-again-2 : tie.Need-loop-again-2 Inv-loop μ-loop
-loop-again-2 c = let m = more (before-Else3 (c .before)) in took-then ((before-In
-    (before-top-of (before-opening (before-Else1 (before-Else2 (before-item-at (before-Else3 (c .before)))))))) .loop .inv) m
+loop-again-2 c = let m = more (before-else3 (c .before)) in took-then ((before-in (turn-else3 (c .before))) .loop .inv) m
     (less-or-same (m .onward) ((c .before) .if3 .left))
 
 same-length : tie.Need-same-length Inv-loop μ-loop
@@ -221,18 +204,16 @@ returns : tie.Need-returns Inv-loop μ-loop
 returns c = (c .before) .loop .inv
 
 same-length-2 : tie.Need-same-length-2 Inv-loop μ-loop
-same-length-2 c = (before-In (before-top-of (before-opening (before-Else1 (c .before))))) .loop .inv .long
+same-length-2 c = (before-in (turn-else1 (c .before))) .loop .inv .long
 
 returns-2 : tie.Need-returns-2 Inv-loop μ-loop
-returns-2 c = (before-In (before-top-of (before-opening (before-Else1 (c .before))))) .loop .inv
+returns-2 c = (before-in (turn-else1 (c .before))) .loop .inv
 
 same-length-3 : tie.Need-same-length-3 Inv-loop μ-loop
-same-length-3 c = more (c .before .before .before .before) .long ∙ (before-In
-    (before-top-of (before-opening (before-Else1 (before-Else2 (before-item-at (c .before .before .before .before))))))) .loop .inv .long
+same-length-3 c = more (c .before .before .before .before) .long ∙ (before-in (turn-item-at (c .before .before .before .before))) .loop .inv .long
 
 returns-3 : tie.Need-returns-3 Inv-loop μ-loop
-returns-3 c = took-still ((before-In (before-top-of (before-opening (before-Else1 (before-Else2 (before-item-at (c .before .before .before .before))))))) .loop .inv)
-    (more (c .before .before .before .before)) (c .if3 .taken)
+returns-3 c = took-still ((before-in (turn-item-at (c .before .before .before .before))) .loop .inv) (more (c .before .before .before .before)) (c .if3 .taken)
 
 pub take-spec : {M : Type 1} → statement M
 take-spec =
