@@ -5,7 +5,7 @@
  * times back. There are three functions, below: vin_compose, vin_read and vin_read_closed; and over
  * them vin_plan_compose, vin_plan_read and vin_plan_read_closed, which take the plan as a struct
  * and null pointers for runs of length 0. C99 or later, or C++. Link with libvinculampe.a (x86-64,
- * System V calling convention).
+ * System V calling convention; that of `make NATIVE=yes` is for the machine it was made on).
  *
  * What every function promises
  *   - Every input is taken. Either the work is done and the answer's number is 0, or the call is
@@ -319,8 +319,8 @@ typedef struct {
 } vin_plan;
 
 /* A plan of so many words and tracks, without frame time, CRC and parity, and with no bus used. Begin
- * every plan with it: a field that a later version adds then has the value that means what was so
- * before. */
+ * every plan with it: a field that a later version adds, at the struct's end, then has the value that
+ * means what was so before, which need not be 0. */
 #define VIN_PLAN_INIT(words, tracks) {(uint32_t)(words), (uint32_t)(tracks), 0, 0, 0, {0}}
 
 static inline const uint8_t *vin_run_(const uint8_t *given_)

@@ -82,3 +82,15 @@ done_by pack t -o new
 says 0 "$(cat t)" list new
 same "a tagged command at the edge" <(bytes 1F FF FF FF FF FF FF E7 0F) <(head -c 9 new)
 rm -f t new
+
+# To a terminal nothing is packed unless it is asked for; to a pipe it is. (script gives a terminal.)
+if command -v script >/dev/null; then
+    echo "dat 2 A 0001" >t
+    printf -v line '%q ' "${vin[@]}" pack t
+    script -qec "$line" /dev/null </dev/null 2>&1 | tr -d '\r' >have
+    echo "vin: pack: no output is named, and standard output is a terminal: -o FILE, or -o -" >want
+    same "pack to a terminal" want have
+    script -qec "$line -o -" /dev/null </dev/null | cmp -s - <(bytes 32 00 00 80)
+    result "pack to a terminal that is asked for" $?
+    rm -f t have want
+fi
