@@ -59,7 +59,7 @@ extern "C" {
 
 /* ==== The plan ===================================================================================
  *
- *   words       L, the words of a frame, the sync word counted: 129 to 511
+ *   words       L, the words of a frame, the sync word counted: 128 to 512
  *   tracks      T, the frames of a group: 1 to 4
  *   frame_time  1: three frame time words open every group; 0: none
  *   crc         1: the last word of every frame is the CRC word; 0: it is a data slot
@@ -214,13 +214,13 @@ static inline const char *vin_text(uint32_t number_)
  * 262,140 bits. Groups are whole, so the capture is largest where the last group is nearly all
  * fill: of all legal plans with L 462, T 4 and CRC. There a group has 4 x 461 - 4 = 1,840 slots
  * (1,837 with frame time), 8 groups hold 14,720 (14,696) words, and a 9th is needed: 9 x 4 x 462 x
- * 3 = 49,896 bytes. The most groups are 119: L 129, T 1, CRC and frame time, 124 slots. */
+ * 3 = 49,896 bytes. The most groups are 120: L 128, T 1, CRC and frame time, 123 slots. */
 
 #define VIN_LOG_MAX 32768            /* bytes of a log */
 #define VIN_CAPTURE_MAX 1048576      /* bytes of a capture that is read */
 #define VIN_COMPOSED_MAX 49896       /* bytes of a capture that is composed, by any plan */
-#define VIN_COMPOSED_GROUPS_MAX 119  /* its groups, by any plan */
-#define VIN_READ_GROUPS_MAX 2709     /* groups of a capture that is read: 1,048,576 / (3 x 129) */
+#define VIN_COMPOSED_GROUPS_MAX 120  /* its groups, by any plan */
+#define VIN_READ_GROUPS_MAX 2730     /* groups of a capture that is read: 1,048,576 / (3 x 128) */
 #define VIN_TIME_BYTES 8             /* bytes of a frame time */
 #define VIN_STACK_BYTES 73728        /* stack that a call needs: measured, tests/abi/stack.c */
 

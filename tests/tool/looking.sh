@@ -100,8 +100,8 @@ dump="PLAN CAPTURE [--from WORD] [--count N] [--group G] [--bus B] [--stored] [-
 usage dump "--from -1: a decimal number is needed" "$dump" p bad --from -1
 usage dump "--count needs a number" "$dump" p bad --count
 # The plan and the length are refused as reading refuses them.
-plan "words 128" "tracks 1"
-refused "vin: p:1: refused by 1 at 0: words is 128: a frame has 129 to 511 words" dump p bad
+plan "words 127" "tracks 1"
+refused "vin: p:1: refused by 1 at 0: words is 127: a frame has 128 to 512 words" dump p bad
 refused "vin: bad: refused by 8 at 387: 387 bytes are not whole groups of 1548 bytes; left over: 387" dump four-track.plan bad
 
 # What a capture and a log hold.
