@@ -7,15 +7,12 @@ use Rattle.crc.proofs.Sum.with_same.Reads as reads
 use Rattle.crc.proofs.Sum.with_same.Lts as lts
 use Rattle.crc.proofs.Sum.add_same.Reads as add-same-reads
 
--- src/lib.rt:133:13
 add-same-requires : tie.Need-add-same-requires
 add-same-requires c κs = search needs
 
--- src/lib.rt:128:5
 returns : tie.Need-returns
 returns c = summed-true (c .before .if1 .taken) (c .add-same .ensures)
 
--- src/lib.rt:128:5
 returns-2 : tie.Need-returns-2
 returns-2 c = summed-false (same (c .before .args .word) (c .before .args .times)) (c .if1 .left) (c .before .pre .0)
 
