@@ -1,6 +1,6 @@
 // Composing (document 01, "Groups" and "Answers by number"): from a log and its frame times to the bytes of the groups.
 
-ghost use mathlib.Core.Bool.{cond, true};
+ghost use mathlib.Core.Bool.{true};
 ghost use mathlib.Core.Path.{_≡_};
 ghost use Prim.Native.Nat.{ℕ, min, _+_, _*_, _<_, _≤_};
 ghost use lib.ListN.{getD, length};
