@@ -2,7 +2,7 @@
 use Prim.Native.Nat.{ℕ, _+_, _*_, _^_, _≤_, _<_}
 use native.Mathlib.Omega.{arith}
 use native.Mathlib.Nat.{mul-le-mul-right}
-use mathlib.Core.Bool.{Bool}
+use mathlib.Core.Bool.{Bool, true}
 use mathlib.Core.Path.{_≡_, refl, ap, _∙_}
 use mathlib.Core.List.{List, [], _∷_, _++_, append-assoc, flatMap}
 use lib.ListN.{length, take, drop, getD}
@@ -10,9 +10,9 @@ use Rattle.format.specs.Word.{sent, fill, bytesOf}
 use Rattle.format.specs.Lawful.{buses}
 use Rattle.format.specs.Lists.{list}
 use Rattle.format.specs.declared.Plan.{Plan}
-use Rattle.crc.specs.Sum.{Small, Summed}
+use Rattle.crc.specs.Sum.{Small, Added, Summed}
 use Rattle.crc.specs.declared.Sum.{Sum}
-use Rattle.crc.proofs.Sums.{summed-none, summed-more}
+use Rattle.crc.proofs.Sums.{summed-none, summed-more, summed-true, summed-is}
 use Rattle.group_write.specs.Writing.{Unsent, Run, rowWord, sentRows}
 use Rattle.group_write.proofs.Laws.{all-getD, list-more}
 use Rattle.group_write.proofs.Words.{Written, written-none, written-word, written-is}
@@ -55,7 +55,7 @@ module _ (p : Plan) (ws : List ℕ) (first : ℕ) where
 pub record Put (p : Plan) (ws : List ℕ) (first n : ℕ) (before : Sum) (d : List ℕ) (row s : ℕ) (sum : Sum) (out : List ℕ) : Type 0 where
   pub within : row ≤ n
   pub at : s ≡ row * p .tracks + first
-  pub sums : Summed (p .crc) before (sentRows p ws first row) sum
+  pub sums : Summed true before (sentRows p ws first row) sum
   pub bytes : Written (sentRows p ws first row) row d out
 
 module _ (p : Plan) (ws : List ℕ) (first n : ℕ) (before : Sum) (d : List ℕ) (run : Run p ws first n d) where
@@ -63,7 +63,7 @@ module _ (p : Plan) (ws : List ℕ) (first n : ℕ) (before : Sum) (d : List ℕ
   put-none h = record {
     within = omega arith;
     at = omega arith;
-    sums = summed-rows (rowWord p ws first) (p .crc) before h;
+    sums = summed-rows (rowWord p ws first) true before h;
     bytes = written-rows (rowWord p ws first) d;
   }
 
@@ -86,25 +86,25 @@ module _ (p : Plan) (ws : List ℕ) (first n : ℕ) (before : Sum) (d : List ℕ
     one-written v h e x = written-row (rowWord p ws first) row v (q .bytes) (one-is v h e) (omega (arith, run .room)) x
 
     pub put-one : {xs : List ℕ} {t : Sum} (v : ℕ) → row < n → v ≡ sent (p .parity) (getD ws s 0) → xs ≡ take (3 * row) out ++ (bytesOf v ++ drop (3 * row + 3) out)
-        → Summed (p .crc) sum (v ∷ []) t → Put p ws first n before d (row + 1) (s + p .tracks) t xs
+        → Added sum (v ∷ []) t → Put p ws first n before d (row + 1) (s + p .tracks) t xs
     put-one v h e x a = record {
       within = omega arith;
       at = omega (arith, q .at);
-      sums = summed-row (rowWord p ws first) (p .crc) row v (q .sums) (one-is v h e) a;
+      sums = summed-row (rowWord p ws first) true row v (q .sums) (one-is v h e) (summed-true refl a);
       bytes = one-written v h e x;
     }
 
     pub put-two : {xs ys : List ℕ} {t : Sum} (v w : ℕ) → row + 1 < n → v ≡ sent (p .parity) (getD ws s 0) → w ≡ sent (p .parity) (getD ws (s + p .tracks) 0)
         → xs ≡ take (3 * row) out ++ (bytesOf v ++ drop (3 * row + 3) out) → ys ≡ take (3 * (row + 1)) xs ++ (bytesOf w ++ drop (3 * (row + 1) + 3) xs)
-        → Summed (p .crc) sum (v ∷ w ∷ []) t → Put p ws first n before d (row + 2) (s + 2 * p .tracks) t ys
+        → Added sum (v ∷ w ∷ []) t → Put p ws first n before d (row + 2) (s + 2 * p .tracks) t ys
     put-two v w h e g x y a =
         let two : row + 1 + 1 ≡ row + 2 = omega arith in
         record {
           within = omega arith;
           at = omega (arith, q .at);
-          sums = summed-two-rows (rowWord p ws first) (p .crc) row v w (q .sums) (one-is v (omega arith) e) (two-is w h g) a;
+          sums = summed-two-rows (rowWord p ws first) true row v w (q .sums) (one-is v (omega arith) e) (two-is w h g) (summed-true refl a);
           bytes = rw two at (written-row (rowWord p ws first) (row + 1) w (one-written v (omega arith) e x) (two-is w h g) (omega (arith, run .room)) y);
         }
 
-    pub put-all : row ≡ n → Summed (p .crc) before (sentRows p ws first n) sum × (out ≡ flatMap bytesOf (sentRows p ws first n) ++ drop (3 * n) d)
-    put-all e = (rw (← e) (q .sums), written-is (q .bytes) (ap (sentRows p ws first) e) e)
+    pub put-all : row ≡ n → Added before (sentRows p ws first n) sum × (out ≡ flatMap bytesOf (sentRows p ws first n) ++ drop (3 * n) d)
+    put-all e = (rw (← e) (summed-is refl (q .sums)), written-is (q .bytes) (ap (sentRows p ws first) e) e)

@@ -10,7 +10,7 @@ ghost use Rattle.format.specs.Lawful.{buses};
 ghost use Rattle.format.specs.Time.{timeEnd};
 ghost use Rattle.format.specs.Plan.{rows, lead, slots, groupWords};
 ghost use Rattle.format.specs.Group.{timeWords, frame, group};
-ghost use Rattle.crc.specs.Sum.{Small, Sums, Summed};
+ghost use Rattle.crc.specs.Sum.{Small, Sums, Added, Summed};
 ghost use Rattle.format.specs.Laws.Limits.{Shape, mostRows};
 ghost use Rattle.format.specs.Group.{dealtOf};
 ghost use Rattle.group_write.specs.Writing.{Run, Unsent, Timed, front, sentRows, sameRows, rowsWith};
@@ -66,8 +66,51 @@ fn put_row(out: &mut [u8], parity: bool, row: usize, word: u32) -> u32
     sent
 }
 
-// A run of a track's rows: every `plan.tracks`-th word from `first` on; and the sum of what was sent so far. Two rows a turn, for
-// `Sum::add_two`.
+// A run of a track's rows: every `plan.tracks`-th word from `first` on.
+fn put_plain(out: &mut [u8], plan: Plan, words: &[u32], first: usize, rows: usize)
+    requires { ⌜ Shape plan × Run plan (now words) first rows (now out) ⌝ }
+    ensures { λ _. ⌜ now (out .exit) ≡ flatMap bytesOf (sentRows plan (now (words .entry)) first rows) ++ drop (3 * rows) (now (out .entry)) ⌝ }
+{
+    let mut s = first;
+    let mut row = 0;
+    while row < rows {
+        put_row(out, plan.parity, row, words[s]);
+        s += plan.tracks;
+        row += 1;
+    }
+}
+
+// The same, and the sum of what was sent so far; two rows a turn, for `Sum::add_two`.
+fn put_summed(
+    out: &mut [u8],
+    plan: Plan,
+    words: &[u32],
+    first: usize,
+    rows: usize,
+    before: Sum,
+) -> Sum
+    requires { ⌜ Shape plan × Run plan (now words) first rows (now out) × Small before ⌝ }
+    ensures { λ r. ⌜ Added before (sentRows plan (now (words .entry)) first rows) r
+        × (now (out .exit) ≡ flatMap bytesOf (sentRows plan (now (words .entry)) first rows) ++ drop (3 * rows) (now (out .entry))) ⌝ }
+{
+    let mut sum = before;
+    let mut s = first;
+    let mut row = 0;
+    while row + 1 < rows {
+        let one = put_row(out, plan.parity, row, words[s]);
+        let two = put_row(out, plan.parity, row + 1, words[s + plan.tracks]);
+        sum = sum.add_two(one, two);
+        s += 2 * plan.tracks;
+        row += 2;
+    }
+    if row < rows {
+        let last = put_row(out, plan.parity, row, words[s]);
+        return sum.add(last);
+    }
+    sum
+}
+
+// With CRC what is sent is summed, else it is only written: a loop of one row a turn can be done for several rows at once.
 fn put_rows(
     out: &mut [u8],
     plan: Plan,
@@ -80,21 +123,11 @@ fn put_rows(
     ensures { λ r. ⌜ Summed (plan .crc) before (sentRows plan (now (words .entry)) first rows) r
         × (now (out .exit) ≡ flatMap bytesOf (sentRows plan (now (words .entry)) first rows) ++ drop (3 * rows) (now (out .entry))) ⌝ }
 {
-    let mut sum = before;
-    let mut s = first;
-    let mut row = 0;
-    while row + 1 < rows {
-        let one = put_row(out, plan.parity, row, words[s]);
-        let two = put_row(out, plan.parity, row + 1, words[s + plan.tracks]);
-        sum = sum.with_two(plan.crc, one, two);
-        s += 2 * plan.tracks;
-        row += 2;
+    if plan.crc {
+        return put_summed(out, plan, words, first, rows, before);
     }
-    if row < rows {
-        let last = put_row(out, plan.parity, row, words[s]);
-        return sum.with_one(plan.crc, last);
-    }
-    sum
+    put_plain(out, plan, words, first, rows);
+    before
 }
 
 fn fill_rows(out: &mut [u8], fill: u32, rows: usize)
