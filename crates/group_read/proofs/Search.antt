@@ -14,6 +14,9 @@ use Rattle.format.specs.Check.{checkOf, checkWord}
 use Rattle.format.specs.Group.{Fault, none, found, orElse, unless, firstOf, faultAt, storedFault, timeFault, groupFault}
 use Rattle.format.specs.declared.Plan.{Plan}
 use Rattle.crc.specs.Running.{nextCheck, checkFrom}
+use Rattle.crc.specs.Sum.{Small, Sums, Summed, checkOfSum}
+use Rattle.crc.specs.declared.Sum.{Sum}
+use Rattle.crc.proofs.Sums.{check-none, summed-one, summed-two}
 use Rattle.crc.proofs.Running.{check-is-from, check-more}
 use native.Mathlib.Decide.{decLt}
 use Rattle.group_read.specs.Reach.{checkSoFar, Clean}
@@ -80,7 +83,7 @@ check-goes-on : (crc : Bool) (c : List ℕ) (first j : ℕ)
 check-goes-on true c first j = sym (ap checkOf (list-more-at (wordAt c) first j) ∙ check-more (list (wordAt c) first j) (wordAt c (first + j)))
 check-goes-on false c first j = refl
 
-pub check-of-more : (crc : Bool) (c : List ℕ) (first j : ℕ) {w check r : ℕ} → w ≡ wordAt c (first + j) → check ≡ checkSoFar crc c first j
+check-of-more : (crc : Bool) (c : List ℕ) (first j : ℕ) {w check r : ℕ} → w ≡ wordAt c (first + j) → check ≡ checkSoFar crc c first j
     → r ≡ cond crc (nextCheck check w) check → r ≡ checkSoFar crc c first (j + 1)
 check-of-more crc c first j e k h = h ∙ rw (e, k) (check-goes-on crc c first j)
 
@@ -91,10 +94,18 @@ check-of-two true c first j {one} {two} {check} e f k h =
     check-of-more true c first (j + 1) f (check-of-more true c first j {w = one} {check = check} {r = nextCheck check one} e k refl) h ∙ ap (checkSoFar true c first) s
 check-of-two false c first j e f k h = h ∙ k
 
-pub check-of-sync : (crc : Bool) (c : List ℕ) (first : ℕ) {w r : ℕ} → w ≡ wordAt c first → r ≡ cond crc (nextCheck 0 w) 0 → r ≡ checkSoFar crc c first 1
+check-of-sync : (crc : Bool) (c : List ℕ) (first : ℕ) {w r : ℕ} → w ≡ wordAt c first → r ≡ cond crc (nextCheck 0 w) 0 → r ≡ checkSoFar crc c first 1
 check-of-sync crc c first e h =
     let z : first ≡ first + 0 = omega arith in
     check-of-more crc c first 0 (e ∙ ap (wordAt c) z) (sym (check-starts crc c first)) h
+
+-- said of sums
+pub sum-of-sync : (crc : Bool) (c : List ℕ) (first : ℕ) {w : ℕ} {s t : Sum} → w ≡ wordAt c first → Sums [] s → Summed crc s (w ∷ []) t → checkOfSum t ≡ checkSoFar crc c first 1
+sum-of-sync crc c first {w} {s} e p q = check-of-sync crc c first e (rw (check-none p) at (summed-one crc q))
+
+pub sum-of-more : (crc : Bool) (c : List ℕ) (first j : ℕ) {w : ℕ} {s t : Sum} → w ≡ wordAt c (first + j) → checkOfSum s ≡ checkSoFar crc c first j → Summed crc s (w ∷ []) t
+    → checkOfSum t ≡ checkSoFar crc c first (j + 1)
+sum-of-more crc c first j e k q = check-of-more crc c first j e k (summed-one crc q)
 
 pub check-word-low : (r : ℕ) → r < 2 ^ 16 → wordOf 0 3 r < 2 ^ 24
 unfolding wordOf
@@ -131,13 +142,13 @@ module _ (p : Plan) (c : List ℕ) (first : ℕ) where
   quiet zero h a b = absurd (omega arith)
   quiet (suc j) h a b = rw (a, b) refl
 
-  pub clean-start : (parity crc : Bool) → p .parity ≡ parity → p .crc ≡ crc → 1 ≤ p .words → (check k : ℕ) → check < 2 ^ 16 → check ≡ checkSoFar (p .crc) c first 1
-      → k ≡ cond (parity || crc) 1 (p .words) → Clean p c first (record { position = k; check = check })
-  clean-start true crc a b h check k l e z =
+  pub clean-start : (parity crc : Bool) → p .parity ≡ parity → p .crc ≡ crc → 1 ≤ p .words → (sum : Sum) (k : ℕ) → Small sum → checkOfSum sum ≡ checkSoFar (p .crc) c first 1
+      → k ≡ cond (parity || crc) 1 (p .words) → Clean p c first (record { position = k; sum = sum })
+  clean-start true crc a b h sum k l e z =
       record { past = omega arith; within = omega arith; low = l; is = e ∙ ap (checkSoFar (p .crc) c first) (sym z); fine = λ j m n. absurd (omega arith) }
-  clean-start false true a b h check k l e z =
+  clean-start false true a b h sum k l e z =
       record { past = omega arith; within = omega arith; low = l; is = e ∙ ap (checkSoFar (p .crc) c first) (sym z); fine = λ j m n. absurd (omega arith) }
-  clean-start false false a b h check k l e z =
+  clean-start false false a b h sum k l e z =
       record { past = omega arith; within = omega arith; low = l; is = e ∙ rw b refl; fine = λ j m n. quiet j m a b }
 
   one-more : (k : ℕ) → ((j : ℕ) → 1 ≤ j → j < k → faultAt p c first j ≡ none) → faultAt p c first k ≡ none → (j : ℕ) → 1 ≤ j → j < k + 1 → faultAt p c first j ≡ none
@@ -147,14 +158,22 @@ module _ (p : Plan) (c : List ℕ) (first : ℕ) where
       go (yes l) = f j m l
       go (no l) = let e : j ≡ k = omega arith in ap (faultAt p c first) e ∙ g
 
-  pub clean-two : (q : Reached) → Clean p c first q → q .position + 2 < p .words → {one two check : ℕ} → one ≡ wordAt c (first + q .position) → two ≡ wordAt c (first + q .position + 1)
-      → (not (p .parity) || isOdd one && isOdd two) ≡ true → check < 2 ^ 16 → check ≡ cond (p .crc) (nextCheck (nextCheck (q .check) one) two) (q .check)
-      → Clean p c first (record { position = q .position + 2; check = check })
-  clean-two q k h {one} {two} {check} e f o l z =
+  pub clean-two : (q : Reached) → Clean p c first q → q .position + 2 < p .words → {one two : ℕ} {sum : Sum} → one ≡ wordAt c (first + q .position) → two ≡ wordAt c (first + q .position + 1)
+      → (not (p .parity) || isOdd one && isOdd two) ≡ true → Summed (p .crc) (q .sum) (one ∷ two ∷ []) sum
+      → Clean p c first (record { position = q .position + 2; sum = sum })
+  clean-two q k h {one} {two} {sum} e f o z =
       let b = both-odd (p .parity) (isOdd one) (isOdd two) o in
       let s : first + q .position + 1 ≡ first + (q .position + 1) = omega arith in
       let f' : two ≡ wordAt c (first + (q .position + 1)) = f ∙ ap (wordAt c) s in
-      record { past = omega (arith, k .past); within = omega arith; low = l; is = check-of-two (p .crc) c first (q .position) e f' (k .is) z; fine = λ j m n. one-more (q .position + 1) (one-more (q .position) (k .fine) (word-fine (q .position) (k .past) (omega arith) e (b .0))) (word-fine (q .position + 1) (omega arith) (omega arith) f' (b .1)) j m (omega arith) }
+      let one-fine = word-fine (q .position) (k .past) (omega arith) e (b .0) in
+      let two-fine = word-fine (q .position + 1) (omega arith) (omega arith) f' (b .1) in
+      record {
+        past = omega (arith, k .past);
+        within = omega arith;
+        low = z .small;
+        is = check-of-two (p .crc) c first (q .position) e f' (k .is) (summed-two (p .crc) z);
+        fine = λ j m n. one-more (q .position + 1) (one-more (q .position) (k .fine) one-fine) two-fine j m (omega arith);
+      }
 
 -- ---- the rest of the search
 

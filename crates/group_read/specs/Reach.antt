@@ -1,5 +1,5 @@
 -- How far a frame is checked, on the way to a group's first fault.
-use Prim.Native.Nat.{ℕ, _≤_, _<_, _^_}
+use Prim.Native.Nat.{ℕ, _≤_, _<_}
 use mathlib.Core.Path.{_≡_}
 use mathlib.Core.Bool.{Bool, cond}
 use mathlib.Core.List.{List}
@@ -8,6 +8,7 @@ use Rattle.format.specs.Word.{wordAt}
 use Rattle.format.specs.Check.{checkOf}
 use Rattle.format.specs.Group.{none, faultAt}
 use Rattle.format.specs.declared.Plan.{Plan}
+use Rattle.crc.specs.Sum.{Small, checkOfSum}
 use Rattle.group_read.specs.declared.Reached.{Reached}
 
 -- the check of the j words from the place `first` on, 0 where no CRC word is chosen
@@ -18,6 +19,6 @@ checkSoFar crc c first j = cond crc (checkOf (list (wordAt c) first j)) 0
 pub record Clean (p : Plan) (c : List ℕ) (first : ℕ) (q : Reached) : Type 0 where
   pub past : 1 ≤ q .position
   pub within : q .position ≤ p .words
-  pub low : q .check < 2 ^ 16
-  pub is : q .check ≡ checkSoFar (p .crc) c first (q .position)
+  pub low : Small (q .sum)
+  pub is : checkOfSum (q .sum) ≡ checkSoFar (p .crc) c first (q .position)
   pub fine : (j : ℕ) → 1 ≤ j → j < q .position → faultAt p c first j ≡ none

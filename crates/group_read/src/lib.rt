@@ -1,18 +1,19 @@
 // One group as read: its first fault, its time, and where its dealt words stand.
 
 ghost use mathlib.Core.Path.{_≡_};
-ghost use mathlib.Core.Bool.{true, cond, not, _&&_, _||_};
+ghost use mathlib.Core.Bool.{not, _&&_, _||_};
 ghost use Prim.Native.Nat.{ℕ, _+_, _*_, _≤_, _<_, _^_};
 ghost use lib.ListN.{length};
 ghost use lib.Dec.{eqb};
 ghost use Rattle.format.specs.Word.{wordOf, wordAt, isOdd, sent};
 ghost use Rattle.format.specs.Plan.{lead, groupWords, placeOf};
 ghost use Rattle.format.specs.Group.{none, unless, groupFault, timeFault, timeInfo, groupTime};
-ghost use Rattle.crc.specs.Running.{entries, farEntries, nextCheck};
+ghost use Rattle.crc.specs.Sum.{Small, checkOfSum};
 ghost use Rattle.format.specs.Laws.Limits.{Shape};
 ghost use Rattle.group_read.specs.Position.{Dealt, Follows, positionOf};
 ghost use Rattle.group_read.specs.Faults.{faultOf, firstChecked, earlierFault, isTimeWord, numberUnless, dueNumber, earlierNumber, wordNumber};
 ghost use Rattle.group_read.specs.Reach.{Clean};
+use crc::Sum;
 use format::Plan;
 use format::Time;
 
@@ -28,10 +29,10 @@ pub struct Position {
     pub place: usize,
 }
 
-// How far a frame is checked: the position reached, and the check of the words before it.
+// How far a frame is checked: the position reached, and with CRC the sum of the words before it.
 struct Reached {
     position: usize,
-    check: u32,
+    sum: Sum,
 }
 
 // The first data slot of the group whose first stored word is `at`.
@@ -180,13 +181,13 @@ fn check_number(parity: bool, check: u32, word: u32) -> u32
     }
 }
 
-fn due_number(parity: bool, crc: bool, last: bool, check: u32, word: u32) -> u32
-    requires { ⌜ check < 2 ^ 16 ⌝ }
-    ensures { λ r. ⌜ r ≡ dueNumber parity (crc && last) check word ⌝ }
+fn due_number(parity: bool, crc: bool, last: bool, sum: Sum, word: u32) -> u32
+    requires { ⌜ Small sum ⌝ }
+    ensures { λ r. ⌜ r ≡ dueNumber parity (crc && last) (checkOfSum sum) word ⌝ }
 {
     if crc {
         if last {
-            check_number(parity, check, word)
+            check_number(parity, sum.check(), word)
         } else {
             0
         }
@@ -201,36 +202,14 @@ fn earlier_number(first: u32, then: u32) -> u32
     if first == 0 { then } else { first }
 }
 
-// "10 for any other, 11 after 10 for a CRC word": a word past the sync word, the words before it having this check.
-fn word_number(parity: bool, crc: bool, last: bool, check: u32, word: u32) -> u32
-    requires { ⌜ (check < 2 ^ 16) × (word < 2 ^ 24) ⌝ }
-    ensures { λ r. ⌜ r ≡ wordNumber parity (crc && last) check word ⌝ }
+// "10 for any other, 11 after 10 for a CRC word": a word past the sync word, the words before it having this sum.
+fn word_number(parity: bool, crc: bool, last: bool, sum: Sum, word: u32) -> u32
+    requires { ⌜ Small sum × (word < 2 ^ 24) ⌝ }
+    ensures { λ r. ⌜ r ≡ wordNumber parity (crc && last) (checkOfSum sum) word ⌝ }
 {
     let even = parity_number(parity, word);
-    let wrong = due_number(parity, crc, last, check, word);
+    let wrong = due_number(parity, crc, last, sum, word);
     earlier_number(even, wrong)
-}
-
-fn next_check(tables: &[u32; 768], crc: bool, check: u32, word: u32) -> u32
-    requires { ⌜ (crc ≡ true → now tables ≡ entries) × (check < 2 ^ 16) × (word < 2 ^ 24) ⌝ }
-    ensures { λ r. ⌜ (r ≡ cond crc (nextCheck check word) check) × (r < 2 ^ 16) ⌝ }
-{
-    if crc {
-        crc::step(tables, check, word)
-    } else {
-        check
-    }
-}
-
-fn next_two(tables: &[u32; 768], far: &[u32; 768], crc: bool, check: u32, one: u32, two: u32) -> u32
-    requires { ⌜ (crc ≡ true → now tables ≡ entries) × (crc ≡ true → now far ≡ farEntries) × (check < 2 ^ 16) × (one < 2 ^ 24) × (two < 2 ^ 24) ⌝ }
-    ensures { λ r. ⌜ (r ≡ cond crc (nextCheck (nextCheck check one) two) check) × (r < 2 ^ 16) ⌝ }
-{
-    if crc {
-        crc::step_two(tables, far, check, one, two)
-    } else {
-        check
-    }
 }
 
 // Neither of two words has a fault of parity.
@@ -255,42 +234,29 @@ fn first_checked(plan: Plan) -> usize
     if plan.crc { 1 } else { plan.words }
 }
 
-// Goes on two words a step, for `crc::step_two`: up to a word that has a fault, or near the frame's last word.
-fn skim(
-    capture: &[u8],
-    tables: &[u32; 768],
-    far: &[u32; 768],
-    plan: Plan,
-    first: usize,
-    from: Reached,
-) -> Reached
-    requires { ⌜ Clean plan (now capture) first from × (3 * (first + plan .words) ≤ length (now capture)) × (length (now capture) ≤ 1048576) × (plan .crc ≡ true → now tables ≡ entries) × (plan .crc ≡ true → now far ≡ farEntries) ⌝ }
+// Goes on two words a step, for `Sum::add_two`: up to a word that has a fault, or near the frame's last word.
+fn skim(capture: &[u8], plan: Plan, first: usize, from: Reached) -> Reached
+    requires { ⌜ Clean plan (now capture) first from × (3 * (first + plan .words) ≤ length (now capture)) × (length (now capture) ≤ 1048576) ⌝ }
     ensures { λ r. ⌜ Clean plan (now (capture .entry)) first r ⌝ }
 {
     let mut position = from.position;
-    let mut check = from.check;
+    let mut sum = from.sum;
     while position + 2 < plan.words {
         let one = stored_word(capture, first + position);
         let two = stored_word(capture, first + position + 1);
         if are_odd(plan.parity, one, two) {
-            check = next_two(tables, far, plan.crc, check, one, two);
+            sum = sum.with_two(plan.crc, one, two);
             position += 2;
         } else {
-            return Reached { position, check };
+            return Reached { position, sum };
         }
     }
-    Reached { position, check }
+    Reached { position, sum }
 }
 
 // "each word as stored (9 for a frame's first word, 10 for any other, 11 after 10 for a CRC word), then 12"
-pub fn first_fault(
-    capture: &[u8],
-    tables: &[u32; 768],
-    far: &[u32; 768],
-    plan: Plan,
-    at: usize,
-) -> Fault
-    requires { ⌜ Shape plan × (3 * (at + groupWords plan) ≤ length (now capture)) × (length (now capture) ≤ 1048576) × (plan .crc ≡ true → now tables ≡ entries) × (plan .crc ≡ true → now far ≡ farEntries) ⌝ }
+pub fn first_fault(capture: &[u8], plan: Plan, at: usize) -> Fault
+    requires { ⌜ Shape plan × (3 * (at + groupWords plan) ≤ length (now capture)) × (length (now capture) ≤ 1048576) ⌝ }
     ensures { λ r. ⌜ r ≡ faultOf (groupFault plan (now (capture .entry)) at) ⌝ }
 {
     let words = plan.words;
@@ -307,24 +273,24 @@ pub fn first_fault(
                 place: first,
             };
         }
-        let synced = next_check(tables, plan.crc, 0, sync);
+        let synced = Sum::start().with_one(plan.crc, sync);
         let start = Reached {
             position: first_checked(plan),
-            check: synced,
+            sum: synced,
         };
-        let skimmed = skim(capture, tables, far, plan, first, start);
-        let mut check = skimmed.check;
+        let skimmed = skim(capture, plan, first, start);
+        let mut sum = skimmed.sum;
         let mut position = skimmed.position;
         while position < words {
             let word = stored_word(capture, first + position);
-            let number = word_number(plan.parity, plan.crc, position + 1 == words, check, word);
+            let number = word_number(plan.parity, plan.crc, position + 1 == words, sum, word);
             if number != 0 {
                 break 'scan Fault {
                     number,
                     place: first + position,
                 };
             }
-            check = next_check(tables, plan.crc, check, word);
+            sum = sum.with_one(plan.crc, word);
             position += 1;
         }
         track += 1;

@@ -1,10 +1,8 @@
 // A reading's walk over the groups of a capture (document 01, "Groups" and "Answers by number"): the log of their items and the
 // earliest misplaced fill, or the first refusal from 9 to 13.
 ghost use mathlib.Core.Path.{_≡_};
-ghost use mathlib.Core.Bool.{true};
 ghost use Prim.Native.Nat.{_*_, _≤_};
 ghost use lib.ListN.{length};
-ghost use Rattle.crc.specs.Running.{entries, farEntries};
 ghost use Rattle.format.specs.Plan.{groupWords, slots};
 ghost use Rattle.format.specs.Laws.Limits.{Shape};
 ghost use Rattle.read_groups.specs.End.{Ended};
@@ -54,12 +52,10 @@ fn over_groups(
     plan: Plan,
     count: usize,
     capture: &[u8],
-    tables: &[u32; 768],
-    far: &[u32; 768],
     groups: usize,
     out: &mut [u8],
 ) -> Walk
-    requires { ⌜ Shape plan × (count ≡ slots plan) × (plan .crc ≡ true → now tables ≡ entries) × (plan .crc ≡ true → now far ≡ farEntries) ⌝ }
+    requires { ⌜ Shape plan × (count ≡ slots plan) ⌝ }
     requires { ⌜ (length (now capture) ≡ groups * (3 * groupWords plan)) × (length (now capture) ≤ 1048576) ⌝ }
     ensures { λ r. ⌜ Walked kinds plan (now (capture .entry)) groups (now (out .entry)) r (now (out .exit)) ⌝ }
 {
@@ -69,7 +65,7 @@ fn over_groups(
     let mut g: usize = 0;
     let mut group: usize = 0;
     while g < groups {
-        let fault = group_read::first_fault(capture, tables, far, plan, group);
+        let fault = group_read::first_fault(capture, plan, group);
         if fault.number != 0 {
             return Walk {
                 pass: start,
@@ -95,28 +91,6 @@ fn over_groups(
     }
 }
 
-// The tables are made for a plan with CRC only.
-fn walk_groups(
-    kinds: [Kind; 16],
-    plan: Plan,
-    count: usize,
-    capture: &[u8],
-    groups: usize,
-    out: &mut [u8],
-) -> Walk
-    requires { ⌜ Shape plan × (count ≡ slots plan) ⌝ }
-    requires { ⌜ (length (now capture) ≡ groups * (3 * groupWords plan)) × (length (now capture) ≤ 1048576) ⌝ }
-    ensures { λ r. ⌜ Walked kinds plan (now (capture .entry)) groups (now (out .entry)) r (now (out .exit)) ⌝ }
-{
-    if plan.crc {
-        let tables = crc::tables();
-        let far = crc::far_tables();
-        return over_groups(kinds, plan, count, capture, &tables, &far, groups, out);
-    }
-    let none = [0u32; 768];
-    over_groups(kinds, plan, count, capture, &none, &none, groups, out)
-}
-
 // The groups, then the cut item.
 pub fn read_groups(
     kinds: [Kind; 16],
@@ -130,7 +104,7 @@ pub fn read_groups(
     requires { ⌜ (length (now capture) ≡ groups * (3 * groupWords plan)) × (length (now capture) ≤ 1048576) ⌝ }
     ensures { λ r. ⌜ Ended kinds plan (now (capture .entry)) groups r (now (out .exit)) ⌝ }
 {
-    let walk = walk_groups(kinds, plan, count, capture, groups, out);
+    let walk = over_groups(kinds, plan, count, capture, groups, out);
     if walk.number != 0 {
         return Outcome {
             number: walk.number,

@@ -16,10 +16,10 @@ use Rattle.data_run.proofs.on_group.Reads as on-group-reads
 use Rattle.read_groups.proofs.start_pass.Reads as start-pass-reads
 
 abbrev Inv-loop : tie.InvT-loop
-Inv-loop kinds plan count capture tables far groups out₀ size start pass₀ g₀ group₀ out pass g group = (g ≤ groups) × (group ≡ g * groupWords plan) × Over kinds plan capture groups out₀ g pass out
+Inv-loop kinds plan count capture groups out₀ size start pass₀ g₀ group₀ out pass g group = (g ≤ groups) × (group ≡ g * groupWords plan) × Over kinds plan capture groups out₀ g pass out
 
 abbrev μ-loop : tie.MeasureT-loop
-μ-loop kinds plan count capture tables far groups out₀ size start pass₀ g₀ group₀ out pass g group = groups - g
+μ-loop kinds plan count capture groups out₀ size start pass₀ g₀ group₀ out pass g group = groups - g
 
 room : (c : tie.In-loop Inv-loop μ-loop) → 3 * (c .before .loop .group + groupWords (c .before .before .before .before .before .before .args .plan)) ≤ length (c .before .before .before .before .before .before .args .capture .now)
 room c = rw (c .before .loop .inv .1) (group-room _ _ _ _ _ _ (c .loop-test .taken) _ _ (c .before .loop .inv .2) (c .before .before .before .before .before .before .pre .1 .0))
@@ -34,7 +34,7 @@ loop-holds : tie.Need-loop-holds Inv-loop μ-loop
 loop-holds c = (omega arith, omega arith, over-none _ _ _ _ _ (c .start-pass .ensures))
 
 first-fault-requires : tie.Need-first-fault-requires Inv-loop μ-loop
-first-fault-requires c κs = (c .before .before .before .before .before .before .pre .0 .0, room c, c .before .before .before .before .before .before .pre .1 .1, c .before .before .before .before .before .before .pre .0 .2, c .before .before .before .before .before .before .pre .0 .3)
+first-fault-requires c κs = (c .before .before .before .before .before .before .pre .0 .0, room c, c .before .before .before .before .before .before .pre .1 .1)
 
 same-length : tie.Need-same-length Inv-loop μ-loop
 same-length c = search needs
