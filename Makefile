@@ -1,19 +1,30 @@
 # make                      prove and build the library, the lister and the tool: target/tool/vin
-# make install PREFIX=DIR   header, archive, pkg-config file, tool and manual under DIR (default /usr/local)
+# make NATIVE=yes           the same for this processor where it is not x86-64: target/native/vin
+# make install PREFIX=DIR   header, archive, pkg-config file, tool, manual and completion under DIR (default /usr/local)
 # make test                 the gate, .ci/run: everything from nothing
 #
-# All programs are for x86-64. On another processor they are made by the cross compiler and run under the emulator RUNNER.
-VERSION := 0.1.0
+# All programs are for x86-64. On another processor they are made by the cross compiler and run under the emulator RUNNER;
+# with NATIVE=yes the modules that the proved crates were compiled to are compiled for that processor instead.
+VERSION := $(shell sed -n 's/^\#define VIN_VERSION "\(.*\)"/\1/p' include/vinculampe.h)
 PREFIX ?= /usr/local
 CFLAGS ?= -O2
-OUT := target/tool
-ARCHIVE ?= target/staticlib/libvinculampe.a
-LISTER ?= target/bin/lister
+MACHINE := $(shell uname -m)
 
-ifneq ($(shell uname -m),x86_64)
+ifneq ($(MACHINE),x86_64)
+ifneq ($(NATIVE),)
+OUT := target/native
+ARCHIVE ?= target/native/libvinculampe.a
+LISTER ?= target/native/lister
+PROCESSOR := $(MACHINE)
+else
 CROSS := x86_64-linux-gnu-
 RUNNER := qemu-x86_64 -L /usr/x86_64-linux-gnu
 endif
+endif
+OUT ?= target/tool
+ARCHIVE ?= target/staticlib/libvinculampe.a
+LISTER ?= target/bin/lister
+PROCESSOR ?= x86-64
 ifeq ($(origin CC),default)
 CC := $(CROSS)gcc
 endif
@@ -23,8 +34,8 @@ programs := vin vin-lister
 folder := $(if $(RUNNER),/x86-64)
 built := $(programs:%=$(OUT)$(folder)/%)
 runner_words := $(foreach word,$(RUNNER),"$(word)",)
-flags := -std=c11 -Wall -Wextra -Wpedantic -Werror $(CFLAGS) -DVERSION='"$(VERSION)"' -DRUNNER='$(runner_words)'
-objects := $(patsubst tools/%.c,$(OUT)/%.o,$(wildcard tools/*.c))
+flags := -std=c11 -Wall -Wextra -Wpedantic -Werror $(CFLAGS) -DRUNNER='$(runner_words)'
+objects := $(patsubst tools/%.c,$(OUT)/objects/%.o,$(wildcard tools/*.c tools/commands/*.c))
 proved := $(shell find crates crates.txt -type f -not -path '*/must-fail/*')
 
 all: $(built) $(if $(RUNNER),$(programs:%=$(OUT)/%))
@@ -32,22 +43,33 @@ all: $(built) $(if $(RUNNER),$(programs:%=$(OUT)/%))
 # The proofs: minutes the first time. The lister's and those of the crates that the library is made of at once, so that every
 # processor is used; then the library's own.
 parts := $(shell sed -n 's/^vinculampe://p' crates.txt)
-need_rt = @command -v rt >/dev/null || { echo "rt is missing: install the Rattle kit; see README.md" >&2; exit 1; }
-$(LISTER): $(proved)
+need = @command -v $(firstword $(1)) >/dev/null || { echo "$(firstword $(1)) is missing$(2); see README.md" >&2; exit 1; }
+need_rt = $(call need,rt,: install the Rattle kit)
+target/bin/lister: $(proved)
 	$(need_rt)
 	@echo "the proofs take some minutes the first time"
 	rt check lister $(parts)
 	@touch $@
 
-$(ARCHIVE): $(proved) | $(LISTER)
+target/staticlib/libvinculampe.a: $(proved) | target/bin/lister
 	$(need_rt)
 	rt staticlib vinculampe
 
-$(OUT)/%.o: tools/%.c $(wildcard tools/*.h) include/vinculampe.h Makefile | $(OUT)$(folder)
-	@command -v $(firstword $(CC)) >/dev/null || { echo "$(firstword $(CC)) is missing; see README.md" >&2; exit 1; }
+target/native/lister: $(proved) tools/native/module | target/bin/lister
+	tools/native/module lister target/native/objects/lister-module.o
+	$(CC) target/native/objects/lister-module.o -o $@
+
+target/native/libvinculampe.a: $(proved) $(wildcard tools/native/*) include/vinculampe.h | target/bin/lister
+	tools/native/module library target/native/objects/library-module.o
+	rm -f $@
+	ar rcs $@ target/native/objects/library-module.o
+
+$(OUT)/objects/%.o: tools/%.c $(wildcard tools/*.h) include/vinculampe.h Makefile
+	$(call need,$(CC))
+	@mkdir -p $(@D)
 	$(CC) $(flags) -c $< -o $@
 
-$(OUT)$(folder)/vin: $(objects) $(ARCHIVE)
+$(OUT)$(folder)/vin: $(objects) $(ARCHIVE) | $(OUT)$(folder)
 	$(CC) $(CFLAGS) $(if $(RUNNER),-static) $(LDFLAGS) $^ -o $@
 
 $(OUT)$(folder)/vin-lister: $(LISTER) | $(OUT)$(folder)
@@ -56,31 +78,37 @@ $(OUT)$(folder)/vin-lister: $(LISTER) | $(OUT)$(folder)
 $(OUT)$(folder):
 	mkdir -p $@
 
-script = sed -e 's|@RUNNER@|$(RUNNER)|' -e 's|@FOLDER@|$(1)|' tools/run-x86-64.in >$(2) && chmod 755 $(2)
+script = sed -e 's|@RUNNER@|$(RUNNER)|' -e 's|@FOLDER@|$(1)|' tools/run-x86-64.in >"$(2)" && chmod 755 "$(2)"
 ifneq ($(RUNNER),)
 $(programs:%=$(OUT)/%): tools/run-x86-64.in Makefile | $(OUT)$(folder)
+	$(call need,$(RUNNER),: the programs are for x86-64 and run under it)
 	$(call script,x86-64,$@)
 endif
 
+# A prefix may have blanks in it, but for those that make takes off its ends; a relative one is of this folder.
 to := $(DESTDIR)$(PREFIX)
+blank := $(subst ,, )
+place := $(subst $(blank),\\$(blank),$(if $(filter /%,$(firstword $(PREFIX))),$(PREFIX),$(CURDIR)/$(PREFIX)))
 install: all
-	install -d $(to)/bin $(to)/include $(to)/lib/pkgconfig $(to)/share/man/man1
-	install -m 644 include/vinculampe.h $(to)/include
-	install -m 644 $(ARCHIVE) $(to)/lib/libvinculampe.a
-	sed -e 's|@PREFIX@|$(abspath $(PREFIX))|' -e 's|@VERSION@|$(VERSION)|' tools/vinculampe.pc.in >$(to)/lib/pkgconfig/vinculampe.pc
-	install -m 644 tools/vin.1 $(to)/share/man/man1
+	install -d "$(to)/bin" "$(to)/include" "$(to)/lib/pkgconfig" "$(to)/share/man/man1" "$(to)/share/bash-completion/completions"
+	install -m 644 include/vinculampe.h "$(to)/include"
+	install -m 644 $(ARCHIVE) "$(to)/lib/libvinculampe.a"
+	sed -e 's|@PREFIX@|$(place)|' -e 's|@VERSION@|$(VERSION)|' -e 's|@PROCESSOR@|$(PROCESSOR)|' tools/vinculampe.pc.in >"$(to)/lib/pkgconfig/vinculampe.pc"
+	install -m 644 tools/vin.1 "$(to)/share/man/man1"
+	install -m 644 tools/vin.bash "$(to)/share/bash-completion/completions/vin"
 ifeq ($(RUNNER),)
-	install $(built) $(to)/bin
+	install $(built) "$(to)/bin"
 else
-	install -d $(to)/libexec/vinculampe
-	install $(built) $(to)/libexec/vinculampe
+	install -d "$(to)/libexec/vinculampe"
+	install $(built) "$(to)/libexec/vinculampe"
 	$(call script,../libexec/vinculampe,$(to)/bin/vin)
 	$(call script,../libexec/vinculampe,$(to)/bin/vin-lister)
 endif
 
 uninstall:
-	rm -f $(to)/include/vinculampe.h $(to)/lib/libvinculampe.a $(to)/lib/pkgconfig/vinculampe.pc $(to)/share/man/man1/vin.1
-	rm -f $(programs:%=$(to)/bin/%) $(programs:%=$(to)/libexec/vinculampe/%)
+	rm -f "$(to)/include/vinculampe.h" "$(to)/lib/libvinculampe.a" "$(to)/lib/pkgconfig/vinculampe.pc"
+	rm -f "$(to)/share/man/man1/vin.1" "$(to)/share/bash-completion/completions/vin"
+	for program in $(programs); do rm -f "$(to)/bin/$$program" "$(to)/libexec/vinculampe/$$program"; done
 
 test:
 	.ci/run

@@ -7,7 +7,8 @@ int main(void)
     /* a command on bus 2, tagged with the time 10005, and a data word */
     static const uint8_t log[] = {0x12, 0x42, 0x10, 0xC0, 0x00, 0x00, 0x00, 0x40, 0x05, 0x32, 0x5F, 0x77, 0x80};
     static uint8_t capture[VIN_COMPOSED_MAX], back[VIN_LOG_MAX];
-    vin_plan plan = {.words = 129, .tracks = 1, .parity = 1};
+    vin_plan plan = VIN_PLAN_INIT(129, 1); /* words, tracks */
+    plan.parity = 1;
     plan.kinds[2] = VIN_KIND_1553;
 
     vin_answer a = vin_plan_compose(&plan, log, sizeof log, NULL, 0, capture, sizeof capture);

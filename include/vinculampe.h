@@ -5,7 +5,7 @@
  * times back. There are three functions, below: vin_compose, vin_read and vin_read_closed; and over
  * them vin_plan_compose, vin_plan_read and vin_plan_read_closed, which take the plan as a struct
  * and null pointers for runs of length 0. C99 or later, or C++. Link with libvinculampe.a (x86-64,
- * System V calling convention).
+ * System V calling convention; that of `make NATIVE=yes` is for the machine it was made on).
  *
  * What every function promises
  *   - Every input is taken. Either the work is done and the answer's number is 0, or the call is
@@ -25,14 +25,16 @@
  *
  * Threads: the functions keep nothing between calls and use no heap, no global and no file. They
  * may be called from any number of threads at once, as long as no run that one call writes is used
- * elsewhere meanwhile.
+ * elsewhere meanwhile. A call needs up to VIN_STACK_BYTES of the thread's stack, also for one item:
+ * give a thread that calls them a stack of that and what the program itself needs.
  *
  * An example: a log of one data word, composed and read back.
  *
  *     // kind 3, bus 2, A, BEEF, the end mark
  *     static const uint8_t log[] = {0x32, 0x5F, 0x77, 0x80};
  *     static uint8_t capture[VIN_COMPOSED_MAX], back[VIN_LOG_MAX];
- *     vin_plan plan = {129, 1, 0, 0, 1, {0}}; // 129 words, 1 track, parity
+ *     vin_plan plan = VIN_PLAN_INIT(129, 1); // 129 words, 1 track
+ *     plan.parity = 1;
  *     plan.kinds[2] = VIN_KIND_1553;
  *     vin_answer a = vin_plan_compose(&plan, log, sizeof log, NULL, 0, capture, sizeof capture);
  *     if (a.number != VIN_DONE)
@@ -45,6 +47,11 @@
 
 #include <stddef.h>
 #include <stdint.h>
+
+/* The version of library, header and tool; and as a number, to compare: 10000 x major + 100 x minor
+ * + patch. */
+#define VIN_VERSION "0.2.0"
+#define VIN_VERSION_NUMBER 200
 
 #ifdef __cplusplus
 extern "C" {
@@ -176,9 +183,9 @@ enum vin_number {
 };
 
 /* A few English words for an answer's number; never null. */
-static inline const char *vin_text(uint32_t number)
+static inline const char *vin_text(uint32_t number_)
 {
-    switch (number) {
+    switch (number_) {
     case VIN_DONE: return "done";
     case VIN_PLAN: return "the plan is illegal";
     case VIN_LOG: return "the log is too long, cut, or has an unknown kind or a bad ending";
@@ -215,21 +222,24 @@ static inline const char *vin_text(uint32_t number)
 #define VIN_COMPOSED_GROUPS_MAX 119  /* its groups, by any plan */
 #define VIN_READ_GROUPS_MAX 2709     /* groups of a capture that is read: 1,048,576 / (3 x 129) */
 #define VIN_TIME_BYTES 8             /* bytes of a frame time */
+#define VIN_STACK_BYTES 73728        /* stack that a call needs: measured, tests/abi/stack.c */
 
 /* Times are below this: 10000 x 65536 x 65536 microseconds, 497 days. */
 #define VIN_TIME_LIMIT UINT64_C(42949672960000)
 
 /* For a legal plan: bytes of a group, and its data slots. The arguments of these macros are
  * evaluated once or more. */
-#define VIN_GROUP_BYTES(words, tracks) ((size_t)3 * (words) * (tracks))
+#define VIN_GROUP_BYTES(words, tracks) ((size_t)3 * (size_t)(words) * (size_t)(tracks))
 #define VIN_GROUP_SLOTS(words, tracks, frame_time, crc) \
-    ((size_t)(tracks) * ((words) - 1) - ((crc) ? (size_t)(tracks) : 0) - ((frame_time) ? 3 : 0))
+    ((size_t)(tracks) * ((size_t)(words) - 1) - ((crc) ? (size_t)(tracks) : 0) \
+     - ((frame_time) ? (size_t)3 : 0))
 
-/* Composing a log of log_len bytes, 1 to VIN_LOG_MAX: never more words, groups, bytes of capture
- * than these. The exact numbers: without frame time, call with out_len 0: refused by VIN_ROOM at
+/* Composing a log of log_len bytes, up to VIN_LOG_MAX: never more words, groups, bytes of capture
+ * than these (none for a log of no bytes, which is refused). The exact numbers: without frame time, call with out_len 0: refused by VIN_ROOM at
  * the bytes needed (or done, if the log is empty). With frame time, call with times_len 0: refused
  * by VIN_TIMES at the number of groups. */
-#define VIN_COMPOSED_WORDS(log_len) ((8 * (size_t)(log_len) - 4) * 5 / 89)
+#define VIN_COMPOSED_WORDS(log_len) \
+    ((log_len) > 0 ? (8 * (size_t)(log_len) - 4) * 5 / 89 : (size_t)0)
 #define VIN_COMPOSED_GROUPS(log_len, words, tracks, frame_time, crc) \
     ((VIN_COMPOSED_WORDS(log_len) + VIN_GROUP_SLOTS(words, tracks, frame_time, crc) - 1) / \
      VIN_GROUP_SLOTS(words, tracks, frame_time, crc))
@@ -299,7 +309,8 @@ vin_answer vin_read_closed(uint32_t words, uint32_t tracks,
 /* ==== The same with the plan in a struct, and null pointers of length 0 ==========================
  *
  * A null pointer with length 0 becomes a pointer to a byte that is never read nor written. A null
- * pointer with another length is the caller's fault, as for memcpy. */
+ * pointer with another length is the caller's fault, as for memcpy. (Names in these functions end
+ * in an underscore, so that they hide none of the includer's.) */
 
 typedef struct {
     uint32_t words, tracks;
@@ -307,52 +318,57 @@ typedef struct {
     uint8_t kinds[16];                /* enum vin_kind */
 } vin_plan;
 
-static inline const uint8_t *vin_run_(const uint8_t *run)
+/* A plan of so many words and tracks, without frame time, CRC and parity, and with no bus used. Begin
+ * every plan with it: a field that a later version adds, at the struct's end, then has the value that
+ * means what was so before, which need not be 0. */
+#define VIN_PLAN_INIT(words, tracks) {(uint32_t)(words), (uint32_t)(tracks), 0, 0, 0, {0}}
+
+static inline const uint8_t *vin_run_(const uint8_t *given_)
 {
-    static const uint8_t nothing[1] = {0};
-    return run ? run : nothing;
+    static const uint8_t nothing_[1] = {0};
+    return given_ ? given_ : nothing_;
 }
 
-static inline uint8_t *vin_room_(uint8_t *room)
+static inline uint8_t *vin_room_(uint8_t *given_)
 {
-    static uint8_t nothing[1];
-    return room ? room : nothing;
+    static uint8_t nothing_[1];
+    return given_ ? given_ : nothing_;
 }
 
-static inline vin_answer vin_plan_compose(const vin_plan *plan,
-                                          const uint8_t *log, size_t log_len,
-                                          const uint8_t *times, size_t times_len,
-                                          uint8_t *out, size_t out_len)
+static inline vin_answer vin_plan_compose(const vin_plan *plan_,
+                                          const uint8_t *log_, size_t log_len_,
+                                          const uint8_t *times_, size_t times_len_,
+                                          uint8_t *out_, size_t out_len_)
 {
-    return vin_compose(plan->words, plan->tracks, plan->frame_time, plan->crc, plan->parity,
-                       plan->kinds, sizeof plan->kinds,
-                       vin_run_(log), log_len,
-                       vin_run_(times), times_len,
-                       vin_room_(out), out_len);
+    return vin_compose(plan_->words, plan_->tracks, plan_->frame_time, plan_->crc, plan_->parity,
+                       plan_->kinds, sizeof plan_->kinds,
+                       vin_run_(log_), log_len_,
+                       vin_run_(times_), times_len_,
+                       vin_room_(out_), out_len_);
 }
 
-static inline vin_answer vin_plan_read(const vin_plan *plan,
-                                       const uint8_t *capture, size_t capture_len,
-                                       uint8_t *log, size_t log_len,
-                                       uint8_t *times, size_t times_len)
+static inline vin_answer vin_plan_read(const vin_plan *plan_,
+                                       const uint8_t *capture_, size_t capture_len_,
+                                       uint8_t *log_, size_t log_len_,
+                                       uint8_t *times_, size_t times_len_)
 {
-    return vin_read(plan->words, plan->tracks, plan->frame_time, plan->crc, plan->parity,
-                    plan->kinds, sizeof plan->kinds,
-                    vin_run_(capture), capture_len,
-                    vin_room_(log), log_len,
-                    vin_room_(times), times_len);
+    return vin_read(plan_->words, plan_->tracks, plan_->frame_time, plan_->crc, plan_->parity,
+                    plan_->kinds, sizeof plan_->kinds,
+                    vin_run_(capture_), capture_len_,
+                    vin_room_(log_), log_len_,
+                    vin_room_(times_), times_len_);
 }
 
-static inline vin_answer vin_plan_read_closed(const vin_plan *plan,
-                                              const uint8_t *capture, size_t capture_len,
-                                              uint8_t *log, size_t log_len,
-                                              uint8_t *times, size_t times_len)
+static inline vin_answer vin_plan_read_closed(const vin_plan *plan_,
+                                              const uint8_t *capture_, size_t capture_len_,
+                                              uint8_t *log_, size_t log_len_,
+                                              uint8_t *times_, size_t times_len_)
 {
-    return vin_read_closed(plan->words, plan->tracks, plan->frame_time, plan->crc, plan->parity,
-                           plan->kinds, sizeof plan->kinds,
-                           vin_run_(capture), capture_len,
-                           vin_room_(log), log_len,
-                           vin_room_(times), times_len);
+    return vin_read_closed(plan_->words, plan_->tracks, plan_->frame_time, plan_->crc, plan_->parity,
+                           plan_->kinds, sizeof plan_->kinds,
+                           vin_run_(capture_), capture_len_,
+                           vin_room_(log_), log_len_,
+                           vin_room_(times_), times_len_);
 }
 
 #ifdef __cplusplus

@@ -12,12 +12,12 @@ static const struct {
 } numbers[] = {
     [VIN_DONE] = {"every command", "0", "The work is done."},
     [VIN_PLAN] =
-        {"compose, read, check, plan", "0",
+        {"compose, read, check, dump, info, plan", "0",
          "The plan breaks a rule. vin names the rule: the number of words or tracks is outside its\n"
          "limits, several tracks go with other than exactly one used bus, or parity goes with a used\n"
          "bus above 7."},
     [VIN_LOG] =
-        {"compose, list", BIT,
+        {"compose, list, info", BIT,
          "The log is longer than 32768 bytes (place 0), ends inside an item or without its end mark,\n"
          "has a kind other than 0 to 8, or something follows its end mark. Most often the file was\n"
          "cut, or is no house log."},
@@ -25,46 +25,50 @@ static const struct {
         {"compose", BIT,
          "An item is on a bus that the plan does not use or has as another kind. Mend the plan's bus\n"
          "lines, or compose with the plan that the log was made for."},
-    [VIN_LIMIT] = {"compose, list", BIT, "The micro of a time tag, or a response time, is 10000 or more."},
+    [VIN_LIMIT] = {"compose, list, info", BIT,
+                   "The micro of a time tag, or a response time, is 10000 or more."},
     [VIN_TIMES] =
         {"compose", "the number of times needed; or the index of the time that is too large, counted from 0",
          "A plan with frame time needs one time for each group, a plan without it none; and a time is\n"
          "below 42949672960000 microseconds."},
     [VIN_ROOM] =
-        {"read, check", "the bytes that the log would have",
+        {"read, check, info", "the bytes that the log would have",
          "The capture's log would be longer than 32768 bytes. (To a caller in C also: the room lent\n"
          "for the output is too short. vin lends enough.)"},
     [VIN_TIME_ROOM] = {"callers in C only", "the number of times needed",
                        "The room lent for the frame times is too short. vin lends enough."},
     [VIN_CAPTURE] =
-        {"read, check", "the capture's length in bytes",
+        {"read, check, dump, info", "the capture's length in bytes",
          "The capture is longer than 1048576 bytes, or is not whole groups: the file was cut, or the\n"
          "plan's words or tracks are not those of the capture."},
     [VIN_SYNC] =
-        {"read, check", WORD,
+        {"read, check, info; dump marks it", WORD,
          "A frame does not begin with the sync word FAF320. At word 0 the file is no capture; at the\n"
          "second frame the plan's words are probably wrong; later, words were lost."},
-    [VIN_PARITY] = {"read, check", WORD,
+    [VIN_PARITY] = {"read, check, info; dump marks it", WORD,
                     "The plan has parity and this word has an even number of ones: it was damaged, or the\n"
                     "capture was made without parity."},
-    [VIN_CRC] = {"read, check", WORD,
+    [VIN_CRC] = {"read, check, info; dump marks it", WORD,
                  "The last word of this frame is not the CRC word of the words before it: the frame was\n"
                  "damaged, or the capture was made without CRC."},
     [VIN_FRAME_TIME] =
-        {"read, check", WORD,
+        {"read, check, info; dump marks it", WORD,
          "A group begins with three words of frame time on bus 0: label 7 (high), 6 (low) and 5\n"
          "(micro, below 10000). This is not such a word: it was damaged, or the capture was made\n"
          "without frame time."},
     [VIN_DATA_WORD] =
-        {"read, check", WORD,
-         "This word starts or continues no item: its bus is unused, its label does not follow what\n"
-         "came before it (a low syllable without its high one, a time word without its command), a\n"
-         "micro or response is 10000 or more, or it is fill other than AAAA. Or the capture ends\n"
-         "inside an item; then the place is that item's first word."},
+        {"read, check, info; dump marks it", WORD,
+         "This word starts or continues no item: its bus is unused; its label does not follow what\n"
+         "came before it (a low syllable without its high one, a time word without its command); it is\n"
+         "a word of another bus or item inside an item that is not finished; a micro or response is\n"
+         "10000 or more; a notice's two labels are not one channel's pair; or it is fill other than\n"
+         "AAAA. Or the capture ends inside an item; then the place is that item's first word. vin says\n"
+         "which it is, what was awaited, and where the unfinished item began."},
     [VIN_FILL] =
-        {"check", WORD,
+        {"check; dump marks it", WORD,
          "Fill stands where composing puts none: before a data word, in a group after the last data\n"
-         "word's group, or on another bus than 0. The plain reading, vin read, passes over such fill."},
+         "word's group, or on another bus than 0; vin says which. The plain reading, vin read, passes\n"
+         "over such fill."},
 };
 enum { NUMBERS = sizeof numbers / sizeof *numbers };
 

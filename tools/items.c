@@ -1,21 +1,78 @@
 #include "items.h"
 
-/* The bits of an item; where its flag stands, and the bits that come with the flag, whose last 14 are a micro
- * or a response. */
+/* The bits of an item: those before its word, the word's, and those that a time or response adds, whose last
+ * 14 are a micro or a response; where the flag for them stands. Its words in a capture, and those that a time
+ * or response adds. */
 static const struct {
-    const char *name;
-    unsigned bits, flag, more;
+    const char *text, *code;
+    unsigned part, flag, word, more, words, more_words;
 } kinds[KINDS] = {
-    {"the end mark", 4, 0, 0},     {"a command", 26, 9, 46},  {"a status", 26, 9, 14},
-    {"a data word", 25, 0, 0},     {"a bus error", 25, 0, 0}, {"an ARINC word", 43, 10, 46},
-    {"an ARINC notice", 18, 0, 0}, {"a user word", 25, 0, 0}, {"an overflow mark", 24, 0, 0},
+    [END_MARK] = {"the end mark", "end", 0, 0, 0, 0, 0, 0},
+    [COMMAND] = {"a command", "cmd", 1, 9, 16, 46, 1, 3},
+    [STATUS] = {"a status", "sta", 1, 9, 16, 14, 1, 1},
+    [DATA] = {"a data word", "dat", 1, 0, 16, 0, 1, 0},
+    [BUS_ERROR] = {"a bus error", "err", 1, 0, 16, 0, 1, 0},
+    [ARINC_WORD] = {"an ARINC word", "arn", 2, 10, 32, 46, 2, 3},
+    [NOTICE] = {"an ARINC notice", "are", 2, 0, 8, 0, 1, 0},
+    [USER_WORD] = {"a user word", "usr", 1, 0, 16, 0, 1, 0},
+    [OVERFLOW_MARK] = {"an overflow mark", "ovf", 0, 0, 16, 0, 1, 0},
 };
-enum { FINE = 14 };
+enum { FINE = 14, HEAD = 8 };
 
-const char *item_name(unsigned kind)
+const char *kind_text(unsigned kind)
 {
-    return kind < KINDS ? kinds[kind].name : "an unknown kind";
+    return kind < KINDS ? kinds[kind].text : "an unknown kind";
 }
+
+const char *kind_code(unsigned kind)
+{
+    return kinds[kind].code;
+}
+
+/* Without what a time or response adds. */
+static size_t least_bits(unsigned kind)
+{
+    return HEAD + kinds[kind].part + (kinds[kind].flag ? 1 : 0) + kinds[kind].word;
+}
+
+size_t item_bits(const item *i)
+{
+    return least_bits(i->kind) + (i->timed ? kinds[i->kind].more : 0);
+}
+
+size_t item_words(const item *i)
+{
+    return kinds[i->kind].words + (i->timed ? kinds[i->kind].more_words : 0);
+}
+
+/* ==== Written ==== */
+
+static void put(log_pen *pen, unsigned width, uint64_t value)
+{
+    for (; width > 0; width--, pen->bits++)
+        if (value >> (width - 1) & 1)
+            pen->bytes[pen->bits / 8] |= (uint8_t)(0x80 >> pen->bits % 8);
+}
+
+void put_item(log_pen *pen, const item *i)
+{
+    put(pen, 4, i->kind);
+    if (i->kind == END_MARK)
+        return;
+    put(pen, 4, i->bus);
+    put(pen, kinds[i->kind].part, i->part);
+    if (kinds[i->kind].flag)
+        put(pen, 1, i->timed);
+    put(pen, kinds[i->kind].word, i->word);
+    if (i->timed && i->kind == STATUS)
+        put(pen, FINE, i->time);
+    else if (i->timed) {
+        put(pen, 32, i->time / 10000);
+        put(pen, FINE, i->time % 10000);
+    }
+}
+
+/* ==== Looked at ==== */
 
 static unsigned field(const uint8_t *log, size_t bit, unsigned width)
 {
@@ -25,36 +82,36 @@ static unsigned field(const uint8_t *log, size_t bit, unsigned width)
     return value;
 }
 
-/* The item that begins at this bit, and its bits. */
-static item look(const uint8_t *log, size_t length, size_t bit, size_t *bits)
+/* What begins at this bit, and its bits. */
+static spot look(const uint8_t *log, size_t length, size_t bit, size_t *bits)
 {
-    item i = {0, 8 * length - bit, 0, 0, false, false, 0};
+    spot s = {0, 8 * length - bit, 0, 0, false, false, 0};
     *bits = 0;
-    if (i.left >= 4)
-        i.kind = field(log, bit, 4);
-    if (i.left >= 8)
-        i.bus = field(log, bit + 4, 4);
-    if (i.left < 8 || i.kind == 0 || i.kind >= KINDS || i.left < kinds[i.kind].bits)
-        return i;
-    *bits = kinds[i.kind].bits;
-    i.timed = kinds[i.kind].flag && field(log, bit + kinds[i.kind].flag, 1);
-    if (i.timed)
-        *bits += kinds[i.kind].more;
-    i.whole = *bits <= i.left;
-    if (i.whole && i.timed)
-        i.fine = field(log, bit + *bits - FINE, FINE);
-    return i;
+    if (s.left >= 4)
+        s.kind = field(log, bit, 4);
+    if (s.left >= HEAD)
+        s.bus = field(log, bit + 4, 4);
+    if (s.left < HEAD || s.kind == END_MARK || s.kind >= KINDS || s.left < least_bits(s.kind))
+        return s;
+    *bits = least_bits(s.kind);
+    s.timed = kinds[s.kind].flag && field(log, bit + kinds[s.kind].flag, 1);
+    if (s.timed)
+        *bits += kinds[s.kind].more;
+    s.whole = *bits <= s.left;
+    if (s.whole && s.timed)
+        s.fine = field(log, bit + *bits - FINE, FINE);
+    return s;
 }
 
-item item_at(const uint8_t *log, size_t length, uint64_t bit)
+spot spot_at(const uint8_t *log, size_t length, uint64_t bit)
 {
     size_t bits, number = 1, here = 0;
-    item i = look(log, length, 0, &bits);
-    while (here < bit && i.whole) {
+    spot s = look(log, length, 0, &bits);
+    while (here < bit && s.whole) {
         here += bits;
         number++;
-        i = look(log, length, here, &bits);
+        s = look(log, length, here, &bits);
     }
-    i.number = number;
-    return i;
+    s.number = number;
+    return s;
 }

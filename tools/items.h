@@ -1,4 +1,4 @@
-/* What stands at a bit of a house log, for messages. */
+/* The items of a house log: what they are called, and how they stand in a log. */
 #ifndef ITEMS_H
 #define ITEMS_H
 
@@ -6,7 +6,45 @@
 #include <stddef.h>
 #include <stdint.h>
 
-enum { KINDS = 9 }; /* 0, the end mark, to 8 */
+enum item_kind {
+    END_MARK,
+    COMMAND,
+    STATUS,
+    DATA,
+    BUS_ERROR,
+    ARINC_WORD,
+    NOTICE,
+    USER_WORD,
+    OVERFLOW_MARK,
+    KINDS
+};
+
+typedef struct {
+    unsigned kind, bus;
+    unsigned part; /* B: 1; the ARINC channel, 0 to 3; label 3 rather than 2: 1 */
+    uint32_t word; /* a notice's diagnostics */
+    bool timed;    /* it has a time tag, or a response time */
+    uint64_t time; /* that one */
+} item;
+
+/* The item's bits in a log, and its words in a capture. */
+size_t item_bits(const item *i);
+size_t item_words(const item *i);
+
+/* "a command" and the like, and "cmd" and the like. */
+const char *kind_text(unsigned kind);
+const char *kind_code(unsigned kind);
+
+/* ==== A log being written ==== */
+
+typedef struct {
+    uint8_t *bytes; /* zeros, enough of them */
+    size_t bits;
+} log_pen;
+
+void put_item(log_pen *pen, const item *i);
+
+/* ==== What stands at a bit of a log, for messages ==== */
 
 typedef struct {
     size_t number; /* which item it is, counted from 1 */
@@ -16,12 +54,9 @@ typedef struct {
     bool whole;    /* the log has all its bits; what is unknown, or no item, is not whole */
     bool timed;    /* it has a micro or a response */
     unsigned fine; /* that micro or response, if whole */
-} item;
+} spot;
 
-/* The item whose first bit is this, where every item before it is whole. */
-item item_at(const uint8_t *log, size_t length, uint64_t bit);
-
-/* "a command" and the like, for a kind of an item. */
-const char *item_name(unsigned kind);
+/* Where every item before this bit is whole. */
+spot spot_at(const uint8_t *log, size_t length, uint64_t bit);
 
 #endif

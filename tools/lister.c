@@ -10,7 +10,8 @@
 #include <sys/wait.h>
 #include <unistd.h>
 
-#include "say.h"
+#include "outputs.h"
+#include "refusal.h"
 
 /* The words that run a program of x86-64 where the processor is another: the Makefile gives them. */
 #ifndef RUNNER
@@ -35,10 +36,10 @@ static bool find_lister(char path[PATH_MAX])
     return true;
 }
 
-static void become_lister(char *path, int input, int output)
+static void become_lister(char *path, int from, int to)
 {
     char *words[] = {RUNNER path, NULL};
-    if (dup2(input, STDIN_FILENO) >= 0 && dup2(output, STDOUT_FILENO) >= 0)
+    if (dup2(from, STDIN_FILENO) >= 0 && dup2(to, STDOUT_FILENO) >= 0)
         execvp(words[0], words);
     complain_errno("%s", words[0]);
     _exit(127);
@@ -75,7 +76,7 @@ static bool is_whole(const run *text)
     return text->length > 0 && text->length <= TEXT_MOST && text->bytes[text->length - 1] == '\n';
 }
 
-bool list_log(const run *log, run *text)
+static bool run_lister(const run *log, run *text)
 {
     char path[PATH_MAX];
     int in[2], out[2];
@@ -104,6 +105,21 @@ bool list_log(const run *log, run *text)
         return true;
     if (took)
         free(text->bytes);
-    complain("%s did not list the log", path);
+    complain("%s did not list the log", show_name(path).text);
     return false;
+}
+
+int list_log(const char *name, const run *log, run *text)
+{
+    unsigned number;
+    unsigned long long place;
+    char line[64] = "";
+    if (!run_lister(log, text))
+        return MISUSE;
+    memcpy(line, text->bytes, text->length < sizeof line ? text->length : sizeof line - 1);
+    if (sscanf(line, "refused %u at %llu", &number, &place) != 2)
+        return DONE;
+    say_listing_refused(name, log, number, place);
+    free(text->bytes);
+    return REFUSED;
 }

@@ -1,10 +1,5 @@
 #include "picture.h"
 
-unsigned frame_time_word(const vin_plan *plan, size_t dealt)
-{
-    return plan->frame_time && dealt < FRAME_TIME_WORDS ? (unsigned)dealt : FRAME_TIME_WORDS;
-}
-
 enum { COLUMN = 10 };
 
 /* What stands in a track's word, both counted from 1. */
@@ -17,7 +12,7 @@ static void draw_word(FILE *to, const vin_plan *plan, uint32_t track, uint32_t w
         snprintf(text, sizeof text, "sync");
     else if (plan->crc && word == plan->words)
         snprintf(text, sizeof text, "CRC");
-    else if (frame_time_word(plan, dealt) < FRAME_TIME_WORDS)
+    else if (plan->frame_time && dealt < FRAME_TIME_WORDS)
         snprintf(text, sizeof text, "%s", times[dealt]);
     else
         snprintf(text, sizeof text, "d%zu", dealt + 1 - (plan->frame_time ? FRAME_TIME_WORDS : 0));

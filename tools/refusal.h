@@ -4,17 +4,24 @@
 
 #include "files.h"
 #include "plan.h"
+#include "times.h"
 
 /* What a call was given. A name is a file's; times of no file have the name NULL. */
 typedef struct {
-    const char *plan_name, *log_name, *times_name, *capture_name;
-    vin_plan plan;
-    run log, times, capture;
+    plan_file plan;
+    const char *log_name, *capture_name;
+    run log, capture;
+    times_file times;
 } call;
+
+void drop_call(call *c);
 
 /* Each says on standard error by which number the call was refused, and where. */
 void say_composing_refused(const call *c, vin_answer a);
 void say_reading_refused(const call *c, vin_answer a);
 void say_listing_refused(const char *log_name, const run *log, unsigned number, uint64_t place);
+
+/* A refusal whose place says no more. */
+void say_plainly(const char *name, vin_answer a);
 
 #endif

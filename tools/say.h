@@ -22,4 +22,11 @@ typedef struct {
 
 shown show(const char *word);
 
+/* A file's name likewise; letters beyond ASCII stay, and of a long name the end is kept behind "..". */
+typedef struct {
+    char text[224];
+} shown_name;
+
+shown_name show_name(const char *name);
+
 #endif

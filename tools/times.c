@@ -5,7 +5,7 @@
 #include <string.h>
 
 #include "../include/vinculampe.h"
-#include "say.h"
+#include "text.h"
 
 enum {
     TEXT_MOST = 1 << 20, /* bytes of a file of times */
@@ -27,11 +27,11 @@ static void put_time(uint8_t *times, size_t index, uint64_t time)
 }
 
 /* A number that is too large for 64 bits is given as the largest, which is refused by 5 as it should be. */
-static uint64_t number(const char *digits, size_t count)
+static uint64_t number(const char *digits)
 {
     uint64_t value = 0;
-    for (size_t n = 0; n < count; n++) {
-        uint64_t digit = (uint64_t)(digits[n] - '0');
+    for (; *digits; digits++) {
+        uint64_t digit = (uint64_t)(*digits - '0');
         if (value > (UINT64_MAX - digit) / 10)
             return UINT64_MAX;
         value = 10 * value + digit;
@@ -39,60 +39,58 @@ static uint64_t number(const char *digits, size_t count)
     return value;
 }
 
-static bool take_lines(const char *file, char *text, run *times)
+static bool take_line(const lines *at, char *line, times_file *times)
 {
-    const char *blanks = " \t\r";
-    size_t line = 0;
-    for (char *rest = text; rest;) {
-        char *here = rest, *end = strchr(rest, '\n');
-        rest = end ? end + 1 : NULL;
-        if (end)
-            *end = 0;
-        line++;
-        here[strcspn(here, "#")] = 0;
-        here += strspn(here, blanks);
-        size_t digits = strspn(here, "0123456789"), after = digits + strspn(here + digits, blanks);
-        if (here[after]) {
-            complain("%s:%zu: \"%s\" is not one decimal number of microseconds", file, line, show(here).text);
-            return false;
-        }
-        if (digits > 0) {
-            put_time(times->bytes, times->length / VIN_TIME_BYTES, number(here, digits));
-            times->length += VIN_TIME_BYTES;
-        }
+    char *word, whole[64];
+    snprintf(whole, sizeof whole, "%s", line + strspn(line, " \t"));
+    size_t count = cut_words(line, &word, 1), index = times->bytes.length / VIN_TIME_BYTES;
+    if (count == 0)
+        return true;
+    if (count > 1 || strspn(word, "0123456789") != strlen(word)) {
+        whole[strcspn(whole, "\r")] = 0;
+        complain_line(at, "\"%s\" is not one decimal number of microseconds", show(whole).text);
+        return false;
     }
+    put_time(times->bytes.bytes, index, number(word));
+    times->bytes.length += VIN_TIME_BYTES;
+    times->line_numbers[index] = at->number;
+    times->written[index] = word;
     return true;
 }
 
-bool read_times(const char *name, run *times)
+bool read_times(const char *name, times_file *times)
 {
-    run text;
-    *times = (run){NULL, 0};
-    if (!read_file(name, TEXT_MOST, &text))
+    *times = (times_file){name, {NULL, 0}, NULL, NULL, {NULL, 0}};
+    if (!read_text(name, TEXT_MOST, "these are no times: one decimal number of microseconds a line",
+                   &times->text))
         return false;
-    bool good = text.length <= TEXT_MOST && !memchr(text.bytes, 0, text.length);
-    if (!good)
-        complain("%s: these are no times: one decimal number of microseconds a line", input_name(name));
-    else {
-        text.bytes[text.length] = 0; /* read_file has room for one byte more */
-        /* a time takes two bytes of text or more, but for the last */
-        times->bytes = malloc((text.length / 2 + 1) * VIN_TIME_BYTES);
-        good = times->bytes && take_lines(input_name(name), (char *)text.bytes, times);
-        if (!times->bytes)
-            complain("out of memory");
-    }
-    free(text.bytes);
-    return good;
+    size_t most = times->text.length / 2 + 1; /* a time takes two bytes of text or more, but for the last */
+    times->bytes.bytes = malloc(most * VIN_TIME_BYTES);
+    times->line_numbers = malloc(most * sizeof *times->line_numbers);
+    times->written = malloc(most * sizeof *times->written);
+    if (!times->bytes.bytes || !times->line_numbers || !times->written)
+        return !out_of_memory(NULL);
+    lines at = lines_of(name, &times->text);
+    for (char *line; (line = next_line(&at));)
+        if (!take_line(&at, line, times))
+            return false;
+    return true;
+}
+
+void drop_times(times_file *times)
+{
+    free(times->bytes.bytes);
+    free(times->line_numbers);
+    free((void *)times->written);
+    free(times->text.bytes);
 }
 
 bool times_text(const uint8_t *times, size_t count, run *text)
 {
     text->length = 0;
     text->bytes = malloc(count * LINE_MOST + 1);
-    if (!text->bytes) {
-        complain("out of memory");
+    if (out_of_memory(text->bytes))
         return false;
-    }
     for (size_t n = 0; n < count; n++)
         text->length += (size_t)sprintf((char *)text->bytes + text->length, "%llu\n",
                                         (unsigned long long)time_at(times, n));

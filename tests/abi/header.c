@@ -43,6 +43,7 @@ static void sizes(void)
                     groups_most = groups;
                 CHECK(VIN_COMPOSED_GROUPS(VIN_LOG_MAX, words, tracks, frame_time, crc) == groups);
             }
+    CHECK(VIN_COMPOSED_WORDS(0) == 0 && VIN_COMPOSED_BYTES(0, 129, 1, 0, 0) == 0);
     CHECK(all == 14726 && VIN_COMPOSED_WORDS(VIN_LOG_MAX) == all);
     CHECK(largest == VIN_COMPOSED_MAX && VIN_COMPOSED_BYTES(VIN_LOG_MAX, 462, 4, 0, 1) == largest);
     CHECK(groups_most == VIN_COMPOSED_GROUPS_MAX);
@@ -57,8 +58,9 @@ static void example(void)
 {
     static const uint8_t log[] = {0x32, 0x5F, 0x77, 0x80};
     static uint8_t capture[VIN_COMPOSED_MAX], back[VIN_LOG_MAX];
-    vin_plan plan = {129, 1, 0, 0, 1, {0}};
+    vin_plan plan = VIN_PLAN_INIT(129, 1);
     vin_answer a;
+    plan.parity = 1;
     plan.kinds[2] = VIN_KIND_1553;
     a = vin_plan_compose(&plan, log, sizeof log, NULL, 0, capture, sizeof capture);
     CHECK(a.number == VIN_DONE && a.bytes == 387);
@@ -74,8 +76,21 @@ static void example(void)
         CHECK(strlen(vin_text(number)) > 0);
 }
 
+/* A plan begun with VIN_PLAN_INIT is the plan of these numbers with nothing chosen; the version's number is its text's. */
+static void names(void)
+{
+    static const uint8_t none[16] = {0};
+    unsigned major = 0, minor = 0, patch = 0;
+    vin_plan plan = VIN_PLAN_INIT(511, 4);
+    CHECK(plan.words == 511 && plan.tracks == 4 && plan.frame_time == 0 && plan.crc == 0 && plan.parity == 0);
+    CHECK(memcmp(plan.kinds, none, sizeof none) == 0);
+    CHECK(sscanf(VIN_VERSION, "%u.%u.%u", &major, &minor, &patch) == 3);
+    CHECK(VIN_VERSION_NUMBER == 10000 * major + 100 * minor + patch);
+}
+
 int main(void)
 {
+    names();
     fill_most();
     sizes();
     example();

@@ -11,6 +11,7 @@
 
 #include "../../include/vinculampe.h"
 #include "../../independent/rules.h"
+#include "deal.h"
 
 #define CAPTURE_ROOM 400000
 
@@ -61,27 +62,6 @@ static void closed_means_composed(const numbers *n, const uint8_t *capture, size
         abort();
 }
 
-/* Data words dealt into groups, and so many groups of fill behind; all else is right. */
-static size_t deal(const plan *p, const uint8_t *rest, size_t size, uint64_t more)
-{
-    uint64_t slots = group_slots(p), groups = (size / 3 + slots - 1) / slots + more;
-    if (3 * groups * group_words(p) > CAPTURE_ROOM)
-        groups = CAPTURE_ROOM / (3 * group_words(p));
-    for (uint64_t k = 0; k < groups * group_words(p); k++)
-        store(run_a, k, k % p->length == 0 ? SYNC : sent(p, fill()));
-    for (uint64_t g = 0; g < groups; g++) {
-        for (uint64_t k = 0; k < furniture(p); k++)
-            store(run_a, dealt_place(p, g, k), sent(p, (word){0, LABEL_HIGH - (uint32_t)k, (uint32_t)(g * 777 % 10000)}));
-        for (uint64_t k = 0; k < slots && 3 * (g * slots + k) + 2 < size; k++)
-            store(run_a, dealt_place(p, g, furniture(p) + k), sent(p, received(p, stored(rest, g * slots + k))));
-        for (uint32_t t = 0; t < p->tracks && p->crc; t++) {
-            uint8_t *frame = run_a + 3 * (g * group_words(p) + (uint64_t)t * p->length);
-            store(frame, p->length - 1, crc_word(p, frame));
-        }
-    }
-    return 3 * groups * group_words(p);
-}
-
 static void composing(const numbers *n, const uint8_t *rest, size_t size, int8_t less, int8_t odd_times)
 {
     size_t times_len;
@@ -128,7 +108,7 @@ int LLVMFuzzerTestOneInput(const uint8_t *data, size_t size)
     memcpy(run_a, rest, size);
     length = size;
     if (data[0] % 4 > 1 && plan_of(&p, n->words, n->tracks, n->frame_time, n->crc, n->parity, n->kinds, 16)) {
-        length = deal(&p, rest, size, data[8] >= 192);
+        length = deal(n->words, n->tracks, n->frame_time, n->crc, n->parity, n->kinds, rest, size, data[8] >= 192, run_a, CAPTURE_ROOM);
         if (data[0] % 4 == 3 && length > 0 && size > 0)
             run_a[rest[size - 1] * (length - 1) / 255] ^= data[9] | 1;
     }

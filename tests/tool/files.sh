@@ -94,11 +94,16 @@ result "ended by a signal" $?
 exec 3>&-
 leaves "ended by a signal"
 
-# The lister stands beside the tool; without it list says so.
+# The lister stands beside the tool; without it list says so. A script that runs a program elsewhere is copied with that program.
 for word in "${vin[@]}"; do tool=$word; done
 mkdir alone
 cp "$tool" alone/vin
+beside=$(sed -n 's|.*"$(dirname "$self")/\(.*\)/$(basename "$self")".*|\1|p' "$tool" 2>/dev/null | head -n 1 | tr -d '\0')
+if [ -n "$beside" ]; then
+    mkdir -p "alone/$beside"
+    cp "$(dirname "$tool")/$beside/vin" "alone/$beside"
+fi
 "${vin[@]::${#vin[@]}-1}" alone/vin list four-track.log >out.txt 2>err.txt
-[ $? -eq 2 ] && [ ! -s out.txt ] && grep -q 'vin-lister did not list the log$' err.txt
+[ $? -eq 2 ] && [ ! -s out.txt ] && tail -n 1 err.txt | grep -q 'vin-lister did not list the log$'
 result "without the lister" $?
 rm -rf in old c pipe waiting alone out.txt err.txt

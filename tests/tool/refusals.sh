@@ -4,19 +4,19 @@ one="words 129" two="tracks 1"
 # 1
 plan "words 128" "$two"
 for command in "plan p" "compose p four-track.log -o new" "read p four-track.capture -o new" "check p four-track.capture"; do
-    refused "vin: p: refused by 1: words is 128: a frame has 129 to 511 words" $command
+    refused "vin: p:1: refused by 1 at 0: words is 128: a frame has 129 to 511 words" $command
 done
 plan "words 512" "$two"
-refused "vin: p: refused by 1: words is 512: a frame has 129 to 511 words" plan p
+refused "vin: p:1: refused by 1 at 0: words is 512: a frame has 129 to 511 words" plan p
 plan "$one" "tracks 0"
-refused "vin: p: refused by 1: tracks is 0: a group has 1 to 4 tracks" plan p
+refused "vin: p:2: refused by 1 at 0: tracks is 0: a group has 1 to 4 tracks" plan p
 plan "$one" "tracks 2"
-refused "vin: p: refused by 1: more than one track needs exactly one used bus; used: 0" plan p
+refused "vin: p:2: refused by 1 at 0: more than one track needs exactly one used bus; used: 0" plan p
 plan "words 999999999" "tracks 5" "parity yes" "bus 1 1553" "bus 9 arinc"
-refused "vin: p: refused by 1: words is 999999999: a frame has 129 to 511 words
-vin: p: refused by 1: tracks is 5: a group has 1 to 4 tracks
-vin: p: refused by 1: more than one track needs exactly one used bus; used: 2
-vin: p: refused by 1: bus 9 is used: with parity the buses are 0 to 7" plan p
+refused "vin: p:1: refused by 1 at 0: words is 999999999: a frame has 129 to 511 words
+vin: p:2: refused by 1 at 0: tracks is 5: a group has 1 to 4 tracks
+vin: p:2: refused by 1 at 0: more than one track needs exactly one used bus; used: 2
+vin: p:5: refused by 1 at 0: bus 9 is used: with parity the buses are 0 to 7" plan p
 # Every rule with every other: legal just when document 01 says so, and each refusal names a rule.
 for words in 128 129 511 512; do for tracks in 0 1 2 4 5; do for parity in no yes; do for buses in "" 7 8 "2 9"; do
     plan "words $words" "tracks $tracks" "parity $parity"
@@ -38,7 +38,7 @@ head -c 32769 /dev/zero >l
 refused "vin: l: refused by 2 at 0: the log has more than 32768 bytes" list l
 refused "vin: l: refused by 2 at 0: the log has more than 32768 bytes" compose four-track.plan l -o new
 : >l
-refused "vin: l: refused by 2 at bit 0 (byte 0, bit 0, item 1): the log ends here, without its end mark" list l
+refused "vin: l: refused by 2 at bit 0 (byte 0, bit 0, item 1): the file is empty, and the empty log is a byte 00" list l
 head -c 100 four-track.log >l
 refused "vin: l: refused by 2 at bit 784 (byte 98, bit 0, item 28): a status begins here, and the log ends inside it" list l
 refused "vin: l: refused by 2 at bit 784 (byte 98, bit 0, item 28): a status begins here, and the log ends inside it" \
@@ -75,10 +75,10 @@ refused "vin: composite.times: refused by 5 at 2: frame times needed: 2, one a g
 printf '%s\n' 0 42949672959999 >t
 done_by compose four-track.plan four-track.log t -o new
 printf '%s\n' 0 42949672960000 >t
-refused "vin: t: refused by 5 at time 1 (counted from 0): 42949672960000 microseconds, and times are below 42949672960000" \
+refused "vin: t:2: refused by 5 at time 1 (counted from 0): 42949672960000 microseconds, and times are below 42949672960000" \
     compose four-track.plan four-track.log t -o new
 printf '%s\n' 99999999999999999999999 0 >t
-refused "vin: t: refused by 5 at time 0 (counted from 0): 18446744073709551615 microseconds, and times are below 42949672960000" \
+refused "vin: t:1: refused by 5 at time 0 (counted from 0): 99999999999999999999999 microseconds, and times are below 42949672960000" \
     compose four-track.plan four-track.log t -o new
 printf '%s\n' 42949672960000 >t
 refused "vin: t: refused by 5 at 2: frame times needed: 2, one a group; given: 1" \
@@ -98,48 +98,36 @@ refused "vin: long: refused by 6 at 36441: the log would have 36441 bytes, and a
 head -c 1600 four-track.capture >bad
 refused "vin: bad: refused by 8 at 1600: 1600 bytes are not whole groups of 1548 bytes; left over: 52" read four-track.plan bad -o new
 head -c 1048577 /dev/zero >long
-refused "vin: long: refused by 8: the capture has more than 1048576 bytes" check four-track.plan long
+too_long="vin: long: refused by 8 at 1048577: the capture has 1048577 bytes, and at most 1048576 are read
+vin: long: hint: cut it into pieces of whole groups (split -b 1047996); an item that lies across a cut is lost"
+refused "$too_long" check four-track.plan long
+refused "$too_long" dump four-track.plan long
+"${vin[@]}" check four-track.plan - <<<"" 2>err.txt
+[ $? -eq 1 ] && grep -qx 'vin: standard input: refused by 8 at 1: 1 bytes are not whole groups of 1548 bytes; left over: 1' err.txt
+result "8 of standard input" $?
+cat long long | "${vin[@]}" check four-track.plan - 2>err.txt
+printf '%s\n' "vin: standard input: refused by 8 at 1048577: the capture has more than 1048576 bytes" \
+    "vin: standard input: hint: cut it into pieces of whole groups (split -b 1047996); an item that lies across a cut is lost" >want
+same "8 of a pipe" want err.txt
 
 # 9, 11: on tracks; 10, 12: with parity
 patched four-track.capture 129 "FAF321"
-refused "vin: bad: refused by 9 at word 129 (group 0, track 2, word 1): FAF321 stands where the sync word FAF320 belongs" \
+refused "vin: bad: refused by 9 at word 129 (group 0, track 2, word 1): FAF321: the sync word FAF320 belongs here" \
     read four-track.plan bad -o new
 patched four-track.capture 1000 "2D0000"
-refused "vin: bad: refused by 11 at word 1031 (group 1, track 4, word 129): $(od -An -tx1 -j3093 -N3 bad | tr -d ' ' | tr a-f A-F) is not the CRC word of the words before it in its frame" \
+refused "vin: bad: refused by 11 at word 1031 (group 1, track 4, word 129): 03B3B4: the CRC word of the words before it in its frame is 03889A" \
     check four-track.plan bad
 patched composite.capture 200 "000003"
-refused "vin: bad: refused by 10 at word 200 (group 1, track 1, word 72): 000003 has 2 ones, an even number, and the plan has parity" \
+refused "vin: bad: refused by 10 at word 200 (group 1, track 1, word 72): 000003: it has 2 ones, an even number, and the plan has parity" \
     read composite.plan bad -o new
 patched composite.capture 1 "860000"
-refused "vin: bad: refused by 12 at word 1 (group 0, track 1, word 2): 860000 has bus 0 and label 6; the frame time's high word has bus 0 and label 7" \
+refused "vin: bad: refused by 12 at word 1 (group 0, track 1, word 2): 860000: it has bus 0 and label 6; the frame time's high word has bus 0 and label 7" \
     read composite.plan bad -o new
 patched composite.capture 132 "052710"
 refused "vin: bad: refused by 12 at word 132 (group 1, track 1, word 4): 052710: the frame time's micro is 10000; it must be below 10000" \
     read composite.plan bad -o new
 
-# 13: a low syllable alone, an unused bus, fill other than AAAA, and a high syllable at the end
-patched composite.capture 4 "580000"
-refused "vin: bad: refused by 13 at word 4 (group 0, track 1, word 5): 580000 (low syllable on bus 5) starts or continues no item" \
-    read composite.plan bad -o new
-patched composite.capture 4 "7D0001"
-refused "vin: bad: refused by 13 at word 4 (group 0, track 1, word 5): 7D0001 is on bus 7, which the plan does not use" \
-    check composite.plan bad
-patched composite.capture 9 "010000"
-refused "vin: bad: refused by 13 at word 9 (group 0, track 1, word 10): 010000 has label 1, fill, and fill is AAAA" \
-    check composite.plan bad
-last=$(($(od -An -v -tx1 -w3 composite.capture | grep -n '^ 90 00 04$' | tail -n 1 | cut -d: -f1) - 1))
-patched composite.capture "$last" "590001"
-refused "vin: bad: refused by 13 at word $last (group 2, track 1, word $((last - 257))): 590001 (high syllable on bus 5) starts or continues no item, or starts one that the capture's end cuts" \
-    check composite.plan bad
-
-# 14: the plain reading takes it, the closed one does not
-patched composite.capture 10 "01AAAA"
-refused "vin: bad: refused by 14 at word 10 (group 0, track 1, word 11): 01AAAA: misplaced fill: data follows it, or its group is after the last data" \
-    check composite.plan bad
-done_by read composite.plan bad -o new
-patched composite.capture 386 "31AAAA"
-refused "vin: bad: refused by 14 at word 386 (group 2, track 1, word 129): 31AAAA: misplaced fill: its bus is 3 and not 0" \
-    check composite.plan bad
+# 13 and 14: words.sh
 
 # What a number means: each has its page, and no other number has.
 for n in {0..14}; do

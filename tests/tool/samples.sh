@@ -12,8 +12,14 @@ for sample in four-track composite; do
     done_by read $sample.plan $sample.capture -o new --times new.times
     same "$sample: log read" $sample.log new
     same "$sample: times read" $sample.times new.times
-    done_by read $sample.plan $sample.capture -o new
+    noted "vin: $sample.capture: note: frame times not kept: $(wc -l <$sample.times); --times-out FILE writes them" \
+        read $sample.plan $sample.capture -o new
     same "$sample: log read without times" $sample.log new
+    done_by compose $sample.plan $sample.log --times $sample.times -o new
+    same "$sample: composed with --times" $sample.capture new
+    done_by read $sample.plan $sample.capture -o new --times-out new.times
+    same "$sample: log read with --times-out" $sample.log new
+    same "$sample: times read with --times-out" $sample.times new.times
 
     "${vin[@]}" compose $sample.plan - $sample.times -o - <$sample.log | "${vin[@]}" read $sample.plan - -o - | "${vin[@]}" list >new
     same "$sample: through pipes" $sample.txt new
@@ -37,8 +43,13 @@ bytes 00 >empty.log
 says 0 "end 0" list empty.log
 done_by compose four-track.plan empty.log -o new
 same "the empty log" none new
-says 0 "yes: a log of 1 bytes, frame times: 0" check four-track.plan none
-done_by read four-track.plan none -o new
+"${vin[@]}" check four-track.plan none >have 2>err.txt
+result "an empty capture: status" $?
+echo "yes: a log of 1 byte, frame times: 0" >want
+same "an empty capture" want have
+echo "vin: none: note: the capture has no bytes: that is the capture of an empty log" >want
+same "an empty capture: the note" want err.txt
+noted "vin: none: note: the capture has no bytes: that is the capture of an empty log" read four-track.plan none -o new
 same "no bytes" empty.log new
 
 # The plan's picture.
@@ -85,4 +96,4 @@ same "two tracks" want have
 printf 'words 129\r\ntracks 1\r\nbus 3 1553\r\n' >p
 "${vin[@]}" plan p | grep -q '128 slots for data in a group, 387 bytes a group'
 result "lines that end in carriage return and line feed" $?
-rm -f have want new none empty.log p
+rm -f have want new none empty.log p err.txt

@@ -1,6 +1,6 @@
 /* The entry points as the kit's module has them: the answer's address is handed over first. That is how C returns a struct of this
  * size on x86-64; on another processor this stands between. */
-#include "../include/vinculampe.h"
+#include "../../include/vinculampe.h"
 
 #define PLAN uint32_t words, uint32_t tracks, uint32_t frame_time, uint32_t crc, uint32_t parity, const uint8_t *kinds, size_t kinds_len
 #define RUN(kind, name) kind uint8_t *name, size_t name##_len

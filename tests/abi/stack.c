@@ -1,0 +1,158 @@
+/* The stack that a call needs: each function is called in a thread whose stack is painted, and what lost its paint is measured and
+ * held to VIN_STACK_BYTES of include/vinculampe.h. Plans of all tracks and choices; logs from one item to the longest; captures up to
+ * the largest; calls that are refused. */
+#define _GNU_SOURCE
+#include <pthread.h>
+#include <stdbool.h>
+#include <stdio.h>
+#include <stdlib.h>
+#include <string.h>
+#include <sys/mman.h>
+
+#include "../../include/vinculampe.h"
+
+enum { STACK = 1 << 18, PAINT = 0x5A, LEAST = 1024 };
+
+static uint8_t log_bytes[VIN_LOG_MAX], times[VIN_READ_GROUPS_MAX * VIN_TIME_BYTES], capture[VIN_CAPTURE_MAX];
+static uint8_t back[VIN_LOG_MAX], back_times[VIN_READ_GROUPS_MAX * VIN_TIME_BYTES];
+
+typedef struct {
+    enum { COMPOSE, READ, READ_CLOSED } function;
+    vin_plan plan;
+    size_t length, times_length, room;
+    vin_answer answer;
+    uint8_t *above; /* an address in the caller's frame */
+} work;
+
+static void *run(void *given)
+{
+    work *w = given;
+    uint8_t here = 0;
+    w->above = &here;
+    if (w->function == COMPOSE)
+        w->answer = vin_plan_compose(&w->plan, log_bytes, w->length, times, w->times_length, capture, w->room);
+    else
+        w->answer = (w->function == READ ? vin_plan_read : vin_plan_read_closed)(&w->plan, capture, w->length, back, w->room,
+                                                                                 back_times, sizeof back_times);
+    return NULL;
+}
+
+/* The bytes below the caller's frame that a call touched. */
+static size_t used(work *w, uint8_t *stack)
+{
+    pthread_attr_t attributes;
+    pthread_t thread;
+    size_t n = 0;
+    memset(stack, PAINT, STACK);
+    if (pthread_attr_init(&attributes) != 0 || pthread_attr_setstack(&attributes, stack, STACK) != 0
+        || pthread_create(&thread, &attributes, run, w) != 0 || pthread_join(thread, NULL) != 0) {
+        printf("stack: no thread\n");
+        exit(2);
+    }
+    pthread_attr_destroy(&attributes);
+    while (stack[n] == PAINT)
+        n++;
+    return (size_t)(w->above - (stack + n));
+}
+
+static size_t bits;
+
+static void put(unsigned width, uint32_t value)
+{
+    for (; width > 0; width--, bits++)
+        if (value >> (width - 1) & 1)
+            log_bytes[bits / 8] |= (uint8_t)(0x80 >> bits % 8);
+}
+
+/* Tagged commands, statuses with their response, and data words on bus 2, or ARINC words tagged and not. */
+static size_t make_log(size_t most, unsigned kind)
+{
+    memset(log_bytes, 0, sizeof log_bytes);
+    bits = 0;
+    for (unsigned n = 0; bits + 89 + 4 <= 8 * most; n++) {
+        unsigned timed = n % 3 == 0;
+        if (kind == VIN_KIND_1553 && n % 3 != 2) {
+            put(8, n % 3 == 0 ? 0x12 : 0x22);
+            put(2, 1); /* A, with its time */
+            put(16, n);
+            put(n % 3 == 0 ? 32 : 0, n);
+            put(14, n % 10000);
+        } else if (kind == VIN_KIND_1553) {
+            put(8, 0x32);
+            put(17, n);
+        } else {
+            put(8, 0x52);
+            put(3, n % 4 << 1 | timed);
+            put(32, n);
+            put(timed ? 32 : 0, n);
+            put(timed ? 14 : 0, n % 10000);
+        }
+    }
+    put(4, 0);
+    return (bits + 7) / 8;
+}
+
+static size_t most[3];
+
+static vin_answer measure(work w, uint8_t *stack)
+{
+    size_t bytes = used(&w, stack);
+    if (bytes > most[w.function])
+        most[w.function] = bytes;
+    return w.answer;
+}
+
+/* A plan's calls: composed, read and read closed, each also without room; then a capture as large as can be. */
+static void measure_plan(vin_plan plan, size_t log_length, uint8_t *stack)
+{
+    work w = {COMPOSE, plan, log_length, 0, sizeof capture, {0, 0, 0, 0, 0}, NULL};
+    vin_answer a = measure(w, stack);
+    w.times_length = a.number == VIN_TIMES ? (size_t)a.place * VIN_TIME_BYTES : 0;
+    a = measure(w, stack);
+    if (a.number != VIN_DONE) {
+        printf("stack: composing is refused by %u\n", (unsigned)a.number);
+        exit(2);
+    }
+    size_t group = VIN_GROUP_BYTES(plan.words, plan.tracks), length = (size_t)a.bytes;
+    for (int closed = 0; closed < 2; closed++) {
+        work r = {closed ? READ_CLOSED : READ, plan, length, 0, sizeof back, {0, 0, 0, 0, 0}, NULL};
+        if (measure(r, stack).number != VIN_DONE) {
+            printf("stack: reading is refused\n");
+            exit(2);
+        }
+        r.room = 0;
+        measure(r, stack);
+    }
+    for (size_t at = length; at + group <= sizeof capture; at += group) /* the last group again and again */
+        memcpy(capture + at, capture + length - group, group);
+    work r = {READ, plan, sizeof capture / group * group, 0, sizeof back, {0, 0, 0, 0, 0}, NULL};
+    measure(r, stack);
+    w.room = 0;
+    measure(w, stack);
+}
+
+int main(void)
+{
+    uint8_t *stack = mmap(NULL, STACK, PROT_READ | PROT_WRITE, MAP_PRIVATE | MAP_ANONYMOUS, -1, 0);
+    if (stack == MAP_FAILED) {
+        perror("stack");
+        return 2;
+    }
+    for (unsigned kind = VIN_KIND_1553; kind <= VIN_KIND_ARINC; kind++)
+        for (uint32_t tracks = 1; tracks <= 4; tracks++)
+            for (unsigned choices = 0; choices < 8; choices++)
+                for (int longest = 0; longest < 2; longest++) {
+                    vin_plan plan = VIN_PLAN_INIT(longest ? 511 : 129, tracks);
+                    plan.frame_time = choices & 1;
+                    plan.crc = choices >> 1 & 1;
+                    plan.parity = choices >> 2;
+                    plan.kinds[2] = (uint8_t)kind;
+                    measure_plan(plan, make_log(longest ? VIN_LOG_MAX : 12, kind), stack);
+                }
+    bool good = true;
+    for (int n = 0; n < 3; n++)
+        good = good && most[n] >= LEAST && most[n] <= VIN_STACK_BYTES;
+    printf("stack: composing %zu bytes, reading %zu, closed reading %zu; the header says %d\n", most[COMPOSE], most[READ],
+           most[READ_CLOSED], VIN_STACK_BYTES);
+    return !good;
+}

@@ -1,0 +1,52 @@
+# Completion of vin for bash: commands, the options of each, plans, logs and captures by their names.
+# shellcheck shell=bash
+_vin_options() { # COMMAND
+    case $1 in
+    compose) echo "-o --times" ;;
+    read) echo "-o --times-out" ;;
+    dump) echo "--from --count --group --bus --stored --no-fill --faults -o" ;;
+    list) echo "--json --csv --decode -o" ;;
+    pack | info) echo "-o" ;;
+    esac
+}
+
+_vin() {
+    local word=${COMP_WORDS[COMP_CWORD]} before=${COMP_WORDS[COMP_CWORD - 1]} command=${COMP_WORDS[1]} n files=0
+    local commands="compose read check dump info list pack plan explain"
+    COMPREPLY=()
+    if [ "$COMP_CWORD" -eq 1 ]; then
+        mapfile -t COMPREPLY < <(compgen -W "$commands help --help --version" -- "$word")
+        return
+    fi
+    case $before in
+    --bus) mapfile -t COMPREPLY < <(compgen -W "$(echo {0..15})" -- "$word"); return ;;
+    --from | --count | --group) return ;;
+    -o | --times | --times-out) mapfile -t COMPREPLY < <(compgen -f -- "$word"); return ;;
+    esac
+    case $command in
+    help) mapfile -t COMPREPLY < <(compgen -W "$commands" -- "$word"); return ;;
+    explain) mapfile -t COMPREPLY < <(compgen -W "$(echo {0..14})" -- "$word"); return ;;
+    esac
+    if [[ $word == -* ]]; then
+        mapfile -t COMPREPLY < <(compgen -W "$(_vin_options "$command") --help" -- "$word")
+        return
+    fi
+    for ((n = 2; n < COMP_CWORD; n++)); do
+        case ${COMP_WORDS[n]} in
+        -o | --times | --times-out | --from | --count | --group | --bus) n=$((n + 1)) ;;
+        -) files=$((files + 1)) ;;
+        -*) ;;
+        *) files=$((files + 1)) ;;
+        esac
+    done
+    mapfile -t COMPREPLY < <(compgen -f -- "$word")
+    case $command:$files in # the first file of these is a plan: those that look like one, if any does
+    compose:0 | read:0 | check:0 | dump:0 | plan:0)
+        local plans
+        mapfile -t plans < <(compgen -f -X '!*.plan' -- "$word"; compgen -d -S / -- "$word")
+        [ ${#plans[@]} -eq 0 ] || COMPREPLY=("${plans[@]}")
+        ;;
+    esac
+}
+
+complete -o filenames -F _vin vin
