@@ -5,7 +5,7 @@ use native.Mathlib.Omega.{arith}
 use mathlib.Core.Bool.{Bool, true, false}
 use mathlib.Core.Path.{_≡_, refl, sym, ap, ap₂, subst, _∙_}
 use mathlib.Core.List.{List, [], _∷_, _++_, append-assoc, append-nil, flatMap}
-use lib.ListN.{length}
+use lib.ListN.{length, take, drop, length-take, length-drop}
 use Rattle.format.specs.Lists.{list}
 use Rattle.format.specs.Plan.{groupWords, slots, storedAt, rows, lead}
 use Rattle.format.specs.Item.{itemBits}
@@ -17,12 +17,13 @@ use Rattle.format.specs.declared.Item.{Item}
 use Rattle.format.specs.declared.Held.{Held}
 use Rattle.format.specs.declared.Held.the-variants.{Nothing}
 use Rattle.format.specs.declared.Plan.{Plan}
-use Rattle.format.specs.Laws.Limits.{Shape, free, rows-under}
+use Rattle.format.specs.Laws.Limits.{Shape, free, rows-under, lead-few, room}
 use Rattle.format.specs.Laws.Tests.{clash}
 use Rattle.format.specs.Laws.Lists.{flatMap-append}
 use Rattle.format.specs.Laws.Reader.Named.{renamed, run-named, run-in, groups-fresh, slots-counted, wordsIn}
-use Rattle.group_read.specs.Row.{dealtCount}
-use Rattle.group_read.proofs.Answers.{words-length}
+use Rattle.group_read.specs.declared.Fault.{Fault as Found}
+use Rattle.group_read.specs.Row.{dealtCount, Deals}
+use Rattle.group_read.proofs.Answers.{answer-none, answer-found, answer-low, answer-words, words-length}
 use Rattle.data_start.specs.Holding.{flat}
 use Rattle.data_word.specs.Holding.{heldOf}
 use Rattle.data_word.proofs.Flat.{nothing-is-held}
@@ -138,7 +139,7 @@ module _ (ks : List Kind) (p : Plan) (c : List ℕ) (n : ℕ) (out₀ : List ℕ
 
       pub since-low : r .since ≤ (g + 1) * slots p
       since-low =
-          ran-low ((g + 1) * slots p) here fills
+          ran-low ((g + 1) * slots p) x r out out′ here fills
           (run-in ks (p .parity) (λ q. q ≤ (g + 1) * slots p) (numbersOf p c g) (counted-within ((g + 1) * slots p) (g * slots p) (wordsIn (groupSlots p c first)) upto)
           (heldOf (x .held)) (x .since) (omega (arith, a .low)))
           ran-to
@@ -201,6 +202,10 @@ module _ (p : Plan) (s : Shape p) where
   unfolding slots
   slots-few = omega (arith, dealt-few)
 
+  pub dealt-all : lead p + slots p ≡ dealtCount p
+  unfolding slots
+  dealt-all = omega (arith, lead-few p, room p s)
+
   -- the data words of n groups
   pub numbers-few : (n size : ℕ) → size ≡ n * (3 * groupWords p) → size ≤ 1048576 → n * slots p ≤ 349525
   numbers-few n size e l = omega (arith, mul-le-mul-left n slots-few)
@@ -208,6 +213,38 @@ module _ (p : Plan) (s : Shape p) where
   -- the group g of n is within the capture
   pub group-room : (n g size : ℕ) → size ≡ n * (3 * groupWords p) → g < n → g * (3 * groupWords p) + 3 * groupWords p ≤ size
   group-room n g size e l = let k : suc g ≤ n = l in omega (arith, mul-le-mul-right (3 * groupWords p) k)
+
+  -- what is lent of the capture for the group g, and of the row that it is dealt to
+  pub part-length : (c : List ℕ) (n g : ℕ) → length c ≡ n * (3 * groupWords p) → g < n
+      → length (take (g * (3 * groupWords p) + 3 * groupWords p - g * (3 * groupWords p)) (drop (g * (3 * groupWords p)) c)) ≡ 3 * groupWords p
+  part-length c n g e l = simp (length-take, length-drop) (omega (arith, group-room n g (length c) e l))
+
+  module _ (c : List ℕ) (g : ℕ) where
+    abbrev pub partOf : List ℕ
+    partOf = take (g * (3 * groupWords p) + 3 * groupWords p - g * (3 * groupWords p)) (drop (g * (3 * groupWords p)) c)
+
+    begins : g * (3 * groupWords p) ≡ 3 * (g * groupWords p)
+    begins = omega arith
+
+    sized : g * (3 * groupWords p) + 3 * groupWords p - g * (3 * groupWords p) ≡ 3 * groupWords p
+    sized = omega arith
+
+    module _ {r : Found} {row₀ row : List ℕ} (d : Deals p partOf row₀ r row) where
+      pub dealt-none : r .number ≡ 0 → groupFault p c (g * groupWords p) ≡ none
+      dealt-none z = answer-none p c (g * groupWords p) (g * (3 * groupWords p)) _ s begins sized (d .fault) z
+
+      pub dealt-found : (r .number ≡ 0 → ⊥) → groupFault p c (g * groupWords p) ≡ found (r .number) (g * groupWords p + r .place)
+      dealt-found z = answer-found p c (g * groupWords p) (g * (3 * groupWords p)) _ s begins sized (d .fault) z
+
+      pub dealt-low : r .place < groupWords p
+      dealt-low = answer-low p c (g * groupWords p) (g * (3 * groupWords p)) _ s begins sized (d .fault)
+
+      pub dealt-words : (first count : ℕ) → r .number ≡ 0 → first ≡ lead p → count ≡ slots p
+          → take (first + count - first) (drop first row) ≡ wordsIn (groupSlots p c (g * groupWords p))
+      dealt-words first count z e f =
+          let k : first + count - first ≡ slots p = omega arith in
+          ap (λ (n : ℕ). take (first + count - first) (drop n row)) e
+          ∙ answer-words p c (g * groupWords p) (g * (3 * groupWords p)) _ s begins sized (drop (dealtCount p) row₀) (first + count - first) k (d .words z)
 
   -- the words of a group in a row that is as long as a third of the capture
   pub row-room : (n size : ℕ) → size ≡ n * (3 * groupWords p) → 0 < n → 3 * dealtCount p ≤ size

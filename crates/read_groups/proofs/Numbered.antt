@@ -80,7 +80,7 @@ module _ (p : Plan) (c : List ℕ) (some : 1 ≤ slots p) where
 pub counted-below : (N n : ℕ) (ws : List ℕ) → n + length ws ≤ N → All (λ (s : Slot). s .0 < N) (counted n ws)
 unfolding counted
 counted-below N n [] h = nil
-counted-below N n (w ∷ ws) h = cons (omega arith) (counted-below N (n + 1) ws (omega arith))
+counted-below N n (w ∷ ws) h = cons {a = (n, w)} (omega arith) (counted-below N (n + 1) ws (omega arith))
 
 pub counted-within : (N n : ℕ) (ws : List ℕ) → n + length ws ≤ N → All (λ (s : Slot). s .0 ≤ N) (counted n ws)
 counted-within N n ws h = all-map (λ s l. omega (arith, l)) (counted-below N n ws h)
@@ -109,6 +109,6 @@ fills-few N parity i [] x nil a = a
 fills-few N parity i (s ∷ ss) x (cons h all) a = fills-few N parity (i + 1) ss (onSlot parity i s x) all (slot-few N parity i s x h a)
 
 -- and so is the one that a run tells of
-pub ran-low : (N : ℕ) {x r : Pass} {out out′ : List ℕ} (y : Ran) (f : Fills) → RanIn (λ q. q ≤ N) y → RanTo x out y f r out′ → r .since ≤ N
-ran-low N (badAt q) f a m = rw (m .1) a
-ran-low N (ran is h q) f a m = rw (m .2) a
+pub ran-low : (N : ℕ) (x r : Pass) (out out′ : List ℕ) (y : Ran) (f : Fills) → RanIn (λ q. q ≤ N) y → RanTo x out y f r out′ → r .since ≤ N
+ran-low N x r out out′ (badAt q) f a m = rw (m .1) a
+ran-low N x r out out′ (ran is h q) f a m = rw (m .2) a
