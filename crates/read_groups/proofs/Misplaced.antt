@@ -17,7 +17,7 @@ use Rattle.data_run.specs.declared.fill.Fills.{Fills}
 use Rattle.data_run.specs.Fills.{onSlot, orPlace, fillsIn}
 use Rattle.read_groups.specs.Misplaced.{noFill, fillsOver, told, earliest}
 
-yes-or-no : {A : Type 0} (b : Bool) → (b ≡ true → A) → (b ≡ false → A) → A
+pub yes-or-no : {A : Type 0} (b : Bool) → (b ≡ true → A) → (b ≡ false → A) → A
 yes-or-no true y n = y refl
 yes-or-no false y n = n refl
 

@@ -283,8 +283,8 @@ loop-again c =
       omega (arith, l .loop .inv .1, start l .pre .0 .1),
       dealt e .deal .ensures .long ∙ l .loop .inv .2,
       over-more (start l .args .kinds) (plan l) (capture l) (start l .args .groups) (start l .args .out .now) (shape l) (l .loop .g) (in-loop (dealt e) .loop-test .taken)
-      (l .loop .pass) (l .loop .out) (over l) (counted (l .loop .from) (part e)) (counted-is e) (sound e) (r .on-row .result) (out r) (r .on-row .ensures .0) (c .if2 .left)
-      (omega (arith, r .on-row .ensures .1 (c .if2 .left), l .loop .inv .1, part-length-is e)),
+          (l .loop .pass) (l .loop .out) (over l) (counted (l .loop .from) (part e)) (counted-is e) (sound e) (r .on-row .result) (out r) (r .on-row .ensures .0) (c .if2 .left)
+          (omega (arith, r .on-row .ensures .1 (c .if2 .left), l .loop .inv .1, part-length-is e)),
     )
 
 same-length-5 : tie.Need-same-length-5 Inv-loop μ-loop

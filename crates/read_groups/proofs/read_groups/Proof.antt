@@ -1,7 +1,7 @@
 use Prim.Native.Nat.{ℕ, _*_, _^_, _≤_, _<_}
 use native.Mathlib.Omega.{arith}
 use borrow.Author.Needs.{needs}
-use mathlib.Core.Path.{_≡_, sym, _∙_}
+use mathlib.Core.Path.{sym, subst}
 use mathlib.Core.List.{List}
 use Rattle.format.specs.Plan.{slots, storedAt}
 use Rattle.format.specs.Read.{finish}
@@ -60,7 +60,9 @@ abbrev since : Finished → ℕ
 since c = storedAt (plan (walked (all c))) (pass (walked (all c)) .since)
 
 closes : (c : Finished) → Closes (finish (heldOf (pass (walked (all c)) .held)) (since c)) (c .finish .result)
-closes c = rw (c .finish .ensures (since c)) (finish-means (pass (walked (all c)) .held) (through (all c) .brought .sound .sane) (since c))
+closes c =
+    subst (Closes (finish (heldOf (pass (walked (all c)) .held)) (since c))) (sym (c .finish .ensures (since c)))
+    (finish-means (pass (walked (all c)) .held) (through (all c) .brought .sound .sane) (since c))
 
 -- its bits are put
 abbrev Put : Type 0
