@@ -16,7 +16,8 @@ use Rattle.group_read.specs.Row.{dealtCount, Deals}
 use Rattle.group_read.proofs.Answers.{words-length, words-low}
 use Rattle.read_groups.specs.Misplaced.{numbersOf}
 use Rattle.read_groups.specs.Groups.{Over}
-use Rattle.read_groups.proofs.Groups.{over-none, over-fault, over-bad, over-more, over-all, since-low, numbers-few, dealt-all, group-room, part-length, dealt-none, dealt-found, dealt-low, dealt-words}
+use Rattle.read_groups.proofs.Groups.{over-none, over-fault, over-bad, over-more, over-all, since-low, numbers-few, dealt-all, group-room}
+use Rattle.read_groups.proofs.Groups.{part-length, dealt-none, dealt-found, dealt-low, dealt-words}
 use Rattle.read_groups.proofs.over_groups.Statement.{statement}
 use Rattle.read_groups.proofs.over_groups.Tie as tie
 
