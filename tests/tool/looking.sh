@@ -45,6 +45,10 @@ same "--bus 5" want have
 [ "$(wc -l <have)" -gt 100 ]
 result "--bus 5 has lines" $?
 
+"${vin[@]}" dump composite.plan composite.capture --bus 0 | tail -n +2 >have
+awk '$7 == 0 && !/frame time/' dealt >want
+same "--bus 0 has the data slots, not the frame time" want have
+
 # Faults stand in their line, all of them, in dealt order.
 cp four-track.capture bad
 for change in 645:FAF321 520:2D0000 517:040000 390:250000 770:31AAAA; do

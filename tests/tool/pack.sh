@@ -33,6 +33,15 @@ result "the longest and the empty log are among them" $?
 "${vin[@]}" list drawn/59.log | sed '$d' >text
 echo "ovf 0 0000" >>text
 misuse "vin: text:$(wc -l <text): with this item the log has more than 32768 bytes" pack text -o new
+# The last bit: 10921 marks are 262104 bits of 262144. Two notices leave four for the end mark; a timed status leaves none.
+for n in {1..10921}; do echo "ovf 0 0000"; done >text
+{ cat text; echo "are 0 1 00"; echo "are 0 1 00"; } | "${vin[@]}" pack -o new
+result "a log to the last bit" $?
+[ "$(stat -c %s new)" -eq 32768 ] && [ "$("${vin[@]}" list new | tail -n 1)" = "end 10923" ]
+result "a log to the last bit is listed" $?
+rm -f new
+echo "sta 0 A 0000 resp 1" >>text
+misuse "vin: text:10922: with this item the log has more than 32768 bytes" pack text -o new
 rm -rf drawn draw text
 
 # What is no line of a listing.

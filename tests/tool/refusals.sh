@@ -77,6 +77,9 @@ done_by compose four-track.plan four-track.log t -o new
 printf '%s\n' 0 42949672960000 >t
 refused "vin: t:2: refused by 5 at time 1 (counted from 0): 42949672960000 microseconds, and times are below 42949672960000" \
     compose four-track.plan four-track.log t -o new
+printf '%s\n' '# two groups' '' 0 '42949672960000 # too late' >t
+refused "vin: t:4: refused by 5 at time 1 (counted from 0): 42949672960000 microseconds, and times are below 42949672960000" \
+    compose four-track.plan four-track.log t -o new
 printf '%s\n' 99999999999999999999999 0 >t
 refused "vin: t:1: refused by 5 at time 0 (counted from 0): 99999999999999999999999 microseconds, and times are below 42949672960000" \
     compose four-track.plan four-track.log t -o new
