@@ -1,150 +1,186 @@
--- The word in a slot, as the code has it: what it starts there, and a low syllable behind its high one.
+-- What the first words of an item do, where nothing is held.
 use Prim.Native.Nat.{ℕ, _+_, _*_, _-_, _/_, _%_, _^_, _≤_, _<_}
 use native.Mathlib.Omega.{arith}
-use mathlib.Core.Bool.{true, false}
+use mathlib.Core.Bool.{Bool, true, false}
 use mathlib.Core.Path.{_≡_, refl, sym, ap, subst, _∙_}
-use mathlib.Core.List.{List}
-use Rattle.format.specs.Word.{busOf, labelOf, infoOf, isFill}
-use Rattle.format.specs.Plan.{lead, slots, kindOn}
-use Rattle.format.specs.Reader.{feed, isPair, starts}
+use mathlib.Core.List.{List, [], _∷_, _++_, flatMap}
+use lib.ListN.{length, getD}
+use lib.Dec.{eqb}
+use borrow.Author.Tests.{eq-eqb, lt-ltb}
+use Rattle.format.specs.Bits.{bitsOf}
+use Rattle.format.specs.Word.{busOf, labelOf, infoOf}
+use Rattle.format.specs.Item.{itemBits}
+use Rattle.format.specs.Plan.{kindOn}
+use Rattle.format.specs.Lists.{list}
+use Rattle.format.specs.Reader.{Fed, bad, fed, feed, starts}
 use Rattle.format.specs.declared.Kind.{Kind}
-use Rattle.format.specs.declared.Kind.the-variants.{Mil1553, Arinc429}
-use Rattle.format.specs.declared.Held.the-variants.{Nothing}
-use Rattle.format.specs.declared.Plan.{Plan}
-use Rattle.group_read.specs.declared.Position.{Position}
-use Rattle.group_read.specs.Position.{positionOf}
-use Rattle.data_start.specs.declared.Holding.{Holding}
+use Rattle.format.specs.declared.Kind.the-variants.{Unused, Mil1553, Arinc429}
+use Rattle.format.specs.declared.Item.{Item}
+use Rattle.format.specs.declared.Item.the-variants.{Status}
+use Rattle.format.specs.declared.Response.the-variants.{After}
+use Rattle.format.specs.declared.Base.{Base}
+use Rattle.format.specs.declared.Base.the-variants as base
+use Rattle.format.specs.declared.Held.{Held}
+use Rattle.format.specs.declared.Held.the-variants.{Nothing, Taggable, Half, Answering}
+use Rattle.format.specs.Laws.Tests.{clash}
+use Rattle.format.specs.Laws.Lists.{getD-list}
 use Rattle.data_start.specs.declared.Step.{Step}
 use Rattle.data_start.specs.Holding.{flat}
-use Rattle.data_word.specs.Holding.{heldOf, Sane}
-use Rattle.data_start.specs.Opening.{opens, singleOf}
-use Rattle.data_start.specs.Step.{begun, holding}
+use Rattle.data_start.specs.Step.{begun}
+use Rattle.data_start.proofs.Labels.{upper}
+use Rattle.data_word.specs.Holding.{heldOf}
 use Rattle.data_word.specs.Step.{stepOf}
-use Rattle.data_start.proofs.Openers.{Says, opens-says}
-use Rattle.data_start.proofs.Begun.{command-is-held, high-syllable-is-held, notice-ends, response-is-held}
-use Rattle.data_items.specs.Slots.{Ahead, placeIn, topOf, wordIn}
-use Rattle.data_items.specs.Taken.{Opened, Takes, Went}
-use Rattle.data_items.proofs.Items.{Fedby, Still, begin-fill, begin-is, begin-sane, begin-widths, fed-at, half-still, other-label, still, takes-some, went-end, went-more, went-none}
-use Rattle.data_items.proofs.Slots.{bus-is, info-is, label-is, place-here}
+use Rattle.data_word.specs.Meaning.{Means}
+use Rattle.data_word.proofs.Flat.{nothing-is-held}
+use Rattle.data_word.proofs.Meaning.{feed-means, nothing-is-sane}
+use Rattle.data_word.proofs.Unawaited.{begun-of-nothing}
+use Rattle.data_items.specs.Row.{topOf}
+use Rattle.data_items.proofs.Words.{label-low, other-label, says-bus, says-label}
+use Rattle.data_items.proofs.Items.{held-none}
+use Rattle.data_items.proofs.Row.{Goes, fedAt, goes-first, goes-word}
 
--- what an opening says of its label
-pub opened-says : {n label : ℕ} (o : Opened n label) → label < 16 → Says (o .kind) label n
-opened-says {n} {label} o l = rw (o .is) (opens-says (o .kind) label l)
+-- ---- by the definition
 
-pub kind-says : {n label : ℕ} (k : Kind) → n ≡ opens k label → label < 16 → Says k label n
-kind-says {n} {label} k e l = rw e (opens-says k label l)
+-- a command of side B has label 11
+abbrev pub commandOf : ℕ → ℕ → ℕ → Base
+commandOf bus label info = base.Command bus (eqb label 11) info
 
-pub went-at : {ks : List Kind} {p : Plan} {c : List ℕ} {g i q j k : ℕ} {h : Holding} → j ≡ k → Went ks p c g i q j h → Went ks p c g i q k h
-went-at {ks} {p} {c} {g} {i} {q} {j} {k} {h} e w = subst (λ (x : ℕ). Went ks p c g i q x h) e w
+-- the channel of a high syllable
+abbrev pub channel : ℕ → ℕ
+channel label = (label - 9) / 2
 
-module _ {p : Plan} {c : List ℕ} {g slot n : ℕ} {at : Position} (a : Ahead p c g slot n at) (some : 1 ≤ n)
-    {word top : ℕ} (w : word ≡ wordIn p c g slot) (small : word < 2 ^ 24) (t : top ≡ topOf (p .parity) word) where
-  abbrev here : ℕ
-  here = wordIn p c g slot
+pub command-starts : (bus info label : ℕ) → 8 ≤ label → label < 16 → label % 4 ≡ 3 → starts Mil1553 bus label info ≡ fed [] (Taggable (commandOf bus label info))
+unfolding starts
+command-starts bus info =
+    upper (λ n. n % 4 ≡ 3 → starts Mil1553 bus n info ≡ fed [] (Taggable (commandOf bus n info)))
+    (λ e. absurd (omega arith)) (λ e. absurd (omega arith)) (λ e. absurd (omega arith)) (λ e. refl)
+    (λ e. absurd (omega arith)) (λ e. absurd (omega arith)) (λ e. absurd (omega arith)) (λ e. refl)
 
-  small-here : here < 2 ^ 24
-  small-here = rw w at small
+pub syllable-starts : (bus info label : ℕ) → 8 ≤ label → label < 16 → label % 2 ≡ 1 → starts Arinc429 bus label info ≡ fed [] (Half bus (channel label) info)
+unfolding starts
+syllable-starts bus info =
+    upper (λ n. n % 2 ≡ 1 → starts Arinc429 bus n info ≡ fed [] (Half bus (channel n) info))
+    (λ e. absurd (omega arith)) (λ e. refl) (λ e. absurd (omega arith)) (λ e. refl)
+    (λ e. absurd (omega arith)) (λ e. refl) (λ e. absurd (omega arith)) (λ e. refl)
 
-  top-here : top ≡ topOf (p .parity) here
-  top-here = t ∙ ap (topOf (p .parity)) w
+response-starts : (bus info label : ℕ) → label ≡ 4 → info < 10000 → starts Mil1553 bus label info ≡ fed [] (Answering bus info)
+unfolding starts
+response-starts bus info label e h = rw (e, lt-ltb info 10000 h) refl
 
-  bus-here : top / 16 ≡ busOf (p .parity) here
-  bus-here = bus-is (p .parity) here top top-here
+-- a status of either side follows its response
+abbrev pub answerOf : ℕ → ℕ → ℕ → ℕ → Item
+answerOf bus response label info = Status bus (eqb label 10) (After response) info
 
-  label-here : top % 16 ≡ labelOf here
-  label-here = label-is (p .parity) here top top-here
+status-feeds : (ks : List Kind) (b r bus info label : ℕ) → bus ≡ b → 8 ≤ label → label < 16 → label % 4 ≡ 2
+    → feed ks (Answering b r) bus label info ≡ fed (answerOf b r label info ∷ []) Nothing
+unfolding feed
+status-feeds ks b r bus info label d l u =
+    upper (λ n. n % 4 ≡ 2 → feed ks (Answering b r) bus n info ≡ fed (answerOf b r n info ∷ []) Nothing)
+    (λ e. absurd (omega arith)) (λ e. absurd (omega arith)) (λ e. rw (eq-eqb bus b d) refl) (λ e. absurd (omega arith))
+    (λ e. absurd (omega arith)) (λ e. absurd (omega arith)) (λ e. rw (eq-eqb bus b d) refl) (λ e. absurd (omega arith))
+    label l u
 
-  info-here : word % 65536 ≡ infoOf here
-  info-here = ap (λ (x : ℕ). x % 65536) w ∙ info-is here
+low-feeds : (ks : List Kind) (b c high bus label info : ℕ) → bus ≡ b → label ≡ 8 + 2 * c
+    → feed ks (Half b c high) bus label info ≡ fed [] (Taggable (base.Arinc b c (high * 2 ^ 16 + info)))
+unfolding feed
+low-feeds ks b c high bus label info d e = rw (eq-eqb bus b d, eq-eqb label (8 + 2 * c) e) refl
 
-  room : slot < slots p
-  room = omega (arith, a .room)
+-- ---- in a row
 
-  module _ (ks : List Kind) (kind : Kind) (k : kindOn ks (busOf (p .parity) word) ≡ kind) (r : Step)
-      (e : r ≡ begun (flat Nothing) 0 0 (starts kind (top / 16) (top % 16) (word % 65536))) (good : r .bad ≡ false) where
-    kind-here : kindOn ks (top / 16) ≡ kind
-    kind-here = ap (kindOn ks) (bus-is (p .parity) word top t) ∙ k
+module _ (ks : List Kind) (parity : Bool) (row : List ℕ) where
+  abbrev word : ℕ → ℕ
+  word i = getD row i 0
 
-    no-fill : isFill here ≡ false
-    no-fill = begin-fill ks p c g slot kind (top / 16) (top % 16) (word % 65536) r e kind-here here label-here good
+  abbrev bus : ℕ → ℕ
+  bus i = busOf parity (word i)
 
-    is-fed : r ≡ stepOf (heldOf (flat Nothing)) (feed ks (heldOf (flat Nothing)) (busOf (p .parity) here) (labelOf here) (infoOf here))
-    is-fed = fed-at ks (p .parity) here (flat Nothing) bus-here label-here info-here (begin-is ks p c g slot kind (top / 16) (top % 16) (word % 65536) r e kind-here)
+  first-feeds : (i : ℕ) (kind : Kind) → kindOn ks (bus i) ≡ kind → fedAt ks parity row Nothing i ≡ starts kind (bus i) (labelOf (word i)) (infoOf (word i))
+  unfolding feed
+  first-feeds i kind k = rw k refl
 
-    -- it is held
-    pub first-went : (r .held .awaits ≡ 0 → ⊥) → (q : ℕ) → Went ks p c g slot q (slot + 1) (r .held)
-    first-went z q =
-        let h = begin-widths ks p c g slot kind (top / 16) (top % 16) (word % 65536) r e kind-here z in
-        went-more ks p c g slot q slot (flat Nothing) (went-none ks p c g slot q) room no-fill small-here r is-fed good (h .0) (h .1)
+  pub goes-command : (i : ℕ) → i < length row → kindOn ks (bus i) ≡ Mil1553 → 8 ≤ labelOf (word i) → labelOf (word i) % 4 ≡ 3
+      → Goes ks parity row i (i + 1) [] (Taggable (commandOf (bus i) (labelOf (word i)) (infoOf (word i)))) i
+  goes-command i l k a b =
+      goes-first ks parity row [] _ l (other-label (word i) (λ z. absurd (omega (arith, z))))
+      (first-feeds i Mil1553 k ∙ command-starts (bus i) (infoOf (word i)) (labelOf (word i)) a (label-low (word i)) b) (λ old here. refl)
 
-    -- it is an item
-    pub first-takes : {next : Position} → next ≡ positionOf p g (lead p + (slot + 1)) → r .held .awaits ≡ 0
-        → Takes ks p c g slot (record { step = r; slots = 1; at = next; last = at .place })
-    first-takes f z =
-        takes-some ks p c g slot _ (slot + 1) (placeIn p g slot) refl f (place-here a some)
-        (λ q. went-end ks p c g slot q slot (flat Nothing) (went-none ks p c g slot q) room no-fill small-here r is-fed good z)
+  -- the high syllable, and its low one: on its bus, with the label before its own
+  pub goes-arinc : (i : ℕ) → i + 1 < length row → kindOn ks (bus i) ≡ Arinc429 → 8 ≤ labelOf (word i) → labelOf (word i) % 2 ≡ 1
+      → topOf parity (word (i + 1)) + 1 ≡ topOf parity (word i)
+      → Goes ks parity row i (i + 2) [] (Taggable (base.Arinc (bus i) (channel (labelOf (word i))) (infoOf (word i) * 2 ^ 16 + infoOf (word (i + 1))))) i
+  goes-arinc i l k a b t =
+      let c : ℕ = channel (labelOf (word i)) in
+      let o : 8 + 2 * c + 1 ≡ labelOf (word i) = omega (arith, label-low (word i)) in
+      let u : topOf parity (word (i + 1)) ≡ bus i * 16 + (8 + 2 * c) = omega arith in
+      let z : i + 1 + 1 ≡ i + 2 = omega arith in
+      let low : 8 + 2 * c < 16 = omega (arith, label-low (word i)) in
+      let e : labelOf (word (i + 1)) ≡ 8 + 2 * c = says-label parity (word (i + 1)) (bus i) (8 + 2 * c) u low in
+      let high : Goes ks parity row i (i + 1) [] (Half (bus i) c (infoOf (word i))) i =
+      goes-first ks parity row [] _ (omega arith) (other-label (word i) (λ z. absurd (omega (arith, z))))
+      (first-feeds i Arinc429 k ∙ syllable-starts (bus i) (infoOf (word i)) (labelOf (word i)) a (label-low (word i)) b) (λ old here. refl) in
+      goes-word ks parity row [] _ (i + 2) i high z l (other-label (word (i + 1)) (λ z. absurd (omega (arith, z, e))))
+      (low-feeds ks (bus i) c (infoOf (word i)) (bus (i + 1)) (labelOf (word (i + 1))) (infoOf (word (i + 1))) (says-bus parity (word (i + 1)) (bus i) (8 + 2 * c) u low)
+      e)
+      (λ n. refl)
 
-  -- the word is held, on a bus of the kind
-  pub record Begins (kind : Kind) (r : Step) : Type 0 where
-    pub sane : Sane (r .held)
-    pub awaits : r .held .awaits ≡ 0 → ⊥
-    pub went : (ks : List Kind) → kindOn ks (busOf (p .parity) word) ≡ kind → (q : ℕ) → Went ks p c g slot q (slot + 1) (r .held)
+  -- a response, and a status on its bus
+  pub goes-status : (i : ℕ) → i + 1 < length row → kindOn ks (bus i) ≡ Mil1553 → labelOf (word i) ≡ 4 → infoOf (word i) < 10000
+      → bus (i + 1) ≡ bus i → 8 ≤ labelOf (word (i + 1)) → labelOf (word (i + 1)) % 4 ≡ 2
+      → Goes ks parity row i (i + 2) (answerOf (bus i) (infoOf (word i)) (labelOf (word (i + 1))) (infoOf (word (i + 1))) ∷ []) Nothing (i + 1)
+  goes-status i l k a b d e m =
+      let z : i + 1 + 1 ≡ i + 2 = omega arith in
+      let response : Goes ks parity row i (i + 1) [] (Answering (bus i) (infoOf (word i))) i =
+      goes-first ks parity row [] _ (omega arith) (other-label (word i) (λ z. absurd (omega (arith, z))))
+      (first-feeds i Mil1553 k ∙ response-starts (bus i) (infoOf (word i)) (labelOf (word i)) a b) (λ old here. refl) in
+      goes-word ks parity row _ Nothing (i + 2) (i + 1) response z l (other-label (word (i + 1)) (λ z. absurd (omega (arith, z))))
+      (status-feeds ks (bus i) (infoOf (word i)) (bus (i + 1)) (infoOf (word (i + 1))) (labelOf (word (i + 1))) d e (label-low (word (i + 1))) m) (λ n. refl)
 
-  begins : (kind : Kind) (r : Step) (x : Holding) → top < 256 → r ≡ begun (flat Nothing) 0 0 (starts kind (top / 16) (top % 16) (word % 65536)) → r ≡ holding 0 0 x
-      → (x .awaits ≡ 0 → ⊥) → Begins kind r
-  begins kind r x u e h n =
-      let s = still h in
-      let z : r .held .awaits ≡ 0 → ⊥ = λ y. n (sym (ap (λ (v : Holding). v .awaits) (s .3)) ∙ y) in
-      record {
-        sane = begin-sane kind (top / 16) (top % 16) (word % 65536) r e (omega arith) (omega arith) (omega arith) (s .0);
-        awaits = z;
-        went = λ ks k q. first-went ks kind k r e (s .0) z q;
-      }
+-- ---- an item of one word
 
-  pub command-begins : {r : Step} → top < 256 → 8 ≤ top % 16 → top % 16 % 4 ≡ 3 → ((h : Holding) → r ≡ begun h 0 0 (starts Mil1553 (top / 16) (top % 16) (word % 65536)))
-      → Begins Mil1553 r
-  command-begins {r} u l m e =
-      begins Mil1553 r _ u (e (flat Nothing)) (e (flat Nothing) ∙ sym (command-is-held (flat Nothing) 0 0 (top / 16) (word % 65536) (top % 16) l (omega arith) m)) (λ z. absurd (omega (arith, z)))
+-- a word that starts and ends an item, whose bits are the second string of a step
+pub record Alone (kind : Kind) (bus label info : ℕ) (r : Step) : Type 0 where
+  pub items : List Item
+  pub is : starts kind bus label info ≡ fed items Nothing
+  pub bits : bitsOf (r .«second_width») (r .second) ≡ flatMap itemBits items
+  pub fits : r .second < 2 ^ (r .«second_width»)
+  pub other : label ≡ 1 → ⊥
 
-  pub syllable-begins : {r : Step} → top < 256 → 8 ≤ top % 16 → top % 16 % 2 ≡ 1 → ((h : Holding) → r ≡ begun h 0 0 (starts Arinc429 (top / 16) (top % 16) (word % 65536)))
-      → Begins Arinc429 r × (r .held .awaits + 1 ≡ top)
-  syllable-begins {r} u l m e =
-      let d = e (flat Nothing) ∙ sym (high-syllable-is-held (flat Nothing) 0 0 (top / 16) (word % 65536) (top % 16) l (omega arith) m) in
-      (begins Arinc429 r _ u (e (flat Nothing)) d (λ z. absurd (omega (arith, z, l))), omega (arith, ap (λ (v : Step). v .held .awaits) d, l))
+no-opener : (k : Kind) (bus info : ℕ) (items : List Item) (h : Held) → starts k bus 1 info ≡ fed items h → ⊥
+unfolding starts
+no-opener k bus info items h e = clash (sym (ap isBad e) ∙ none k)
+  where
+    isBad : Fed → Bool
+    isBad bad = true
+    isBad (fed is x) = false
 
-  pub response-begins : {r : Step} → top < 256 → top % 16 ≡ 4 → word % 65536 < 10000 → ((h : Holding) → r ≡ begun h 0 0 (starts Mil1553 (top / 16) 4 (word % 65536)))
-      → Begins Mil1553 r
-  response-begins {r} u m i e =
-      begins Mil1553 r _ u (e (flat Nothing) ∙ ap (λ (x : ℕ). begun (flat Nothing) 0 0 (starts Mil1553 (top / 16) x (word % 65536))) (sym m))
-      (e (flat Nothing) ∙ sym (response-is-held (flat Nothing) 0 0 (top / 16) (word % 65536) i)) (λ z. absurd (omega (arith, z)))
+    none : (k : Kind) → isBad (starts k bus 1 info) ≡ true
+    none Unused = refl
+    none Mil1553 = refl
+    none Arinc429 = refl
 
-  pub notice-takes : (ks : List Kind) {r : Step} {next : Position} → top % 16 ≡ 4 → isPair (word % 65536 / 4096) (word % 65536 / 256 % 16) ≡ true
-      → ((h : Holding) → r ≡ begun h 0 0 (starts Arinc429 (top / 16) 4 (word % 65536))) → kindOn ks (busOf (p .parity) word) ≡ Arinc429
-      → next ≡ positionOf p g (lead p + (slot + 1)) → Takes ks p c g slot (record { step = r; slots = 1; at = next; last = at .place })
-  notice-takes ks {r} m i e k f =
-      let d = e (flat Nothing) ∙ sym (notice-ends (flat Nothing) 0 0 (top / 16) (word % 65536) (omega arith) i) in
-      first-takes ks Arinc429 k r (e (flat Nothing) ∙ ap (λ (x : ℕ). begun (flat Nothing) 0 0 (starts Arinc429 (top / 16) x (word % 65536))) (sym m))
-      (ap (λ (x : Step). x .bad) d) f (ap (λ (x : Step). x .held .awaits) d)
+pub alone-of : (kind : Kind) (bus label info : ℕ) (r : Step) → r ≡ begun (flat Nothing) 0 0 (starts kind bus label info) → r .bad ≡ false → r .held .awaits ≡ 0
+    → r .«first_width» ≡ 0 → bus < 16 → label < 16 → info < 65536 → Alone kind bus label info r
+unfolding feed bitsOf
+alone-of kind bus label info r e z a w b l i =
+    let ks : List Kind = list (λ n. kind) 0 16 in
+    let k : kindOn ks bus ≡ kind = getD-list (λ (n : ℕ). kind) 0 16 bus Unused b in
+    let f : feed ks (heldOf (flat Nothing)) bus label info ≡ starts kind bus label info = rw (nothing-is-held, k) refl in
+    let s : r ≡ stepOf (heldOf (flat Nothing)) (starts kind bus label info) = e ∙ begun-of-nothing (starts kind bus label info) ∙ rw nothing-is-held refl in
+    go (starts kind bus label info) refl
+    (subst (Means (starts kind bus label info)) (sym s) (rw f at (feed-means ks (flat Nothing) bus label info nothing-is-sane b l i)))
+  where
+    go : (f : Fed) → starts kind bus label info ≡ f → Means f r → Alone kind bus label info r
+    go bad d m = clash (sym z ∙ m)
+    go (fed is h) d m = record {
+      items = is;
+      is = d ∙ ap (fed is) (sym (m .holds) ∙ held-none (r .held) a);
+      bits = ap (λ (n : ℕ). bitsOf n (r .first) ++ bitsOf (r .«second_width») (r .second)) (sym w) ∙ m .bits;
+      fits = m .second-fits;
+      other = λ y. no-opener kind bus info is h (ap (λ (n : ℕ). starts kind bus n info) (sym y) ∙ d);
+    }
 
-  -- an item of one word, by its opening
-  pub single-takes : (ks : List Kind) {opening : ℕ} {r : Step} {next : Position} → r ≡ singleOf opening (top / 16) (word % 65536) → 8 ≤ opening
-      → opening ≡ opens (kindOn ks (busOf (p .parity) word)) (top % 16) → next ≡ positionOf p g (lead p + (slot + 1))
-      → Takes ks p c g slot (record { step = r; slots = 1; at = next; last = at .place })
-  single-takes ks {opening} {r} e l o f =
-      let k : Kind = kindOn ks (busOf (p .parity) word) in
-      let s : Says k (top % 16) opening = kind-says k o (omega arith) in
-      first-takes ks k refl r (e ∙ s .single l (flat Nothing) (top / 16) (word % 65536)) (ap (λ (x : Step). x .bad) e) f (ap (λ (x : Step). x .held .awaits) e)
-
-  -- the low syllable that is awaited
-  module _ {first : ℕ} {h : Holding} {r : Step} (s : Sane h) (b : h .awaits + 1 ≡ first) (l : 9 ≤ first % 16) (u : first < 256) (m : top + 1 ≡ first)
-      (e : Fedby h (first / 16) (first % 16 - 1) (word % 65536) r) where
-    pub low-still : Still r (first / 16 * 16 + 7)
-    low-still = half-still h (first / 16) (word % 65536) r s (omega arith) (omega arith) (first % 16 - 1) (omega arith) (omega arith) e (omega arith)
-
-    pub low-went : (ks : List Kind) (i q : ℕ) → Went ks p c g i q slot h → Went ks p c g i q (slot + 1) (r .held)
-    low-went ks i q x =
-        let bus-first : first / 16 ≡ top / 16 = omega arith in
-        let label-first : first % 16 - 1 ≡ top % 16 = omega arith in
-        went-more ks p c g i q slot h x room (other-label here (λ y. absurd (omega (arith, y, label-here, label-first)))) small-here r
-        (fed-at ks (p .parity) here h (bus-first ∙ bus-here) (label-first ∙ label-here) info-here (e ks))
-        (low-still .good) (low-still .first) (low-still .second)
+module _ (ks : List Kind) (parity : Bool) (row : List ℕ) where
+  pub goes-alone : (i : ℕ) (kind : Kind) {r : Step} → i < length row → kindOn ks (busOf parity (getD row i 0)) ≡ kind
+      → (a : Alone kind (busOf parity (getD row i 0)) (labelOf (getD row i 0)) (infoOf (getD row i 0)) r) → Goes ks parity row i (i + 1) (a .items) Nothing i
+  goes-alone i kind l k a =
+      goes-first ks parity row (a .items) Nothing l (other-label (getD row i 0) (a .other)) (first-feeds ks parity row i kind k ∙ a .is) (λ old here. refl)

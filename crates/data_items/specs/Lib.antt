@@ -1,3 +1,3 @@
--- The slots of a group, and items taken whole from them.
-pub mod Slots
+-- The words of a row, and items taken whole from them.
+pub mod Row
 pub mod Taken

@@ -1,81 +1,66 @@
 -- Items that were taken whole.
 use Prim.Native.Nat.{ℕ, _+_, _*_, _-_, _^_, _≤_, _<_}
-use mathlib.Core.Bool.{false}
+use mathlib.Core.Bool.{Bool, false, cond}
 use mathlib.Core.Path.{_≡_}
-use mathlib.Core.List.{List, [], _++_, flatMap}
-use lib.ListN.{length}
-use Rattle.format.specs.Bits.{bitsOf}
-use Rattle.format.specs.Word.{isFill}
+use mathlib.Core.List.{List, _++_, flatMap}
+use lib.ListN.{length, drop, getD}
+use lib.Dec.{ltb}
+use Rattle.format.specs.Word.{isFill, busOf, labelOf}
 use Rattle.format.specs.Item.{itemBits}
-use Rattle.format.specs.Plan.{lead, slots}
-use Rattle.format.specs.Reader.{run, more}
+use Rattle.format.specs.Plan.{kindOn}
+use Rattle.format.specs.Reader.{run, more, counted}
 use Rattle.format.specs.declared.Kind.{Kind}
 use Rattle.format.specs.declared.Item.{Item}
 use Rattle.format.specs.declared.Held.the-variants.{Nothing}
-use Rattle.format.specs.declared.Plan.{Plan}
-use Rattle.data_start.specs.declared.Holding.{Holding}
-use Rattle.data_start.specs.declared.Step.{Step}
-use Rattle.data_word.specs.Holding.{heldOf, Sane}
 use Rattle.data_start.specs.Opening.{opens}
-use Rattle.group_read.specs.Position.{positionOf}
-use Rattle.log_write.specs.declared.Pen.{Pen}
 use Rattle.log_write.specs.Pen.{Wrote}
 use Rattle.data_items.specs.declared.Taken.{Taken}
-use Rattle.data_items.specs.declared.Whole.{Whole}
-use Rattle.data_items.specs.Slots.{slotsOn, wordIn}
+use Rattle.data_items.specs.Row.{topOf, topsOf, parityOf, Words}
 
--- a step's two strings fit their widths, which are at most 46
-pub record Short (s : Step) : Type 0 where
-  pub first-fits : s .first < 2 ^ (s .«first_width»)
-  pub second-fits : s .second < 2 ^ (s .«second_width»)
-  pub first-short : s .«first_width» ≤ 46
-  pub second-short : s .«second_width» ≤ 46
+-- the number of the last word before the word j, if any was taken from the word i on; the row's first has the number n
+abbrev pub lastOf : ℕ → ℕ → ℕ → ℕ → ℕ
+lastOf n old i j = cond (ltb i j) (n + j - 1) old
 
-module _ (ks : List Kind) (p : Plan) (c : List ℕ) (g : ℕ) where
-  -- no fill in the slots from i up to j
-  pub record Unfilled (i j : ℕ) : Type 0 where
-    pub none : (k : ℕ) → i ≤ k → k < j → isFill (wordIn p c g k) ≡ false
-
-  -- from the slot i on, where nothing was held, the slots up to j finished nothing, and h is held
-  pub record Went (i q j : ℕ) (h : Holding) : Type 0 where
-    pub items : List Item
-    pub since : ℕ
-    pub is : run ks (p .parity) (slotsOn p c g i) Nothing q ≡ more items (run ks (p .parity) (slotsOn p c g j) (heldOf h) since)
-    pub quiet : flatMap itemBits items ≡ []
-    pub sane : Sane h
-    pub unfilled : Unfilled i j
-
-  -- they finished items with the bits of two strings, and nothing is held
-  pub record Ended (i q j last : ℕ) (r : Step) : Type 0 where
-    pub items : List Item
-    pub is : run ks (p .parity) (slotsOn p c g i) Nothing q ≡ more items (run ks (p .parity) (slotsOn p c g j) Nothing last)
-    pub bits : bitsOf (r .«first_width») (r .first) ++ bitsOf (r .«second_width») (r .second) ≡ flatMap itemBits items
-    pub short : Short r
-    pub unfilled : Unfilled i j
-
-  -- no slots: no item was taken
-  pub record Takes (i : ℕ) (r : Whole) : Type 0 where
-    pub at : (r .slots ≡ 0 → ⊥) → r .at ≡ positionOf p g (lead p + (i + r .slots))
-    pub ended : (r .slots ≡ 0 → ⊥) → (q : ℕ) → Ended i q (i + r .slots) (r .last) (r .step)
-
-  -- items were taken from the slot i on
-  pub record Took (t : Taken) (out : List ℕ) (t′ : Taken) (out′ : List ℕ) : Type 0 where
-    pub items : List Item
-    pub is : run ks (p .parity) (slotsOn p c g (t .slot)) Nothing (t .last) ≡ more items (run ks (p .parity) (slotsOn p c g (t′ .slot)) Nothing (t′ .last))
-    pub unfilled : Unfilled (t .slot) (t′ .slot)
-    pub onward : t .slot ≤ t′ .slot
-    pub room : t′ .slot ≤ slots p
-    pub at : t′ .at ≡ positionOf p g (lead p + t′ .slot)
-    pub long : length out′ ≡ length out
-    pub wrote : (bits : List ℕ) → Wrote bits out (t .pen) → Wrote (bits ++ flatMap itemBits items) out′ (t′ .pen)
-    pub few : t′ .pen .bits ≤ t .pen .bits + 128 * (t′ .slot - t .slot)
-    pub none : t′ .slot ≡ t .slot → out′ ≡ out
-
--- n bits more
-pub record Puts (added : List ℕ) (n : ℕ) (out : List ℕ) (p : Pen) (out′ : List ℕ) (p′ : Pen) : Type 0 where
+-- from t, where nothing was held, to t′, where nothing is held, items were taken and put; whatever the number of the row's first word is
+pub record Took (ks : List Kind) (parity : Bool) (row : List ℕ) (t : Taken) (out : List ℕ) (t′ : Taken) (out′ : List ℕ) : Type 0 where
+  pub items : List Item
+  pub is : (n old : ℕ)
+      → run ks parity (counted (n + t .slot) (drop (t .slot) row)) Nothing old
+      ≡ more items (run ks parity (counted (n + t′ .slot) (drop (t′ .slot) row)) Nothing (lastOf n old (t .slot) (t′ .slot)))
+  pub unfilled : (k : ℕ) → t .slot ≤ k → k < t′ .slot → isFill (getD row k 0) ≡ false
+  pub onward : t .slot ≤ t′ .slot
+  pub room : t′ .slot ≤ length row
   pub long : length out′ ≡ length out
-  pub bits : p′ .bits ≡ p .bits + n
-  pub wrote : (bits : List ℕ) → Wrote bits out p → Wrote (bits ++ added) out′ p′
+  pub wrote : (bits : List ℕ) → Wrote bits out (t .pen) → Wrote (bits ++ flatMap itemBits items) out′ (t′ .pen)
+  pub few : t′ .pen .bits ≤ t .pen .bits + 32 * (t′ .slot - t .slot)
+  pub none : t′ .slot ≡ t .slot → out′ ≡ out
+
+-- items were taken from a word on, if its bus has this kind, or if it opens this
+abbrev pub TookOn : Kind → ℕ → List ℕ → ℕ → Taken → List ℕ → Taken → List ℕ → Type 0
+TookOn kind tops row word t out t′ out′ =
+    (ks : List Kind) → kindOn ks (busOf (parityOf tops) word) ≡ kind → Took ks (parityOf tops) row t out t′ out′
+
+abbrev pub TookBy : ℕ → ℕ → List ℕ → ℕ → Taken → List ℕ → Taken → List ℕ → Type 0
+TookBy opening tops row word t out t′ out′ =
+    (ks : List Kind) → opening ≡ opens (kindOn ks (busOf (parityOf tops) word)) (labelOf word) → Took ks (parityOf tops) row t out t′ out′
+
+-- there is room for the items of the words from t on, if there are any
+pub record Roomy (row : List ℕ) (t : Taken) (out : List ℕ) : Type 0 where
+  pub within : t .slot ≤ length row
+  pub short : length row < 2 ^ 40
+  pub few : t .pen .bits < 2 ^ 59
+  pub room : t .slot < length row → t .pen .bits + 32 * (length row - t .slot) + 64 ≤ 8 * length out
+
+-- at t stands this word, of this bus x 16 + label; four more words are there, and room for the items of the five
+pub record Here (tops : ℕ) (row : List ℕ) (t : Taken) (word top : ℕ) (out : List ℕ) : Type 0 where
+  pub all : tops ≡ topsOf (parityOf tops)
+  pub words : Words row
+  pub five : t .slot + 5 ≤ length row
+  pub short : length row < 2 ^ 40
+  pub is : word ≡ getD row (t .slot) 0
+  pub says : top ≡ topOf (parityOf tops) word
+  pub few : t .pen .bits < 2 ^ 60
+  pub room : t .pen .bits + 224 ≤ 8 * length out
 
 -- what a word with this label opens on a bus of some kind
 pub record Opened (n label : ℕ) : Type 0 where

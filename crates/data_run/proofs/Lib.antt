@@ -1,3 +1,3 @@
--- The laws of the data slots of a group.
+-- The laws of the data words of a row.
 pub mod OneSlot
-pub mod Slots
+pub mod Rows

@@ -1,4 +1,4 @@
--- One data slot: what it does to what is carried is a step of the run over the slots.
+-- One data word: what it does to what is carried is a step of the run over the words.
 use Prim.Native.Nat.{ℕ, _+_, _^_, _≤_, _<_}
 use native.Mathlib.Omega.{arith}
 use mathlib.Core.Bool.{Bool, true, false}
@@ -12,7 +12,6 @@ use Rattle.format.specs.Reader.{Slot, Fed, bad, fed, Ran, badAt, run, more, joi
 use Rattle.format.specs.declared.Kind.{Kind}
 use Rattle.format.specs.declared.Item.{Item}
 use Rattle.format.specs.declared.Held.{Held}
-use Rattle.format.specs.declared.Plan.{Plan}
 use Rattle.format.specs.Laws.Tests.{clash}
 use Rattle.format.specs.Laws.Lists.{flatMap-append}
 use Rattle.data_start.specs.declared.Step.{Step}
@@ -20,14 +19,15 @@ use Rattle.data_word.specs.Holding.{heldOf, Sane}
 use Rattle.data_word.specs.Step.{stepOf}
 use Rattle.data_word.specs.Meaning.{Means, Brings}
 use Rattle.data_word.proofs.Meaning.{feed-means}
-use Rattle.data_items.proofs.Items.{yes-or-no, more-more}
-use Rattle.data_items.proofs.Slots.{bus-low, label-low, info-low}
+use Rattle.data_items.proofs.Items.{more-more}
+use Rattle.data_items.proofs.Words.{bus-low, info-low, label-low, yes-or-no}
 use Rattle.log_write.specs.declared.Pen.{Pen}
 use Rattle.data_run.specs.declared.Pass.{Pass}
-use Rattle.data_run.specs.Fills.{fillsIn}
+use Rattle.data_run.specs.declared.fill.Fills.{Fills}
+use Rattle.data_run.specs.Fills.{fillsIn, oddFill, onFill}
 use Rattle.log_write.specs.Pen.{penPut, penIn, Wrote}
 use Rattle.log_write.proofs.Writing.{put-bits, put-long, wrote-more}
-use Rattle.data_run.specs.Pass.{Strings, fillPass, stepPen, stepOut, stepPass, wordStep, slotPass, slotOut, Along}
+use Rattle.data_run.specs.Pass.{Strings, fillPass, stepPen, stepOut, stepPass, wordStep, wordPass, wordOut, Along}
 
 -- ---- a step's two strings in the log
 
@@ -68,8 +68,10 @@ module _ (is : List Item) (h : Held) (r : Step) (b : Brings is h r) (w : Pen) wh
 -- a step that is not bad has strings that fit, and what it holds is sound
 pub fed-fits : (f : Fed) (r : Step) → Means f r → r .bad ≡ false → Strings r × Sane (r .held)
 fed-fits bad r m z = clash (sym z ∙ m)
-fed-fits (fed is h) r m z =
-    (record { first-fits = m .first-fits; second-fits = m .second-fits; first-short = omega (arith, m .first-short); second-short = omega (arith, m .second-short) }, m .sane)
+fed-fits (fed is h) r m z = (
+  record { first-fits = m .first-fits; second-fits = m .second-fits; first-short = omega (arith, m .first-short); second-short = omega (arith, m .second-short) },
+  m .sane,
+)
 
 -- ---- one word
 
@@ -86,25 +88,33 @@ word-step ks parity w x b l i e = e ∙ rw (b, l, i) refl
 pub word-fits : (ks : List Kind) (parity : Bool) (w : ℕ) (x : Pass) {r : Step} → w < 2 ^ 24 → Sane (x .held) → r ≡ wordStep ks parity w x → r .bad ≡ false
     → Strings r × Sane (r .held)
 word-fits ks parity w x low sane e z =
-    subst (λ (q : Step). q .bad ≡ false → Strings q × Sane (q .held)) (sym e) (fed-fits (feed ks (heldOf (x .held)) (busOf parity w) (labelOf w) (infoOf w)) (wordStep ks parity w x) (word-means ks parity w x low sane)) z
+    subst (λ (q : Step). q .bad ≡ false → Strings q × Sane (q .held)) (sym e)
+    (fed-fits (feed ks (heldOf (x .held)) (busOf parity w) (labelOf w) (infoOf w)) (wordStep ks parity w x) (word-means ks parity w x low sane)) z
 
--- ---- one slot
+-- fill, as the code has it
+pub word-fill : (ks : List Kind) (parity : Bool) (i number word : ℕ) (x : Pass) {bus : ℕ} {odd : Bool} {f : Fills} → isFill word ≡ true → bus ≡ busOf parity word
+    → odd ≡ oddFill i bus → f ≡ onFill (x .fills) number odd
+    → record { held = x .held; since = x .since; pen = x .pen; fills = f; bad = false } ≡ wordPass ks parity i number word x
+unfolding wordPass
+word-fill ks parity i number word x e b o f = rw (e, f, o, b) refl
 
-module _ (ks : List Kind) (p : Plan) (slots : List Slot) (x₀ : Pass) (out₀ : List ℕ) (i : ℕ) (s : Slot) (rest : List Slot) (x : Pass) (out : List ℕ) where
+-- ---- one word of a row
+
+module _ (ks : List Kind) (parity : Bool) (slots : List Slot) (x₀ : Pass) (out₀ : List ℕ) (i : ℕ) (s : Slot) (rest : List Slot) (x : Pass) (out : List ℕ) where
   abbrev now-run : Ran
-  now-run = run ks (p .parity) (s ∷ rest) (heldOf (x .held)) (x .since)
+  now-run = run ks parity (s ∷ rest) (heldOf (x .held)) (x .since)
 
-  run-fill : isFill (s .1) ≡ true → now-run ≡ run ks (p .parity) rest (heldOf (x .held)) (x .since)
+  run-fill : isFill (s .1) ≡ true → now-run ≡ run ks parity rest (heldOf (x .held)) (x .since)
   unfolding run
   run-fill e = rw e refl
 
-  run-data : (f : Fed) → isFill (s .1) ≡ false → feed ks (heldOf (x .held)) (busOf (p .parity) (s .1)) (labelOf (s .1)) (infoOf (s .1)) ≡ f
-      → now-run ≡ join f (x .since) (s .0) (λ h q. run ks (p .parity) rest h q)
+  run-data : (f : Fed) → isFill (s .1) ≡ false → feed ks (heldOf (x .held)) (busOf parity (s .1)) (labelOf (s .1)) (infoOf (s .1)) ≡ f
+      → now-run ≡ join f (x .since) (s .0) (λ h q. run ks parity rest h q)
   unfolding run
   run-data f e g = rw (e, g) refl
 
-  along-fill : isFill (s .1) ≡ true → Along ks p slots x₀ out₀ i (s ∷ rest) x out
-      → Along ks p slots x₀ out₀ (i + 1) rest (fillPass (p .parity) i (s .0) (s .1) x) out
+  along-fill : isFill (s .1) ≡ true → Along ks parity slots x₀ out₀ i (s ∷ rest) x out
+      → Along ks parity slots x₀ out₀ (i + 1) rest (fillPass parity i (s .0) (s .1) x) out
   unfolding fillsIn
   along-fill e a = record {
     items = a .items;
@@ -118,17 +128,17 @@ module _ (ks : List Kind) (p : Plan) (slots : List Slot) (x₀ : Pass) (out₀ :
     few = omega (arith, a .few);
   }
 
-  along-fed : (f : Fed) → isFill (s .1) ≡ false → feed ks (heldOf (x .held)) (busOf (p .parity) (s .1)) (labelOf (s .1)) (infoOf (s .1)) ≡ f → (r : Step) → Means f r
-      → r .bad ≡ false → Along ks p slots x₀ out₀ i (s ∷ rest) x out
-      → Along ks p slots x₀ out₀ (i + 1) rest (stepPass (s .0) x r) (stepOut out (x .pen) r)
+  along-fed : (f : Fed) → isFill (s .1) ≡ false → feed ks (heldOf (x .held)) (busOf parity (s .1)) (labelOf (s .1)) (infoOf (s .1)) ≡ f → (r : Step) → Means f r
+      → r .bad ≡ false → Along ks parity slots x₀ out₀ i (s ∷ rest) x out
+      → Along ks parity slots x₀ out₀ (i + 1) rest (stepPass (s .0) x r) (stepOut out (x .pen) r)
   unfolding fillsIn
   along-fed bad e g r m z a = clash (sym z ∙ m)
   along-fed (fed is h) e g r m z a =
       rw z
       (record {
         items = a .items ++ is;
-        is = a .is ∙ ap (more (a .items)) (run-data (fed is h) e g) ∙ more-more (a .items) is (run ks (p .parity) rest h (since h (x .since) (s .0)))
-            ∙ ap (λ (k : Held). more (a .items ++ is) (run ks (p .parity) rest k (since k (x .since) (s .0)))) (sym (m .holds));
+        is = a .is ∙ ap (more (a .items)) (run-data (fed is h) e g) ∙ more-more (a .items) is (run ks parity rest h (since h (x .since) (s .0)))
+            ∙ ap (λ (k : Held). more (a .items ++ is) (run ks parity rest k (since k (x .since) (s .0)))) (sym (m .holds));
         fill = a .fill ∙ rw e refl;
         brought = record {
           sound = record { good = refl; sane = m .sane };
@@ -141,31 +151,31 @@ module _ (ks : List Kind) (p : Plan) (slots : List Slot) (x₀ : Pass) (out₀ :
         few = omega (arith, a .few, step-bits is h r m (x .pen));
       })
 
-  along-bad : (f : Fed) → isFill (s .1) ≡ false → feed ks (heldOf (x .held)) (busOf (p .parity) (s .1)) (labelOf (s .1)) (infoOf (s .1)) ≡ f → (r : Step) → Means f r
-      → r .bad ≡ true → Along ks p slots x₀ out₀ i (s ∷ rest) x out
-      → run ks (p .parity) slots (heldOf (x₀ .held)) (x₀ .since) ≡ badAt (s .0)
+  along-bad : (f : Fed) → isFill (s .1) ≡ false → feed ks (heldOf (x .held)) (busOf parity (s .1)) (labelOf (s .1)) (infoOf (s .1)) ≡ f → (r : Step) → Means f r
+      → r .bad ≡ true → Along ks parity slots x₀ out₀ i (s ∷ rest) x out
+      → run ks parity slots (heldOf (x₀ .held)) (x₀ .since) ≡ badAt (s .0)
   along-bad bad e g r m z a = a .is ∙ ap (more (a .items)) (run-data bad e g)
   along-bad (fed is h) e g r m z a = clash (sym (m .good) ∙ z)
 
   -- what the slot does, as the code has it
-  pub along-step : s .1 < 2 ^ 24 → Along ks p slots x₀ out₀ i (s ∷ rest) x out
-      → slotPass ks (p .parity) i (s .0) (s .1) x .bad ≡ false
-      → Along ks p slots x₀ out₀ (i + 1) rest (slotPass ks (p .parity) i (s .0) (s .1) x) (slotOut ks (p .parity) (s .1) x out)
-  unfolding slotPass slotOut
+  pub along-step : s .1 < 2 ^ 24 → Along ks parity slots x₀ out₀ i (s ∷ rest) x out
+      → wordPass ks parity i (s .0) (s .1) x .bad ≡ false
+      → Along ks parity slots x₀ out₀ (i + 1) rest (wordPass ks parity i (s .0) (s .1) x) (wordOut ks parity (s .1) x out)
+  unfolding wordPass wordOut
   along-step low a z =
       yes-or-no (isFill (s .1)) (λ e. rw e (along-fill e a))
       (λ e.
-      let r : Step = wordStep ks (p .parity) (s .1) x in
+      let r : Step = wordStep ks parity (s .1) x in
       let y : stepPass (s .0) x r .bad ≡ false = rw e at z in
       yes-or-no (r .bad) (λ b. clash (sym (rw b at y)))
-      (λ b. rw e (rw b (rw b at (along-fed _ e refl r (word-means ks (p .parity) (s .1) x low (a .brought .sound .sane)) b a)))))
+      (λ b. rw e (rw b (rw b at (along-fed _ e refl r (word-means ks parity (s .1) x low (a .brought .sound .sane)) b a)))))
 
-  pub along-stop : s .1 < 2 ^ 24 → Along ks p slots x₀ out₀ i (s ∷ rest) x out → slotPass ks (p .parity) i (s .0) (s .1) x .bad ≡ true
-      → (run ks (p .parity) slots (heldOf (x₀ .held)) (x₀ .since) ≡ badAt (s .0)) × (slotPass ks (p .parity) i (s .0) (s .1) x .since ≡ s .0)
-  unfolding slotPass
+  pub along-stop : s .1 < 2 ^ 24 → Along ks parity slots x₀ out₀ i (s ∷ rest) x out → wordPass ks parity i (s .0) (s .1) x .bad ≡ true
+      → (run ks parity slots (heldOf (x₀ .held)) (x₀ .since) ≡ badAt (s .0)) × (wordPass ks parity i (s .0) (s .1) x .since ≡ s .0)
+  unfolding wordPass
   along-stop low a z =
       yes-or-no (isFill (s .1)) (λ e. clash (rw e at z))
       (λ e.
-      let r : Step = wordStep ks (p .parity) (s .1) x in
+      let r : Step = wordStep ks parity (s .1) x in
       let y : stepPass (s .0) x r .bad ≡ true = rw e at z in
-      yes-or-no (r .bad) (λ b. (along-bad _ e refl r (word-means ks (p .parity) (s .1) x low (a .brought .sound .sane)) b a, rw (e, b) refl)) (λ b. clash (rw b at y)))
+      yes-or-no (r .bad) (λ b. (along-bad _ e refl r (word-means ks parity (s .1) x low (a .brought .sound .sane)) b a, rw (e, b) refl)) (λ b. clash (rw b at y)))

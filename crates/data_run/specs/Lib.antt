@@ -1,3 +1,3 @@
--- What the contracts of the data slots cite beside the definitions of `format`.
+-- What the contracts of the data words cite beside the definitions of `format`.
 pub mod Fills
 pub mod Pass

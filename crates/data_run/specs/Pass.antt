@@ -1,37 +1,32 @@
--- What a reading carries from slot to slot, and what one slot does to it.
-use Prim.Native.Nat.{ℕ, _+_, _*_, _^_, _≤_, _<_}
+-- What a reading carries from word to word, and what one word does to it.
+use Prim.Native.Nat.{ℕ, _+_, _*_, _-_, _^_, _≤_, _<_}
 use mathlib.Core.Bool.{Bool, true, false, cond}
 use mathlib.Core.Path.{_≡_, ap, sym, _∙_}
 use mathlib.Core.List.{List, _++_, flatMap}
-use lib.ListN.{length}
+use lib.ListN.{length, getD}
+use lib.Dec.{leb}
 use Rattle.format.specs.Word.{isFill, busOf, labelOf, infoOf}
 use Rattle.format.specs.Item.{itemBits}
 use Rattle.format.specs.Reader.{Slot, Ran, badAt, ran, run, more, feed, since}
 use Rattle.format.specs.declared.Kind.{Kind}
 use Rattle.format.specs.declared.Held.{Held}
 use Rattle.format.specs.declared.Item.{Item}
-use Rattle.format.specs.declared.Plan.{Plan}
 use Rattle.data_start.specs.declared.Step.{Step}
 use Rattle.data_start.specs.Holding.{flat}
 use Rattle.data_word.specs.Holding.{heldOf, Sane}
 use Rattle.data_word.specs.Step.{stepOf}
-use Rattle.format.specs.Plan.{lead, slots}
-use Rattle.group_read.specs.declared.Position.{Position}
-use Rattle.group_read.specs.Position.{positionOf}
-use Rattle.data_items.specs.Slots.{wordIn}
 use Rattle.data_items.specs.declared.Taken.{Taken}
 use Rattle.data_items.specs.Taken.{Took}
 use Rattle.data_run.specs.declared.fill.Fills.{Fills}
 use Rattle.log_write.specs.declared.Pen.{Pen}
 use Rattle.data_run.specs.declared.Pass.{Pass}
-use Rattle.data_run.specs.declared.Past.{Past}
 use Rattle.data_run.specs.Fills.{oddFill, onFill, onData, fillsIn, quiet}
 use Rattle.log_write.specs.Pen.{penPut, penIn, Wrote}
 
 -- fill is looked at and dropped
 abbrev pub fillPass : Bool → ℕ → ℕ → ℕ → Pass → Pass
-fillPass parity i place word x =
-    record { held = x .held; since = x .since; pen = x .pen; fills = onFill (x .fills) place (oddFill i (busOf parity word)); bad = false }
+fillPass parity i number word x =
+    record { held = x .held; since = x .since; pen = x .pen; fills = onFill (x .fills) number (oddFill i (busOf parity word)); bad = false }
 
 -- a step's two strings go to the log
 abbrev pub stepPen : Pen → Step → Pen
@@ -47,11 +42,11 @@ pub record Strings (r : Step) : Type 0 where
   pub first-short : r .«first_width» ≤ 56
   pub second-short : r .«second_width» ≤ 56
 
--- a bad word is told by its place
+-- a bad word is told by its number
 abbrev pub stepPass : ℕ → Pass → Step → Pass
-stepPass place x r =
-    cond (r .bad) (record { held = x .held; since = place; pen = x .pen; fills = x .fills; bad = true })
-    (record { held = r .held; since = since (heldOf (r .held)) (x .since) place; pen = stepPen (x .pen) r; fills = onData (x .fills); bad = false })
+stepPass number x r =
+    cond (r .bad) (record { held = x .held; since = number; pen = x .pen; fills = x .fills; bad = true })
+    (record { held = r .held; since = since (heldOf (r .held)) (x .since) number; pen = stepPen (x .pen) r; fills = onData (x .fills); bad = false })
 
 abbrev pub passOut : List ℕ → Pass → Step → List ℕ
 passOut out x r = cond (r .bad) out (stepOut out (x .pen) r)
@@ -59,33 +54,36 @@ passOut out x r = cond (r .bad) out (stepOut out (x .pen) r)
 unfoldable pub wordStep : List Kind → Bool → ℕ → Pass → Step
 wordStep ks parity word x = stepOf (heldOf (x .held)) (feed ks (heldOf (x .held)) (busOf parity word) (labelOf word) (infoOf word))
 
--- the slot i of its group
-unfoldable pub slotPass : List Kind → Bool → ℕ → ℕ → ℕ → Pass → Pass
-slotPass ks parity i place word x = cond (isFill word) (fillPass parity i place word x) (stepPass place x (wordStep ks parity word x))
+-- the word i of its row
+unfoldable pub wordPass : List Kind → Bool → ℕ → ℕ → ℕ → Pass → Pass
+wordPass ks parity i number word x = cond (isFill word) (fillPass parity i number word x) (stepPass number x (wordStep ks parity word x))
 
-unfoldable pub slotOut : List Kind → Bool → ℕ → Pass → List ℕ → List ℕ
-slotOut ks parity word x out =
+unfoldable pub wordOut : List Kind → Bool → ℕ → Pass → List ℕ → List ℕ
+wordOut ks parity word x out =
     cond (isFill word) out (passOut out x (wordStep ks parity word x))
 
--- from the slot i on, up to the slot reached, there is only fill that changes nothing, and there it ends
-pub record PastFill (p : Plan) (c : List ℕ) (g : ℕ) (f : Fills) (i : ℕ) (r : Past) : Type 0 where
-  pub onward : i ≤ r .slot
-  pub room : r .slot ≤ slots p
-  pub at : r .at ≡ positionOf p g (lead p + r .slot)
-  pub quiets : (k : ℕ) → i ≤ k → k < r .slot → quiet f k (wordIn p c g k) ≡ true
-  pub ends : r .slot < slots p → quiet f (r .slot) (wordIn p c g (r .slot)) ≡ false
+-- from the word i on, up to the word r, there is only fill that changes nothing, and there it ends
+pub record PastFill (row : List ℕ) (f : Fills) (i r : ℕ) : Type 0 where
+  pub onward : i ≤ r
+  pub room : r ≤ length row
+  pub quiets : (k : ℕ) → i ≤ k → k < r → quiet f k (getD row k 0) ≡ true
+  pub ends : r < length row → quiet f r (getD row r 0) ≡ false
 
--- items that were taken whole, nothing being held
-abbrev pub takenFrom : Pass → ℕ → Position → Taken
-takenFrom x i at = record { slot = i; at = at; last = x .since; pen = x .pen }
+-- the lesser of two
+abbrev pub leastOf : ℕ → ℕ → ℕ
+leastOf a b = cond (leb a b) a b
 
-abbrev pub itemsPass : Pass → Taken → Pass
-itemsPass x t = record { held = x .held; since = t .last; pen = t .pen; fills = onData (x .fills); bad = false }
+-- items that were taken whole, nothing being held; the row's first word has the number `from`
+abbrev pub takenFrom : Pass → ℕ → Taken
+takenFrom x i = record { slot = i; pen = x .pen }
 
-pub record FromPass (ks : List Kind) (p : Plan) (c : List ℕ) (g : ℕ) (x : Pass) (i : ℕ) (at : Position) (out : List ℕ) (t : Taken) (out′ : List ℕ) : Type 0 where
-  pub some : i < t .slot → (x .held .awaits ≡ 0) × Took ks p c g (takenFrom x i at) out t out′
+abbrev pub itemsPass : Pass → Taken → ℕ → Pass
+itemsPass x t from = record { held = x .held; since = from + t .slot - 1; pen = t .pen; fills = onData (x .fills); bad = false }
+
+pub record FromPass (ks : List Kind) (parity : Bool) (row : List ℕ) (x : Pass) (i : ℕ) (out : List ℕ) (t : Taken) (out′ : List ℕ) : Type 0 where
+  pub some : i < t .slot → (x .held .awaits ≡ 0) × Took ks parity row (takenFrom x i) out t out′
   pub none : t .slot ≤ i → out′ ≡ out
-  pub room : t .slot ≤ slots p
+  pub room : t .slot ≤ length row
 
 -- what is carried can go on
 pub record Sound (x : Pass) : Type 0 where
@@ -98,12 +96,12 @@ pub record Brought (x₀ : Pass) (out₀ : List ℕ) (is : List Item) (x : Pass)
   pub long : length out ≡ length out₀
   pub wrote : (bits : List ℕ) → Wrote bits out₀ (x₀ .pen) → Wrote (bits ++ flatMap itemBits is) out (x .pen)
 
--- a run over the slots of a group: told by the place of its bad word, or gone on with
+-- a run over the words of a row: told by the number of its bad word, or gone on with
 abbrev pub RanTo : Pass → List ℕ → Ran → Fills → Pass → List ℕ → Type 0
 RanTo x₀ out₀ (badAt place) f x out = (x .bad ≡ true) × (x .since ≡ place)
 RanTo x₀ out₀ (ran is h place) f x out = Brought x₀ out₀ is x out × (heldOf (x .held) ≡ h) × (x .since ≡ place) × (x .fills ≡ f)
 
--- what of it is one: whether a word was bad, and its place or that of what is held; and after a good run what is held and the fill.
+-- what of it is one: whether a word was bad, and its number or that of what is held; and after a good run what is held and the fill.
 -- After a bad word the other numbers are read by nobody; the pen and the array are told by the bits they hold.
 pub ran-to-one : (x₀ : Pass) (out₀ : List ℕ) (t : Ran) (f : Fills) (x x′ : Pass) (out out′ : List ℕ)
     → RanTo x₀ out₀ t f x out → RanTo x₀ out₀ t f x′ out′ → (x .bad ≡ x′ .bad) × (x .since ≡ x′ .since)
@@ -115,10 +113,10 @@ pub ran-held-one : (x₀ : Pass) (out₀ : List ℕ) (is : List Item) (h : Held)
 ran-held-one x₀ out₀ is h place f x x′ out out′ a b =
     (a .0 .sound .sane .is ∙ ap flat (a .1 ∙ sym (b .1)) ∙ sym (b .0 .sound .sane .is), a .3 ∙ sym (b .3))
 
--- within the group: i slots were passed, and `rest` are to come
-pub record Along (ks : List Kind) (p : Plan) (slots : List Slot) (x₀ : Pass) (out₀ : List ℕ) (i : ℕ) (rest : List Slot) (x : Pass) (out : List ℕ) : Type 0 where
+-- within the row: i words were passed, and `rest` are to come
+pub record Along (ks : List Kind) (parity : Bool) (slots : List Slot) (x₀ : Pass) (out₀ : List ℕ) (i : ℕ) (rest : List Slot) (x : Pass) (out : List ℕ) : Type 0 where
   pub items : List Item
-  pub is : run ks (p .parity) slots (heldOf (x₀ .held)) (x₀ .since) ≡ more items (run ks (p .parity) rest (heldOf (x .held)) (x .since))
-  pub fill : fillsIn p 0 slots (x₀ .fills) ≡ fillsIn p i rest (x .fills)
+  pub is : run ks parity slots (heldOf (x₀ .held)) (x₀ .since) ≡ more items (run ks parity rest (heldOf (x .held)) (x .since))
+  pub fill : fillsIn parity 0 slots (x₀ .fills) ≡ fillsIn parity i rest (x .fills)
   pub brought : Brought x₀ out₀ items x out
   pub few : x .pen .bits ≤ x₀ .pen .bits + 128 * i

@@ -1,31 +1,31 @@
-// Fill seen from slot to slot: where the earliest misplaced one stands (document 01, "Groups").
+// Fill seen from word to word: the number of the earliest misplaced one (document 01, "Groups").
 ghost use mathlib.Core.Path.{_≡_};
-ghost use Prim.Native.Nat.{_<_};
+ghost use Prim.Native.Nat.{_<_, _^_};
 ghost use Rattle.data_run.specs.Fills.{oddFill, onData, onFill, orPlace};
 
-// Where fill stood so far, each place one up, 0 for none: the first fill of all, and the earliest that is misplaced.
+// Where fill stood so far, each number one up, 0 for none: the first fill of all, and the earliest that is misplaced.
 pub struct Fills {
-    pub first: usize,
-    pub misplaced: usize,
+    pub first: u64,
+    pub misplaced: u64,
 }
 
-fn or_place(old: usize, place: usize) -> usize
-    requires { ⌜ place < 1048576 ⌝ }
-    ensures { λ r. ⌜ r ≡ orPlace old place ⌝ }
+fn or_place(old: u64, number: u64) -> u64
+    requires { ⌜ number < 2 ^ 40 ⌝ }
+    ensures { λ r. ⌜ r ≡ orPlace old number ⌝ }
 {
-    if old == 0 { place + 1 } else { old }
+    if old == 0 { number + 1 } else { old }
 }
 
-// Fill at a place; `odd` if it is misplaced whatever follows.
-pub(crate) fn on_fill(fills: Fills, place: usize, odd: bool) -> Fills
-    requires { ⌜ place < 1048576 ⌝ }
-    ensures { λ r. ⌜ r ≡ onFill fills place odd ⌝ }
+// Fill, the word of this number; `odd` if it is misplaced whatever follows.
+pub(crate) fn on_fill(fills: Fills, number: u64, odd: bool) -> Fills
+    requires { ⌜ number < 2 ^ 40 ⌝ }
+    ensures { λ r. ⌜ r ≡ onFill fills number odd ⌝ }
 {
-    let first = or_place(fills.first, place);
+    let first = or_place(fills.first, number);
     if odd {
         return Fills {
             first: first,
-            misplaced: or_place(fills.misplaced, place),
+            misplaced: or_place(fills.misplaced, number),
         };
     }
     Fills {

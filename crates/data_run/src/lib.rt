@@ -1,18 +1,16 @@
-// The data slots of a group, one after the other: what is carried over them, and what each does to it.
+// A row of data words, one after the other: what is carried over them, and what each does to it.
 pub mod fill;
 
 ghost use mathlib.Core.Path.{_≡_};
 ghost use mathlib.Core.Bool.{false, true};
 ghost use Prim.Native.Nat.{_+_, _*_, _≤_, _<_, _^_};
-ghost use lib.ListN.{length};
-ghost use Rattle.format.specs.Group.{groupSlots};
-ghost use Rattle.format.specs.Plan.{groupWords, slots};
-ghost use Rattle.format.specs.Reader.{run};
-ghost use Rattle.format.specs.Laws.Limits.{Shape};
+ghost use lib.ListN.{length, getD};
+ghost use Rattle.format.specs.Word.{fill};
+ghost use Rattle.format.specs.Reader.{counted, run};
 ghost use Rattle.data_word.specs.Holding.{heldOf, Sane};
-ghost use Rattle.data_items.specs.Slots.{Ahead};
-ghost use Rattle.data_run.specs.Fills.{fillsIn};
-ghost use Rattle.data_run.specs.Pass.{FromPass, PastFill, RanTo, Sound, Strings, itemsPass, passOut, slotOut, slotPass, stepOut, stepPass, stepPen};
+ghost use Rattle.data_items.specs.Row.{Words};
+ghost use Rattle.data_run.specs.Fills.{fillsIn, allFill};
+ghost use Rattle.data_run.specs.Pass.{FromPass, PastFill, RanTo, Sound, Strings, itemsPass, leastOf, passOut, stepOut, stepPass, stepPen, wordOut, wordPass};
 use crate::fill::Fills;
 use crate::fill::is_odd_fill;
 use crate::fill::on_data;
@@ -21,24 +19,16 @@ use data_items::Taken;
 use data_word::Holding;
 use data_word::Step;
 use format::Kind;
-use format::Plan;
-use group_read::Position;
 use log_write::Pen;
 
-// What is carried from slot to slot: what is held and the place of its first word (of a bad word, if one came), the log so far
-// and the fill so far.
+// What is carried from word to word: what is held and the number of its first word (of a bad word, if one came), the log so far
+// and the fill so far. A word's number is its place among the data words in dealt order.
 pub struct Pass {
     pub held: Holding,
     pub since: u64,
     pub pen: Pen,
     pub fills: Fills,
     pub bad: bool,
-}
-
-// A slot, and where it stands.
-struct Past {
-    slot: usize,
-    at: Position,
 }
 
 // The bits of the items that a word finished.
@@ -51,9 +41,9 @@ pub fn put_step(pen: Pen, out: &mut [u8], step: Step) -> Pen
 }
 
 // A data word that was fed.
-fn on_step(pass: Pass, place: usize, step: Step, out: &mut [u8]) -> Pass
+fn on_step(pass: Pass, number: u64, step: Step, out: &mut [u8]) -> Pass
     requires { ⌜ (pass .pen .bits < 2 ^ 60) × (step .bad ≡ false → Strings step × Sane (step .held)) ⌝ }
-    ensures { λ r. ⌜ (r ≡ stepPass place pass step) × (now (out .exit) ≡ passOut (now (out .entry)) pass step) ⌝ }
+    ensures { λ r. ⌜ (r ≡ stepPass number pass step) × (now (out .exit) ≡ passOut (now (out .entry)) pass step) ⌝ }
 {
     let fills = pass.fills;
     if step.bad {
@@ -61,7 +51,7 @@ fn on_step(pass: Pass, place: usize, step: Step, out: &mut [u8]) -> Pass
         let pen = pass.pen;
         return Pass {
             held: held,
-            since: place as u64,
+            since: number,
             pen: pen,
             fills: fills,
             bad: true,
@@ -69,7 +59,7 @@ fn on_step(pass: Pass, place: usize, step: Step, out: &mut [u8]) -> Pass
     }
     let held = step.held;
     let pen = put_step(pass.pen, out, step);
-    let since = data_word::since(held, pass.since, place as u64);
+    let since = data_word::since(held, pass.since, number);
     Pass {
         held: held,
         since: since,
@@ -79,24 +69,24 @@ fn on_step(pass: Pass, place: usize, step: Step, out: &mut [u8]) -> Pass
     }
 }
 
-// One data slot, the slot i of its group.
-fn on_slot(
+// One data word, the word i of its row, told by its number.
+fn on_word(
     pass: Pass,
     kinds: [Kind; 16],
     parity: bool,
     i: usize,
-    place: usize,
+    number: u64,
     word: u32,
     out: &mut [u8],
 ) -> Pass
-    requires { ⌜ Sound pass × (pass .pen .bits < 2 ^ 60) × (place < 1048576) × (word < 2 ^ 24) ⌝ }
-    ensures { λ r. ⌜ (r ≡ slotPass kinds parity i place word pass) × (now (out .exit) ≡ slotOut kinds parity word pass (now (out .entry))) ⌝ }
+    requires { ⌜ Sound pass × (pass .pen .bits < 2 ^ 60) × (number < 2 ^ 40) × (word < 2 ^ 24) ⌝ }
+    ensures { λ r. ⌜ (r ≡ wordPass kinds parity i number word pass) × (now (out .exit) ≡ wordOut kinds parity word pass (now (out .entry))) ⌝ }
 {
     let bus = word::bus_of(parity, word);
     let held = pass.held;
     if word::is_fill(word) {
         let pen = pass.pen;
-        let fills = on_fill(pass.fills, place, is_odd_fill(i, bus));
+        let fills = on_fill(pass.fills, number, is_odd_fill(i, bus));
         return Pass {
             held: held,
             since: pass.since,
@@ -112,123 +102,130 @@ fn on_slot(
         word::label_of(word),
         word::information_of(word),
     );
-    on_step(pass, place, step, out)
+    on_step(pass, number, step, out)
 }
 
-// The slot i, or the first one behind it that has another word than fill that changes nothing: fill on bus 0, not the first of
-// all, nor in the first slot of its group.
-fn past_fill(
-    fills: Fills,
-    plan: Plan,
-    count: usize,
-    capture: &[u8],
-    group: usize,
-    i: usize,
-    at: Position,
-) -> Past
-    requires { ⌜ Ahead plan (now capture) group i 0 at × (count ≡ slots plan) ⌝ }
-    ensures { λ r. ⌜ PastFill plan (now (capture .entry)) group fills i r ⌝ }
+// Four words of fill on bus 0.
+fn are_fill(one: u32, two: u32, three: u32, four: u32) -> bool
+    ensures { λ r. ⌜ r ≡ allFill one two three four ⌝ }
+{
+    let fill = word::fill();
+    if one != fill {
+        return false;
+    }
+    if two != fill {
+        return false;
+    }
+    if three != fill {
+        return false;
+    }
+    four == fill
+}
+
+// The word i, or the first one behind it that is other than fill that changes nothing: fill on bus 0, not the first of all, nor
+// the first word of its row.
+fn past_fill(fills: Fills, row: &[u32], i: usize) -> usize
+    requires { ⌜ (i ≤ length (now row)) × (length (now row) < 2 ^ 40) ⌝ }
+    ensures { λ r. ⌜ PastFill (now (row .entry)) fills i r ⌝ }
 {
     let mut slot = i;
-    let mut at = at;
     if fills.first == 0 {
-        return Past { slot: slot, at: at };
+        return slot;
     }
     if slot == 0 {
-        return Past { slot: slot, at: at };
+        return slot;
     }
-    while slot < count {
-        if word::word_at(capture, 3 * at.place) != word::fill() {
+    while slot + 4 <= row.len() {
+        if are_fill(row[slot], row[slot + 1], row[slot + 2], row[slot + 3]) {
+            slot += 4;
+        } else {
             break;
         }
-        at = group_read::next_slot(plan, at);
+    }
+    while slot < row.len() {
+        if row[slot] != word::fill() {
+            break;
+        }
         slot += 1;
     }
-    Past { slot: slot, at: at }
+    slot
 }
 
-// Items taken whole from the slot i on, if nothing is held.
+fn least(a: usize, b: usize) -> usize
+    ensures { λ r. ⌜ r ≡ leastOf a b ⌝ }
+{
+    if a <= b { a } else { b }
+}
+
+// Items taken whole from the word i on, if nothing is held, as far as there is room for them.
 fn items_from(
     pass: Pass,
     kinds: [Kind; 16],
-    plan: Plan,
-    count: usize,
-    capture: &[u8],
-    group: usize,
+    parity: bool,
+    row: &[u32],
     i: usize,
-    at: Position,
     out: &mut [u8],
 ) -> Taken
-    requires { ⌜ Ahead plan (now capture) group i 0 at × (count ≡ slots plan) × (pass .pen .bits < 2 ^ 59) ⌝ }
-    ensures { λ r. ⌜ FromPass kinds plan (now (capture .entry)) group pass i at (now (out .entry)) r (now (out .exit)) ⌝ }
+    requires { ⌜ Words (now row) × (i ≤ length (now row)) × (length (now row) < 2 ^ 40) × (pass .pen .bits < 2 ^ 59) ⌝ }
+    ensures { λ r. ⌜ FromPass kinds parity (now (row .entry)) pass i (now (out .entry)) r (now (out .exit)) ⌝ }
 {
     let held = pass.held;
     let pen = pass.pen;
-    let from = Taken {
-        slot: i,
-        at: at,
-        last: pass.since as usize,
-        pen: pen,
-    };
+    let from = Taken { slot: i, pen: pen };
     if held.awaits == 0 {
-        return data_items::take(kinds, plan, count, capture, group, from, out);
+        let end = least(row.len(), i + pen.words_in(out.len()));
+        return data_items::take(kinds, parity, &row[..end], from, out);
     }
     from
 }
 
-// Items that were taken.
-fn on_items(pass: Pass, taken: Taken) -> Pass
-    ensures { λ r. ⌜ r ≡ itemsPass pass taken ⌝ }
+// Items that were taken, from a row whose first word has the number `from`.
+fn on_items(pass: Pass, taken: Taken, from: u64) -> Pass
+    requires { ⌜ (1 ≤ taken .slot) × (from + taken .slot < 2 ^ 41) ⌝ }
+    ensures { λ r. ⌜ r ≡ itemsPass pass taken from ⌝ }
 {
     let held = pass.held;
     let pen = taken.pen;
     Pass {
         held: held,
-        since: taken.last as u64,
+        since: from + taken.slot as u64 - 1,
         pen: pen,
         fills: on_data(pass.fills),
         bad: false,
     }
 }
 
-// The data slots of the group whose first stored word is `group`, up to a bad word.
-pub fn on_group(
+// A row of data words, the first of them the number `from`, up to a bad word.
+pub fn on_row(
     pass: Pass,
     kinds: [Kind; 16],
-    plan: Plan,
-    count: usize,
-    capture: &[u8],
-    group: usize,
+    parity: bool,
+    row: &[u32],
+    from: u64,
     out: &mut [u8],
 ) -> Pass
-    requires { ⌜ Sound pass × (pass .pen .bits ≤ 128 * group) × Shape plan × (count ≡ slots plan) ⌝ }
-    requires { ⌜ (3 * (group + groupWords plan) ≤ length (now capture)) × (length (now capture) ≤ 1048576) ⌝ }
-    ensures { λ r. ⌜ RanTo pass (now (out .entry)) (run kinds (plan .parity) (groupSlots plan (now (capture .entry)) group) (heldOf (pass .held)) (pass .since)) (fillsIn plan 0 (groupSlots plan (now (capture .entry)) group) (pass .fills)) r (now (out .exit)) ⌝ }
-    ensures { λ r. ⌜ (r .bad ≡ false → r .pen .bits ≤ 128 * (group + groupWords plan)) ⌝ }
+    requires { ⌜ Sound pass × Words (now row) × (pass .pen .bits ≤ 128 * from) × (from + length (now row) < 2 ^ 40) ⌝ }
+    ensures { λ r. ⌜ RanTo pass (now (out .entry)) (run kinds parity (counted from (now (row .entry))) (heldOf (pass .held)) (pass .since)) (fillsIn parity 0 (counted from (now (row .entry))) (pass .fills)) r (now (out .exit)) ⌝ }
+    ensures { λ r. ⌜ (r .bad ≡ false → r .pen .bits ≤ 128 * (from + length (now (row .entry)))) ⌝ }
 {
     let mut pass = pass;
-    let mut at = group_read::first_slot(plan, group);
     let mut i: usize = 0;
-    while i < count {
-        let past = past_fill(pass.fills, plan, count, capture, group, i, at);
-        if i < past.slot {
-            at = past.at;
-            i = past.slot;
+    while i < row.len() {
+        let past = past_fill(pass.fills, row, i);
+        if i < past {
+            i = past;
             continue;
         }
-        let taken = items_from(pass, kinds, plan, count, capture, group, i, at, out);
+        let taken = items_from(pass, kinds, parity, row, i, out);
         if i < taken.slot {
-            pass = on_items(pass, taken);
-            at = taken.at;
+            pass = on_items(pass, taken, from);
             i = taken.slot;
             continue;
         }
-        let word = word::word_at(capture, 3 * at.place);
-        pass = on_slot(pass, kinds, plan.parity, i, at.place, word, out);
+        pass = on_word(pass, kinds, parity, i, from + i as u64, row[i], out);
         if pass.bad {
             return pass;
         }
-        at = group_read::next_slot(plan, at);
         i += 1;
     }
     pass

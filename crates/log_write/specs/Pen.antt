@@ -39,6 +39,10 @@ penPut p v n = record { bits = p .bits + n; last = joined p v n }
 unfoldable pub penIn : List ℕ → Pen → ℕ → ℕ → List ℕ
 penIn out p v n = eightIn out (p .bits / 8) (topped (p .bits % 8 + n) (joined p v n))
 
+-- how many words' items, 32 bits a word, surely have eight bytes of room behind these bits in so many bytes
+abbrev pub wordsIn : Pen → ℕ → ℕ
+wordsIn p room = (room - (p .bits / 8 + 9)) / 4
+
 -- an item's two numbers
 unfoldable pub itemPut : Pen → Item → Pen
 itemPut p i = let k : Packed = packedOf i in penPut (penPut p (k .first) (k .«first_bits»)) (k .behind) (k .«behind_bits»)

@@ -2,7 +2,7 @@
 ghost use mathlib.Core.Path.{_≡_};
 ghost use Prim.Native.Nat.{_+_, _*_, _/_, _≤_, _<_, _^_};
 ghost use lib.ListN.{length};
-ghost use Rattle.log_write.specs.Pen.{closedIn, closedSize, eightIn, itemIn, itemPut, penIn, penPut, start};
+ghost use Rattle.log_write.specs.Pen.{closedIn, closedSize, eightIn, itemIn, itemPut, penIn, penPut, start, wordsIn};
 
 mod numbers;
 
@@ -23,20 +23,28 @@ pub struct Pen {
     pub last: u64,
 }
 
-// The eight bytes of w from `at` on, where there is room for all of them.
+// The eight bytes of w from `at` on.
+fn set_eight(out: &mut [u8], at: usize, w: u64)
+    requires { ⌜ at + 8 ≤ length (now out) ⌝ }
+    ensures { λ _. ⌜ now (out .exit) ≡ eightIn (now (out .entry)) at w ⌝ }
+{
+    out[at] = (w / 0x100000000000000) as u8;
+    out[at + 1] = (w / 0x1000000000000 % 0x100) as u8;
+    out[at + 2] = (w / 0x10000000000 % 0x100) as u8;
+    out[at + 3] = (w / 0x100000000 % 0x100) as u8;
+    out[at + 4] = (w / 0x1000000 % 0x100) as u8;
+    out[at + 5] = (w / 0x10000 % 0x100) as u8;
+    out[at + 6] = (w / 0x100 % 0x100) as u8;
+    out[at + 7] = (w % 0x100) as u8;
+}
+
+// They are set where there is room for all of them.
 fn put_eight(out: &mut [u8], at: usize, w: u64)
     requires { ⌜ at < 2 ^ 61 ⌝ }
     ensures { λ _. ⌜ now (out .exit) ≡ eightIn (now (out .entry)) at w ⌝ }
 {
     if at + 8 <= out.len() {
-        out[at] = (w / 0x100000000000000) as u8;
-        out[at + 1] = (w / 0x1000000000000 % 0x100) as u8;
-        out[at + 2] = (w / 0x10000000000 % 0x100) as u8;
-        out[at + 3] = (w / 0x100000000 % 0x100) as u8;
-        out[at + 4] = (w / 0x1000000 % 0x100) as u8;
-        out[at + 5] = (w / 0x10000 % 0x100) as u8;
-        out[at + 6] = (w / 0x100 % 0x100) as u8;
-        out[at + 7] = (w % 0x100) as u8;
+        set_eight(out, at, w);
     }
 }
 
@@ -62,6 +70,32 @@ impl Pen {
             bits: bits + width as usize,
             last: last,
         }
+    }
+
+    // As `put`, where the byte that is not full and the seven behind it have room in the array.
+    pub fn put_in(self, out: &mut [u8], value: u64, width: u32) -> Pen
+        requires { ⌜ (self .bits < 2 ^ 62) × (width ≤ 56) × (value < 2 ^ width) × (self .bits / 8 + 8 ≤ length (now out)) ⌝ }
+        ensures { λ r. ⌜ (r ≡ penPut self value width) × (now (out .exit) ≡ penIn (now (out .entry)) self value width) ⌝ }
+    {
+        let bits = self.bits;
+        let last = (self.last << width) + value;
+        let part = (bits % 8) as u32 + width;
+        set_eight(out, bits / 8, (last << (63 - part)) << 1);
+        Pen {
+            bits: bits + width as usize,
+            last: last,
+        }
+    }
+
+    // How many words' items surely have room behind these bits in so many bytes, 32 bits a word.
+    pub fn words_in(self, room: usize) -> usize
+        ensures { λ r. ⌜ r ≡ wordsIn self room ⌝ }
+    {
+        let used = self.bits / 8 + 9;
+        if room < used {
+            return 0;
+        }
+        (room - used) / 4
     }
 
     // An item's bits more. Nothing calls it yet: it is for the requests that write logs from items, pick and join (K7), shift (K9).

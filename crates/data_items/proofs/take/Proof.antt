@@ -1,37 +1,131 @@
-use Rattle.data_items.proofs.Taking.{item-short, put-puts, single-puts, took-ahead, took-few, took-more, took-none}
-use Rattle.data_items.proofs.Slots.{ahead-small, bus-is, dealt, next-here, pos}
-use Rattle.data_items.proofs.First.{opened-says, single-takes}
-use Rattle.data_items.specs.Taken.{Took}
-use Rattle.data_start.specs.Opening.{opens}
-use Rattle.data_start.specs.declared.Step.{Step}
-use Rattle.format.specs.Plan.{kindOn}
-use mathlib.Core.Path.{refl, ap, _∙_}
 use native.Mathlib.Omega.{arith}
-use Prim.Native.Nat.{ℕ, _-_, _%_}
+use mathlib.Core.Path.{_≡_, refl, _∙_}
+use Prim.Native.Nat.{_+_, _*_, _-_, _^_, _≤_, _<_}
+use lib.ListN.{length, getD}
+use Rattle.data_items.specs.Taken.{Took}
+use Rattle.data_items.proofs.Words.{parity-back, tops-all}
+use Rattle.data_items.proofs.Spot.{Spot, opening-low, opens-here, single-fits, single-short, single-taken}
+use Rattle.data_items.proofs.Taking.{less-or-same, took-none, took-roomy, took-still, took-then}
 use borrow.Author.Needs.{needs}
 use Rattle.data_items.proofs.take.Statement.{statement}
 use Rattle.data_items.proofs.take.Tie as tie
 
 abbrev Inv-loop : tie.InvT-loop
-Inv-loop plan count capture group out₀ kinds openings slot₀ at₀ last₀ pen₀ out slot at last pen = Took kinds plan capture group (record { slot = slot₀; at = at₀; last = last₀; pen = pen₀ }) out₀ (record { slot = slot; at = at; last = last; pen = pen }) out
+Inv-loop parity row out₀ kinds tops openings count slot₀ pen₀ out slot pen =
+    Took kinds parity row (record { slot = slot₀; pen = pen₀ }) out₀ (record { slot = slot; pen = pen }) out
 
 abbrev μ-loop : tie.MeasureT-loop
-μ-loop plan count capture group out₀ kinds openings slot₀ at₀ last₀ pen₀ out slot at last pen = count - slot
+μ-loop parity row out₀ kinds tops openings count slot₀ pen₀ out slot pen = count - slot
+
+abbrev before-openings : tie.After-openings Inv-loop μ-loop → tie.After-tops-of Inv-loop μ-loop
+before-openings c = c .before
+
+abbrev before-at : tie.At-loop Inv-loop μ-loop → tie.After-openings Inv-loop μ-loop
+before-at c = c .before .before
+
+abbrev before-in : tie.In-loop Inv-loop μ-loop → tie.At-loop Inv-loop μ-loop
+before-in c = c .before
+
+abbrev before-top-of : tie.After-top-of Inv-loop μ-loop → tie.In-loop Inv-loop μ-loop
+before-top-of c = c .before .before
+
+abbrev before-opening : tie.After-opening Inv-loop μ-loop → tie.After-top-of Inv-loop μ-loop
+before-opening c = c .before .before .before
+
+abbrev before-then1 : tie.Then1 Inv-loop μ-loop → tie.After-opening Inv-loop μ-loop
+before-then1 c = c .before
+
+abbrev before-single : tie.After-single Inv-loop μ-loop → tie.Then1 Inv-loop μ-loop
+before-single c = c .before
+
+abbrev before-put-in : tie.After-put-in Inv-loop μ-loop → tie.After-single Inv-loop μ-loop
+before-put-in c = c .before .before
+
+abbrev before-else1 : tie.Else1 Inv-loop μ-loop → tie.After-opening Inv-loop μ-loop
+before-else1 c = c .before
+
+abbrev before-else2 : tie.Else2 Inv-loop μ-loop → tie.Else1 Inv-loop μ-loop
+before-else2 c = c .before
+
+abbrev before-item-at : tie.After-item-at Inv-loop μ-loop → tie.Else2 Inv-loop μ-loop
+before-item-at c = c .before .before
+
+abbrev before-else3 : tie.Else3 Inv-loop μ-loop → tie.After-item-at Inv-loop μ-loop
+before-else3 c = c .before .before .before .before
+
+abbrev entry : tie.In-loop Inv-loop μ-loop → tie.Start Inv-loop μ-loop
+entry c = c .before .before .before .before .before .before .before
+
+abbrev start-openings : tie.After-openings Inv-loop μ-loop → tie.Start Inv-loop μ-loop
+start-openings c = c .before .before .before .before
+
+abbrev turn-single : tie.After-single Inv-loop μ-loop → tie.In-loop Inv-loop μ-loop
+turn-single c = c .before .before .before .before .before .before .before
+
+abbrev turn-put-in : tie.After-put-in Inv-loop μ-loop → tie.In-loop Inv-loop μ-loop
+turn-put-in c = c .before .before .before .before .before .before .before .before .before
+
+abbrev turn-else1 : tie.Else1 Inv-loop μ-loop → tie.In-loop Inv-loop μ-loop
+turn-else1 c = c .before .before .before .before .before .before
+
+abbrev turn-else2 : tie.Else2 Inv-loop μ-loop → tie.In-loop Inv-loop μ-loop
+turn-else2 c = c .before .before .before .before .before .before .before
+
+abbrev turn-else3 : tie.Else3 Inv-loop μ-loop → tie.In-loop Inv-loop μ-loop
+turn-else3 c = c .before .before .before .before .before .before .before .before .before .before .before .before .before
+
+abbrev turn-item-at : tie.After-item-at Inv-loop μ-loop → tie.In-loop Inv-loop μ-loop
+turn-item-at c = c .before .before .before .before .before .before .before .before .before
+
+-- the word at hand
+spot : (c : tie.After-top-of Inv-loop μ-loop)
+    → Spot ((entry (before-top-of c)) .args .parity) ((entry (before-top-of c)) .args .row .now) ((before-in (before-top-of c)) .loop .slot)
+    (getD ((entry (before-top-of c)) .args .row .now) ((before-in (before-top-of c)) .loop .slot) 0) (c .top-of .result)
+spot c = record {
+  within = (before-top-of c) .loop-test .taken;
+  low = (entry (before-top-of c)) .pre .0 _ ((before-top-of c) .loop-test .taken);
+  is = refl;
+  says = rw (parity-back ((entry (before-top-of c)) .args .parity) ((before-openings (before-at (before-in (before-top-of c)))) .tops-of .ensures)) at
+      (c .top-of .ensures .0);
+}
+
+-- there is room for what the words from it on bring
+room : (c : tie.In-loop Inv-loop μ-loop)
+    → ((before-in c) .loop .pen .bits < 2 ^ 60) × ((before-in c) .loop .pen .bits + 32 * (length ((entry c) .args .row .now) - (before-in c) .loop .slot) + 64 ≤ 8 *
+    length ((before-in c) .loop .out))
+room c = took-roomy ((before-in c) .loop .inv) ((entry c) .pre .1) (c .loop-test .taken)
+
+-- what was taken at once
+more : (c : tie.After-item-at Inv-loop μ-loop)
+    → Took ((entry (turn-item-at c)) .args .t1) ((entry (turn-item-at c)) .args .parity) ((entry (turn-item-at c)) .args .row .now)
+    (record { slot = (before-in (turn-item-at c)) .loop .slot; pen = (before-in (turn-item-at c)) .loop .pen }) ((before-in (turn-item-at c)) .loop .out)
+    (c .item-at .result) (c .item-at .last .1 .1 .1 .1 .1 .1 .0)
+more c =
+    rw (parity-back ((entry (turn-item-at c)) .args .parity) ((before-openings
+    (before-at (before-in (before-top-of (before-opening (before-else1 (before-else2 (before-item-at c)))))))) .tops-of .ensures)) at
+    (c .item-at .ensures ((entry (turn-item-at c)) .args .t1) (opens-here _ _ ((before-opening (before-else1 (before-else2 (before-item-at c)))) .top-of .ensures .0)
+    ((entry (turn-item-at c)) .args .t1) ((before-else1 (before-else2 (before-item-at c))) .opening .ensures)))
+
+tops-of-requires : tie.Need-tops-of-requires Inv-loop μ-loop
+tops-of-requires c κs = search needs
 
 openings-requires : tie.Need-openings-requires Inv-loop μ-loop
 openings-requires c κs = search needs
 
 loop-holds : tie.Need-loop-holds Inv-loop μ-loop
-loop-holds c = took-none _ _ _ _ _ _ (c .before .before .before .before .before .pre .0)
+loop-holds c = took-none _ _ ((start-openings (c .before)) .pre .1 .within)
 
-add-loop : tie.Need-add-loop Inv-loop μ-loop
-add-loop c = omega (arith, ahead-small (took-ahead (c .loop .inv) 0 (omega (arith, c .loop .inv .room)) (c .before .before .before .before .before .before .pre .0)))
+mul-word : tie.Need-mul-word Inv-loop μ-loop
+mul-word c = search needs
 
-word-of-requires : tie.Need-word-of-requires Inv-loop μ-loop
-word-of-requires c κs = took-ahead (c .before .loop .inv) 1 (omega (arith, c .loop-test .taken, c .before .before .before .before .before .before .before .pre .1)) (c .before .before .before .before .before .before .before .pre .0)
+shared-slice-read-word : tie.Need-shared-slice-read-word Inv-loop μ-loop
+shared-slice-read-word c = search needs
 
 top-of-requires : tie.Need-top-of-requires Inv-loop μ-loop
-top-of-requires c κs = search needs
+top-of-requires c κs = (
+  tops-all ((entry (c .before)) .args .parity) ((before-openings (before-at (before-in (c .before)))) .tops-of .ensures),
+  (entry (c .before)) .pre .0 _ ((c .before) .loop-test .taken),
+)
 
 cast-opening : tie.Need-cast-opening Inv-loop μ-loop
 cast-opening c = search needs
@@ -40,52 +134,86 @@ array-copy-out-opening : tie.Need-array-copy-out-opening Inv-loop μ-loop
 array-copy-out-opening c = search needs
 
 opening-requires : tie.Need-opening-requires Inv-loop μ-loop
-opening-requires c κs = (c .before .before .before .before .before .before .before .before .openings .ensures, omega arith)
+opening-requires c κs = ((before-at (before-in (before-top-of (c .before .before)))) .openings .ensures, omega arith)
 
 single-requires : tie.Need-single-requires Inv-loop μ-loop
-single-requires c κs = (opened-says (record { kind = _; is = c .before .opening .ensures }) (omega arith) .low, omega (arith, c .before .before .before .before .top-of .ensures .1), omega arith)
+single-requires c κs = (
+  opening-low _ _ ((before-then1 c) .opening .ensures) (omega arith),
+  omega (arith, (before-opening (before-then1 c)) .top-of .ensures .1),
+  omega
+      arith,
+)
 
-put-requires : tie.Need-put-requires Inv-loop μ-loop
-put-requires c κs = let s = item-short (c .before .before .before .before .before .before .before .before .before .loop .inv) (λ z. absurd (omega (arith, z))) (single-takes (took-ahead (c .before .before .before .before .before .before .before .before .before .loop .inv) 5 (omega (arith, c .before .before .before .before .before .before .before .before .loop-test .taken, c .before .before .before .before .before .before .before .before .before .before .before .before .before .before .before .pre .1)) (c .before .before .before .before .before .before .before .before .before .before .before .before .before .before .before .pre .0)) (omega arith) (c .before .before .before .before .before .before .before .word-of .ensures .0) (c .before .before .before .before .before .before .before .word-of .ensures .1) (c .before .before .before .before .before .before .top-of .ensures .0) (c .before .before .before .before .before .before .before .before .before .before .before .before .before .before .before .args .t1) (c .before .single .ensures) (c .before .before .if1 .taken) (c .before .before .before .opening .ensures ∙ ap (λ (b : ℕ). opens (kindOn (c .before .before .before .before .before .before .before .before .before .before .before .before .before .before .before .args .t1) b) (c .before .before .before .before .before .before .top-of .result % 16)) (bus-is _ _ _ (c .before .before .before .before .before .before .top-of .ensures .0))) refl) in (omega (arith, took-few (c .before .before .before .before .before .before .before .before .before .loop .inv) (c .before .before .before .before .before .before .before .before .before .before .before .before .before .before .before .pre .0) (c .before .before .before .before .before .before .before .before .before .before .before .before .before .before .before .pre .2)), omega (arith, s .second-short), s .second-fits)
+put-in-requires : tie.Need-put-in-requires Inv-loop μ-loop
+put-in-requires c κs = let r = room (turn-single (c .before)) in let f = single-short (spot (before-opening (before-then1 (before-single (c .before)))))
+    ((entry (turn-single (c .before))) .args .t1) ((before-then1 (before-single (c .before))) .opening .ensures) ((before-single (c .before)) .if1 .taken)
+    ((c .before) .single .ensures) in (
+      omega (arith, r .0),
+      omega (arith, f),
+      single-fits (spot (before-opening (before-then1 (before-single (c .before)))))
+          ((entry (turn-single (c .before))) .args .t1) ((before-then1 (before-single (c .before))) .opening .ensures) ((before-single (c .before)) .if1 .taken)
+          ((c .before) .single .ensures),
+      omega (arith, r .1, (turn-single (c .before)) .loop-test .taken),
+    )
 
 add-slot : tie.Need-add-slot Inv-loop μ-loop
-add-slot c = omega (arith, ahead-small (took-ahead (c .before .before .before .before .before .before .before .before .before .before .before .before .loop .inv) 5 (omega (arith, c .before .before .before .before .before .before .before .before .before .before .before .loop-test .taken, c .before .before .before .before .before .before .before .before .before .before .before .before .before .before .before .before .before .before .pre .1)) (c .before .before .before .before .before .before .before .before .before .before .before .before .before .before .before .before .before .before .pre .0)))
-
-next-slot-requires : tie.Need-next-slot-requires Inv-loop μ-loop
-next-slot-requires c κs = (c .before .before .before .before .before .before .before .before .before .before .before .before .before .before .before .before .before .before .pre .0 .shape, dealt (took-ahead (c .before .before .before .before .before .before .before .before .before .before .before .before .loop .inv) 5 (omega (arith, c .before .before .before .before .before .before .before .before .before .before .before .loop-test .taken, c .before .before .before .before .before .before .before .before .before .before .before .before .before .before .before .before .before .before .pre .1)) (c .before .before .before .before .before .before .before .before .before .before .before .before .before .before .before .before .before .before .pre .0)) (omega arith))
+add-slot c = omega (arith, (turn-put-in (c .before .before)) .loop-test .taken, (entry (turn-put-in (c .before .before))) .pre .1 .short)
 
 loop-less : tie.Need-loop-less Inv-loop μ-loop
-loop-less c = omega (arith, c .before .before .before .before .before .before .before .before .before .before .before .before .loop-test .taken)
+loop-less c = omega (arith, (turn-put-in (c .before .before)) .loop-test .taken)
 
 loop-again : tie.Need-loop-again Inv-loop μ-loop
-loop-again c = let x = (single-takes (took-ahead (c .before .before .before .before .before .before .before .before .before .before .before .before .before .loop .inv) 5 (omega (arith, c .before .before .before .before .before .before .before .before .before .before .before .before .loop-test .taken, c .before .before .before .before .before .before .before .before .before .before .before .before .before .before .before .before .before .before .before .pre .1)) (c .before .before .before .before .before .before .before .before .before .before .before .before .before .before .before .before .before .before .before .pre .0)) (omega arith) (c .before .before .before .before .before .before .before .before .before .before .before .word-of .ensures .0) (c .before .before .before .before .before .before .before .before .before .before .before .word-of .ensures .1) (c .before .before .before .before .before .before .before .before .before .before .top-of .ensures .0) (c .before .before .before .before .before .before .before .before .before .before .before .before .before .before .before .before .before .before .before .args .t1) (c .before .before .before .before .before .single .ensures) (c .before .before .before .before .before .before .if1 .taken) (c .before .before .before .before .before .before .before .opening .ensures ∙ ap (λ (b : ℕ). opens (kindOn (c .before .before .before .before .before .before .before .before .before .before .before .before .before .before .before .before .before .before .before .args .t1) b) (c .before .before .before .before .before .before .before .before .before .before .top-of .result % 16)) (bus-is _ _ _ (c .before .before .before .before .before .before .before .before .before .before .top-of .ensures .0))) (next-here (took-ahead (c .before .before .before .before .before .before .before .before .before .before .before .before .before .loop .inv) 5 (omega (arith, c .before .before .before .before .before .before .before .before .before .before .before .before .loop-test .taken, c .before .before .before .before .before .before .before .before .before .before .before .before .before .before .before .before .before .before .before .pre .1)) (c .before .before .before .before .before .before .before .before .before .before .before .before .before .before .before .before .before .before .before .pre .0)) (omega arith) (c .next-slot .ensures))) in let s = item-short (c .before .before .before .before .before .before .before .before .before .before .before .before .before .loop .inv) (λ z. absurd (omega (arith, z))) x in took-more (c .before .before .before .before .before .before .before .before .before .before .before .before .before .loop .inv) (λ z. absurd (omega (arith, z))) x (omega (arith, c .before .before .before .before .before .before .before .before .before .before .before .before .loop-test .taken, c .before .before .before .before .before .before .before .before .before .before .before .before .before .before .before .before .before .before .before .pre .1)) (omega arith) (single-puts (c .before .before .before .before .before .single .result) (ap (λ (x : Step). x .«first_width») (c .before .before .before .before .before .single .ensures)) (put-puts (omega (arith, s .second-short)) (s .second-fits) (c .before .before .before .put .ensures .0) (c .before .before .before .put .ensures .1)))
+loop-again c = took-then ((before-in (turn-put-in (c .before .before))) .loop .inv)
+    (single-taken (spot (before-opening (before-then1 (before-single (before-put-in (c .before .before)))))) ((entry (turn-put-in (c .before .before))) .args .t1)
+    ((before-then1 (before-single (before-put-in (c .before .before)))) .opening .ensures) ((before-single (before-put-in (c .before .before))) .if1 .taken)
+    ((before-put-in (c .before .before)) .single .ensures) ((c .before .before) .put-in .ensures)) (omega arith)
+
+add-if2 : tie.Need-add-if2 Inv-loop μ-loop
+add-if2 c = omega (arith, (turn-else1 c) .loop-test .taken, (entry (turn-else1 c)) .pre .1 .short)
 
 item-at-requires : tie.Need-item-at-requires Inv-loop μ-loop
-item-at-requires c κs = ((took-ahead (c .before .before .before .before .before .before .before .loop .inv) 5 (omega (arith, c .before .before .before .before .before .before .loop-test .taken, c .before .before .before .before .before .before .before .before .before .before .before .before .before .pre .1)) (c .before .before .before .before .before .before .before .before .before .before .before .before .before .pre .0), c .before .before .before .before .before .word-of .ensures .0, c .before .before .before .before .before .word-of .ensures .1), ((c .before .before .before .before .top-of .ensures .0, c .before .before .before .before .top-of .ensures .1), (record { kind = _; is = c .before .opening .ensures })))
-
-put-both-requires : tie.Need-put-both-requires Inv-loop μ-loop
-put-both-requires c κs = (omega (arith, took-few (c .before .before .before .before .before .before .before .before .before .before .before .loop .inv) (c .before .before .before .before .before .before .before .before .before .before .before .before .before .before .before .before .before .pre .0) (c .before .before .before .before .before .before .before .before .before .before .before .before .before .before .before .before .before .pre .2)), item-short (c .before .before .before .before .before .before .before .before .before .before .before .loop .inv) (c .before .if2 .left) (c .before .before .before .item-at .ensures .1 (c .before .before .before .before .before .before .before .before .before .before .before .before .before .before .before .before .before .args .t1) (c .before .before .before .before .before .opening .ensures ∙ ap (λ (b : ℕ). opens (kindOn (c .before .before .before .before .before .before .before .before .before .before .before .before .before .before .before .before .before .args .t1) b) (c .before .before .before .before .before .before .before .before .top-of .result % 16)) (bus-is _ _ _ (c .before .before .before .before .before .before .before .before .top-of .ensures .0)))))
-
-add-slot-2 : tie.Need-add-slot-2 Inv-loop μ-loop
-add-slot-2 c = omega (arith, ahead-small (took-ahead (c .before .before .before .before .before .before .before .before .before .before .before .before .before .before .before .loop .inv) 5 (omega (arith, c .before .before .before .before .before .before .before .before .before .before .before .before .before .before .loop-test .taken, c .before .before .before .before .before .before .before .before .before .before .before .before .before .before .before .before .before .before .before .before .before .pre .1)) (c .before .before .before .before .before .before .before .before .before .before .before .before .before .before .before .before .before .before .before .before .before .pre .0)), c .before .before .before .before .before .before .before .item-at .ensures .0)
+item-at-requires c κs = let r = room (turn-else2 (c .before)) in (
+  record {
+    all = tops-all ((entry (turn-else2 (c .before))) .args .parity)
+        ((before-openings (before-at (before-in (before-top-of (before-opening (before-else1 (before-else2 (c .before)))))))) .tops-of .ensures);
+    words =
+        (entry (turn-else2 (c .before))) .pre .0;
+    five = omega (arith, (c .before) .if2 .left);
+    short = (entry (turn-else2 (c .before))) .pre .1 .short;
+    is = refl;
+    says =
+        (before-opening (before-else1 (before-else2 (c .before)))) .top-of .ensures .0;
+    few = r .0;
+    room = omega (arith, r .1, (c .before) .if2 .left);
+  },
+  record
+      { kind = _; is = (before-else1 (before-else2 (c .before))) .opening .ensures },
+)
 
 loop-less-2 : tie.Need-loop-less-2 Inv-loop μ-loop
-loop-less-2 c = omega (arith, pos _ (c .before .before .before .before .before .before .if2 .left), c .before .before .before .before .before .before .before .before .before .before .before .before .before .before .before .loop-test .taken)
+loop-less-2 c = let m = more (before-else3 (c .before)) in omega (arith, m .onward, m .room, (c .before) .if3 .left, (turn-else3 (c .before)) .loop-test .taken)
 
 loop-again-2 : tie.Need-loop-again-2 Inv-loop μ-loop
-loop-again-2 c = took-more (c .before .before .before .before .before .before .before .before .before .before .before .before .before .before .before .before .loop .inv) (c .before .before .before .before .before .before .if2 .left) (c .before .before .before .before .before .before .before .before .item-at .ensures .1 (c .before .before .before .before .before .before .before .before .before .before .before .before .before .before .before .before .before .before .before .before .before .before .args .t1) (c .before .before .before .before .before .before .before .before .before .before .opening .ensures ∙ ap (λ (b : ℕ). opens (kindOn (c .before .before .before .before .before .before .before .before .before .before .before .before .before .before .before .before .before .before .before .before .before .before .args .t1) b) (c .before .before .before .before .before .before .before .before .before .before .before .before .before .top-of .result % 16)) (bus-is _ _ _ (c .before .before .before .before .before .before .before .before .before .before .before .before .before .top-of .ensures .0)))) (omega (arith, c .before .before .before .before .before .before .before .before .before .before .before .before .before .before .before .loop-test .taken, c .before .before .before .before .before .before .before .before .before .before .before .before .before .before .before .before .before .before .before .before .before .before .pre .1)) (c .before .before .before .before .before .before .before .before .item-at .ensures .0) (c .before .before .before .before .put-both .ensures)
+loop-again-2 c = let m = more (before-else3 (c .before)) in took-then ((before-in (turn-else3 (c .before))) .loop .inv) m
+    (less-or-same (m .onward) ((c .before) .if3 .left))
 
 same-length : tie.Need-same-length Inv-loop μ-loop
-same-length c = c .before .loop .inv .long
+same-length c = (c .before) .loop .inv .long
 
 returns : tie.Need-returns Inv-loop μ-loop
-returns c = c .before .loop .inv
+returns c = (c .before) .loop .inv
 
 same-length-2 : tie.Need-same-length-2 Inv-loop μ-loop
-same-length-2 c = c .before .before .before .before .before .before .before .before .before .before .loop .inv .long
+same-length-2 c = (before-in (turn-else1 (c .before))) .loop .inv .long
 
 returns-2 : tie.Need-returns-2 Inv-loop μ-loop
-returns-2 c = c .before .before .before .before .before .before .before .before .before .before .loop .inv
+returns-2 c = (before-in (turn-else1 (c .before))) .loop .inv
+
+same-length-3 : tie.Need-same-length-3 Inv-loop μ-loop
+same-length-3 c = more (c .before .before .before .before) .long ∙ (before-in (turn-item-at (c .before .before .before .before))) .loop .inv .long
+
+returns-3 : tie.Need-returns-3 Inv-loop μ-loop
+returns-3 c = took-still ((before-in (turn-item-at (c .before .before .before .before))) .loop .inv) (more (c .before .before .before .before)) (c .if3 .taken)
 
 pub take-spec : {M : Type 1} → statement M
 take-spec =
@@ -93,26 +221,27 @@ take-spec =
     (tie.spec
     Inv-loop
     μ-loop
+    tops-of-requires
     openings-requires
     loop-holds
-    add-loop
-    word-of-requires
+    mul-word
+    shared-slice-read-word
     top-of-requires
     cast-opening
     array-copy-out-opening
     opening-requires
     single-requires
-    put-requires
+    put-in-requires
     add-slot
-    next-slot-requires
     loop-less
     loop-again
+    add-if2
     item-at-requires
-    put-both-requires
-    add-slot-2
     loop-less-2
     loop-again-2
     same-length
     returns
     same-length-2
-    returns-2)
+    returns-2
+    same-length-3
+    returns-3)

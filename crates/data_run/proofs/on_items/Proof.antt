@@ -1,10 +1,14 @@
+use native.Mathlib.Omega.{arith}
 use mathlib.Core.Path.{refl}
 use borrow.Author.Needs.{needs}
 use Rattle.data_run.proofs.on_items.Statement.{statement}
 use Rattle.data_run.proofs.on_items.Tie as tie
-use Rattle.data_run.proofs.on_items.Reads as reads
-use Rattle.data_run.proofs.on_items.Lts as lts
-use Rattle.data_run.proofs.fill.on_data.Reads as on-data-reads
+
+add-t7 : tie.Need-add-t7
+add-t7 c = omega (arith, (c .before .before) .pre .1)
+
+sub-t8 : tie.Need-sub-t8
+sub-t8 c = omega (arith, (c .before .before) .pre .0)
 
 on-data-requires : tie.Need-on-data-requires
 on-data-requires c κs = search needs
@@ -13,4 +17,4 @@ returns : tie.Need-returns
 returns c = rw (c .on-data .ensures) refl
 
 pub on-items-spec : {M : Type 1} → statement M
-on-items-spec = tie.close (tie.spec on-data-requires returns)
+on-items-spec = tie.close (tie.spec add-t7 sub-t8 on-data-requires returns)

@@ -24,7 +24,16 @@ same-length : tie.Need-same-length
 same-length c = search needs
 
 returns-2 : tie.Need-returns-2
-returns-2 c = (rw (c .before .before .before .before .before .before .before .if1 .left, c .before .since .ensures, c .before .before .before .before .put-step .ensures .0, c .on-data .ensures) refl, rw (c .before .before .before .before .before .before .before .if1 .left) (c .before .before .before .before .put-step .ensures .1))
+returns-2 c = (
+  rw (
+    c .before .before .before .before .before .before .before .if1 .left,
+    c .before .since .ensures,
+    c .before .before .before .before .put-step .ensures .0,
+    c .on-data .ensures,
+  ) refl,
+  rw (c .before .before .before .before .before .before .before .if1 .left)
+      (c .before .before .before .before .put-step .ensures .1),
+)
 
 pub on-step-spec : {M : Type 1} → statement M
 on-step-spec =

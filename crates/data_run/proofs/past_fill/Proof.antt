@@ -1,55 +1,157 @@
-use Rattle.data_run.proofs.Slots.{ahead-in, data-not-quiet, first-not-quiet, front-not-quiet, quiet-here, upto-more}
-use Rattle.data_items.proofs.Slots.{ahead-next, ahead-small, dealt, word-here, word-room}
-use Rattle.data_items.specs.Slots.{Ahead, wordIn}
-use Rattle.format.specs.Word.{fill}
-use mathlib.Core.Path.{_≡_, sym, _∙_}
 use native.Mathlib.Omega.{arith}
-use Prim.Native.Nat.{ℕ, _-_, _<_, _≤_}
+use mathlib.Core.Path.{sym, _∙_}
+use lib.ListN.{length}
+use Prim.Native.Nat.{_-_}
+use Rattle.data_run.proofs.Rows.{Filled, filled-four, filled-none, filled-one, past-first, past-front, past-some}
 use borrow.Author.Needs.{needs}
 use Rattle.data_run.proofs.past_fill.Statement.{statement}
 use Rattle.data_run.proofs.past_fill.Tie as tie
 
 abbrev Inv-loop : tie.InvT-loop
-Inv-loop plan count capture group i slot₀ at₀ slot at = (i ≤ slot) × (slot ≤ count) × Ahead plan capture group slot 0 at × ((k : ℕ) → i ≤ k → k < slot → wordIn plan capture group k ≡ fill)
+Inv-loop row i slot₀ slot = Filled row i slot
 
 abbrev μ-loop : tie.MeasureT-loop
-μ-loop plan count capture group i slot₀ at₀ slot at = count - slot
+μ-loop row i slot₀ slot = length row - slot
 
-returns : tie.Need-returns Inv-loop μ-loop
-returns c = record { onward = omega arith; room = omega (arith, c .before .before .before .pre .0 .room); at = c .before .before .before .pre .0 .is; quiets = λ k l u. absurd (omega (arith, l, u)); ends = λ h. first-not-quiet (c .before .before .before .args .fills) (c .before .before .before .args .i) (wordIn (c .before .before .before .args .plan) (c .before .before .before .args .capture .now) (c .before .before .before .args .group) (c .before .before .before .args .i)) (c .if1 .taken) }
+abbrev Inv-loop2 : tie.InvT-loop2
+Inv-loop2 row i slot₀ slot = Filled row i slot
 
-returns-2 : tie.Need-returns-2 Inv-loop μ-loop
-returns-2 c = record { onward = omega arith; room = omega (arith, c .before .before .before .before .pre .0 .room); at = c .before .before .before .before .pre .0 .is; quiets = λ k l u. absurd (omega (arith, l, u)); ends = λ h. front-not-quiet (c .before .before .before .before .args .fills) (c .before .before .before .before .args .i) (wordIn (c .before .before .before .before .args .plan) (c .before .before .before .before .args .capture .now) (c .before .before .before .before .args .group) (c .before .before .before .before .args .i)) (c .if2 .taken) }
+abbrev μ-loop2 : tie.MeasureT-loop2
+μ-loop2 row i slot₀ slot = length row - slot
 
-loop-holds : tie.Need-loop-holds Inv-loop μ-loop
-loop-holds c = (omega arith, omega (arith, c .before .before .before .before .pre .0 .room, c .before .before .before .before .pre .1), c .before .before .before .before .pre .0, λ k l u. absurd (omega (arith, l, u)))
+abbrev before-else1 : tie.Else1 Inv-loop μ-loop Inv-loop2 μ-loop2 → tie.Start Inv-loop μ-loop Inv-loop2 μ-loop2
+before-else1 c = c .before .before .before
 
-mul-word-at : tie.Need-mul-word-at Inv-loop μ-loop
-mul-word-at c = omega (arith, word-room (ahead-in 1 (omega (arith, c .before .loop-test .taken, c .before .before .before .before .before .before .before .pre .1)) (c .before .before .loop .inv .2)) (omega arith), c .before .before .before .before .before .before .before .pre .0 .small)
+abbrev before-else2 : tie.Else2 Inv-loop μ-loop Inv-loop2 μ-loop2 → tie.Else1 Inv-loop μ-loop Inv-loop2 μ-loop2
+before-else2 c = c .before
 
-word-at-requires : tie.Need-word-at-requires Inv-loop μ-loop
-word-at-requires c κs = omega (arith, word-room (ahead-in 1 (omega (arith, c .before .loop-test .taken, c .before .before .before .before .before .before .before .pre .1)) (c .before .before .loop .inv .2)) (omega arith))
+abbrev before-at : tie.At-loop Inv-loop μ-loop Inv-loop2 μ-loop2 → tie.Else2 Inv-loop μ-loop Inv-loop2 μ-loop2
+before-at c = c .before
 
-fill-requires : tie.Need-fill-requires Inv-loop μ-loop
+abbrev before-in : tie.In-loop Inv-loop μ-loop Inv-loop2 μ-loop2 → tie.At-loop Inv-loop μ-loop Inv-loop2 μ-loop2
+before-in c = c .before
+
+abbrev before-are-fill : tie.After-are-fill Inv-loop μ-loop Inv-loop2 μ-loop2 → tie.In-loop Inv-loop μ-loop Inv-loop2 μ-loop2
+before-are-fill c = c .before .before .before .before .before
+
+abbrev before-at2 : tie.At-loop2 Inv-loop μ-loop Inv-loop2 μ-loop2 → tie.At-loop Inv-loop μ-loop Inv-loop2 μ-loop2
+before-at2 c = c .before .before
+
+abbrev before-in2 : tie.In-loop2 Inv-loop μ-loop Inv-loop2 μ-loop2 → tie.At-loop2 Inv-loop μ-loop Inv-loop2 μ-loop2
+before-in2 c = c .before
+
+abbrev before-fill : tie.After-fill Inv-loop μ-loop Inv-loop2 μ-loop2 → tie.In-loop2 Inv-loop μ-loop Inv-loop2 μ-loop2
+before-fill c = c .before .before
+
+abbrev before-else4 : tie.Else4 Inv-loop μ-loop Inv-loop2 μ-loop2 → tie.After-fill Inv-loop μ-loop Inv-loop2 μ-loop2
+before-else4 c = c .before
+
+abbrev entry : tie.In-loop Inv-loop μ-loop Inv-loop2 μ-loop2 → tie.Start Inv-loop μ-loop Inv-loop2 μ-loop2
+entry c = c .before .before .before .before .before .before
+
+abbrev start-else2 : tie.Else2 Inv-loop μ-loop Inv-loop2 μ-loop2 → tie.Start Inv-loop μ-loop Inv-loop2 μ-loop2
+start-else2 c = c .before .before .before .before
+
+abbrev start-at : tie.At-loop Inv-loop μ-loop Inv-loop2 μ-loop2 → tie.Start Inv-loop μ-loop Inv-loop2 μ-loop2
+start-at c = c .before .before .before .before .before
+
+abbrev start-in2 : tie.In-loop2 Inv-loop μ-loop Inv-loop2 μ-loop2 → tie.Start Inv-loop μ-loop Inv-loop2 μ-loop2
+start-in2 c = c .before .before .before .before .before .before .before .before
+
+abbrev start-else4 : tie.Else4 Inv-loop μ-loop Inv-loop2 μ-loop2 → tie.Start Inv-loop μ-loop Inv-loop2 μ-loop2
+start-else4 c = c .before .before .before .before .before .before .before .before .before .before .before
+
+returns : tie.Need-returns Inv-loop μ-loop Inv-loop2 μ-loop2
+returns c = past-first _ _ _ ((c .before .before .before) .pre .0) (c .if1 .taken)
+
+returns-2 : tie.Need-returns-2 Inv-loop μ-loop Inv-loop2 μ-loop2
+returns-2 c = past-front _ _ _ ((before-else1 (c .before)) .pre .0) (c .if2 .taken)
+
+loop-holds : tie.Need-loop-holds Inv-loop μ-loop Inv-loop2 μ-loop2
+loop-holds c = filled-none _ _ ((start-else2 c) .pre .0)
+
+add-loop : tie.Need-add-loop Inv-loop μ-loop Inv-loop2 μ-loop2
+add-loop c = omega (arith, c .loop .inv .room, (start-at c) .pre .1)
+
+mul-are-fill : tie.Need-mul-are-fill Inv-loop μ-loop Inv-loop2 μ-loop2
+mul-are-fill c = omega (arith, c .loop-test .taken, (entry c) .pre .1)
+
+shared-slice-read-are-fill : tie.Need-shared-slice-read-are-fill Inv-loop μ-loop Inv-loop2 μ-loop2
+shared-slice-read-are-fill c = omega (arith, (c .before) .loop-test .taken, (entry (c .before)) .pre .1)
+
+add-are-fill : tie.Need-add-are-fill Inv-loop μ-loop Inv-loop2 μ-loop2
+add-are-fill c = omega (arith, (c .before) .loop-test .taken, (entry (c .before)) .pre .1)
+
+mul-are-fill-2 : tie.Need-mul-are-fill-2 Inv-loop μ-loop Inv-loop2 μ-loop2
+mul-are-fill-2 c = omega (arith, (c .before) .loop-test .taken, (entry (c .before)) .pre .1)
+
+shared-slice-read-are-fill-2 :
+    tie.Need-shared-slice-read-are-fill-2 Inv-loop μ-loop Inv-loop2 μ-loop2
+shared-slice-read-are-fill-2 c = omega (arith, (c .before .before) .loop-test .taken, (entry (c .before .before)) .pre .1)
+
+add-are-fill-2 : tie.Need-add-are-fill-2 Inv-loop μ-loop Inv-loop2 μ-loop2
+add-are-fill-2 c = omega (arith, (c .before .before) .loop-test .taken, (entry (c .before .before)) .pre .1)
+
+mul-are-fill-3 : tie.Need-mul-are-fill-3 Inv-loop μ-loop Inv-loop2 μ-loop2
+mul-are-fill-3 c = omega (arith, (c .before .before) .loop-test .taken, (entry (c .before .before)) .pre .1)
+
+shared-slice-read-are-fill-3 :
+    tie.Need-shared-slice-read-are-fill-3 Inv-loop μ-loop Inv-loop2 μ-loop2
+shared-slice-read-are-fill-3 c = omega (arith, (c .before .before .before) .loop-test .taken, (entry (c .before .before .before)) .pre .1)
+
+add-are-fill-3 : tie.Need-add-are-fill-3 Inv-loop μ-loop Inv-loop2 μ-loop2
+add-are-fill-3 c = omega (arith, (c .before .before .before) .loop-test .taken, (entry (c .before .before .before)) .pre .1)
+
+mul-are-fill-4 : tie.Need-mul-are-fill-4 Inv-loop μ-loop Inv-loop2 μ-loop2
+mul-are-fill-4 c = omega (arith, (c .before .before .before) .loop-test .taken, (entry (c .before .before .before)) .pre .1)
+
+shared-slice-read-are-fill-4 :
+    tie.Need-shared-slice-read-are-fill-4 Inv-loop μ-loop Inv-loop2 μ-loop2
+shared-slice-read-are-fill-4 c = omega (arith, (c .before .before .before .before) .loop-test .taken, (entry (c .before .before .before .before)) .pre .1)
+
+are-fill-requires : tie.Need-are-fill-requires Inv-loop μ-loop Inv-loop2 μ-loop2
+are-fill-requires c κs = search needs
+
+add-slot : tie.Need-add-slot Inv-loop μ-loop Inv-loop2 μ-loop2
+add-slot c = omega (arith, (before-are-fill (c .before)) .loop-test .taken, (entry (before-are-fill (c .before))) .pre .1)
+
+loop-less : tie.Need-loop-less Inv-loop μ-loop Inv-loop2 μ-loop2
+loop-less c = omega (arith, (before-are-fill (c .before)) .loop-test .taken)
+
+loop-again : tie.Need-loop-again Inv-loop μ-loop Inv-loop2 μ-loop2
+loop-again c = filled-four ((before-in (before-are-fill (c .before))) .loop .inv) ((before-are-fill (c .before)) .loop-test .taken)
+    (sym (c .if3 .taken) ∙ (c .before) .are-fill .ensures)
+
+loop2-holds : tie.Need-loop2-holds Inv-loop μ-loop Inv-loop2 μ-loop2
+loop2-holds c = (c .before) .loop .inv
+
+mul-if4 : tie.Need-mul-if4 Inv-loop μ-loop Inv-loop2 μ-loop2
+mul-if4 c = omega (arith, c .loop2-test .taken, (start-in2 c) .pre .1)
+
+shared-slice-read-if4 : tie.Need-shared-slice-read-if4 Inv-loop μ-loop Inv-loop2 μ-loop2
+shared-slice-read-if4 c = (c .before) .loop2-test .taken
+
+fill-requires : tie.Need-fill-requires Inv-loop μ-loop Inv-loop2 μ-loop2
 fill-requires c κs = search needs
 
-next-slot-requires : tie.Need-next-slot-requires Inv-loop μ-loop
-next-slot-requires c κs = (c .before .before .before .before .before .before .before .before .before .before .pre .0 .shape, dealt (ahead-in 1 (omega (arith, c .before .before .before .before .loop-test .taken, c .before .before .before .before .before .before .before .before .before .before .pre .1)) (c .before .before .before .before .before .loop .inv .2)) (omega arith))
+add-slot-2 : tie.Need-add-slot-2 Inv-loop μ-loop Inv-loop2 μ-loop2
+add-slot-2 c = omega (arith, (before-fill (before-else4 c)) .loop2-test .taken, (start-else4 c) .pre .1)
 
-add-slot : tie.Need-add-slot Inv-loop μ-loop
-add-slot c = omega (arith, ahead-small (ahead-in 1 (omega (arith, c .before .before .before .before .before .loop-test .taken, c .before .before .before .before .before .before .before .before .before .before .before .pre .1)) (c .before .before .before .before .before .before .loop .inv .2)))
+loop2-less : tie.Need-loop2-less Inv-loop μ-loop Inv-loop2 μ-loop2
+loop2-less c = omega (arith, (before-fill (before-else4 c)) .loop2-test .taken)
 
-loop-less : tie.Need-loop-less Inv-loop μ-loop
-loop-less c = omega (arith, c .before .before .before .before .before .loop-test .taken)
+loop2-again : tie.Need-loop2-again Inv-loop μ-loop Inv-loop2 μ-loop2
+loop2-again c = filled-one ((before-in2 (before-fill (before-else4 c))) .loop2 .inv) ((before-fill (before-else4 c)) .loop2-test .taken)
+    (c .if4 .left ∙ (before-else4 c) .fill .ensures)
 
-loop-again : tie.Need-loop-again Inv-loop μ-loop
-loop-again c = (omega (arith, c .before .before .before .before .before .before .loop .inv .0), omega (arith, c .before .before .before .before .before .loop-test .taken), ahead-next (ahead-in 1 (omega (arith, c .before .before .before .before .before .loop-test .taken, c .before .before .before .before .before .before .before .before .before .before .before .pre .1)) (c .before .before .before .before .before .before .loop .inv .2)) (omega arith) 0 (omega arith) (c .next-slot .ensures), upto-more (λ k. wordIn _ _ _ k ≡ fill) _ _ (c .before .before .before .before .before .before .loop .inv .3) (sym (word-here (ahead-in 1 (omega (arith, c .before .before .before .before .before .loop-test .taken, c .before .before .before .before .before .before .before .before .before .before .before .pre .1)) (c .before .before .before .before .before .before .loop .inv .2)) (omega arith) (c .before .before .before .word-at .ensures .0)) ∙ c .before .if3 .left ∙ c .before .before .fill .ensures))
+returns-3 : tie.Need-returns-3 Inv-loop μ-loop Inv-loop2 μ-loop2
+returns-3 c = past-some _ _ ((c .before) .loop2 .inv) ((before-else2 (before-at (before-at2 (c .before)))) .if1 .left) ((before-at (before-at2 (c .before))) .if2 .left)
+    (λ h. absurd (omega (arith, h, c .loop2-test .left)))
 
-returns-3 : tie.Need-returns-3 Inv-loop μ-loop
-returns-3 c = record { onward = c .before .loop .inv .0; room = omega (arith, c .before .loop .inv .1, c .before .before .before .before .before .before .pre .1); at = c .before .loop .inv .2 .is; quiets = λ k l u. quiet-here (c .before .before .before .before .before .before .args .fills) k (wordIn (c .before .before .before .before .before .before .args .plan) (c .before .before .before .before .before .before .args .capture .now) (c .before .before .before .before .before .before .args .group) (k)) (c .before .before .before .if1 .left) (λ z. c .before .before .if2 .left (omega (arith, z, l))) (c .before .loop .inv .3 k l u); ends = λ h. absurd (omega (arith, h, c .loop-test .left, c .before .before .before .before .before .before .pre .1)) }
-
-returns-4 : tie.Need-returns-4 Inv-loop μ-loop
-returns-4 c = record { onward = c .before .before .before .before .before .loop .inv .0; room = omega (arith, c .before .before .before .before .before .loop .inv .1, c .before .before .before .before .before .before .before .before .before .before .pre .1); at = c .before .before .before .before .before .loop .inv .2 .is; quiets = λ k l u. quiet-here (c .before .before .before .before .before .before .before .before .before .before .args .fills) k (wordIn (c .before .before .before .before .before .before .before .before .before .before .args .plan) (c .before .before .before .before .before .before .before .before .before .before .args .capture .now) (c .before .before .before .before .before .before .before .before .before .before .args .group) (k)) (c .before .before .before .before .before .before .before .if1 .left) (λ z. c .before .before .before .before .before .before .if2 .left (omega (arith, z, l))) (c .before .before .before .before .before .loop .inv .3 k l u); ends = λ h. data-not-quiet (c .before .before .before .before .before .before .before .before .before .before .args .fills) (c .before .before .before .before .before .loop .slot) (wordIn (c .before .before .before .before .before .before .before .before .before .before .args .plan) (c .before .before .before .before .before .before .before .before .before .before .args .capture .now) (c .before .before .before .before .before .before .before .before .before .before .args .group) (c .before .before .before .before .before .loop .slot)) (λ z. c .if3 .taken (word-here (ahead-in 1 (omega (arith, c .before .before .before .before .loop-test .taken, c .before .before .before .before .before .before .before .before .before .before .pre .1)) (c .before .before .before .before .before .loop .inv .2)) (omega arith) (c .before .before .word-at .ensures .0) ∙ z ∙ sym (c .before .fill .ensures))) }
+returns-4 : tie.Need-returns-4 Inv-loop μ-loop Inv-loop2 μ-loop2
+returns-4 c = past-some _ _ ((before-in2 (before-fill (c .before))) .loop2 .inv)
+    ((before-else2 (before-at (before-at2 (before-in2 (before-fill (c .before)))))) .if1 .left)
+    ((before-at (before-at2 (before-in2 (before-fill (c .before))))) .if2 .left) (λ h z. c .if4 .taken (z ∙ sym ((c .before) .fill .ensures)))
 
 pub past-fill-spec : {M : Type 1} → statement M
 past-fill-spec =
@@ -57,15 +159,33 @@ past-fill-spec =
     (tie.spec
     Inv-loop
     μ-loop
+    Inv-loop2
+    μ-loop2
     returns
     returns-2
     loop-holds
-    mul-word-at
-    word-at-requires
-    fill-requires
-    next-slot-requires
+    add-loop
+    mul-are-fill
+    shared-slice-read-are-fill
+    add-are-fill
+    mul-are-fill-2
+    shared-slice-read-are-fill-2
+    add-are-fill-2
+    mul-are-fill-3
+    shared-slice-read-are-fill-3
+    add-are-fill-3
+    mul-are-fill-4
+    shared-slice-read-are-fill-4
+    are-fill-requires
     add-slot
     loop-less
     loop-again
+    loop2-holds
+    mul-if4
+    shared-slice-read-if4
+    fill-requires
+    add-slot-2
+    loop2-less
+    loop2-again
     returns-3
     returns-4)

@@ -1,126 +1,28 @@
-use Rattle.log_write.specs.Pen.{eightIn}
-use Rattle.log_write.proofs.Writing.{eight-sets}
+use borrow.Author.Tests.{lt-leb}
 use mathlib.Core.Path.{refl}
-use native.Mathlib.Omega.{arith}
-use lib.ListN.{length-set}
-use borrow.Author.Tests.{le-leb, lt-leb}
+use Rattle.log_write.specs.Pen.{eightIn}
 use borrow.Author.Needs.{needs}
 use Rattle.log_write.proofs.put_eight.Statement.{statement}
 use Rattle.log_write.proofs.put_eight.Tie as tie
 use Rattle.log_write.proofs.put_eight.Reads as reads
 use Rattle.log_write.proofs.put_eight.Lts as lts
+use Rattle.log_write.proofs.set_eight.Reads as set-eight-reads
 
 add-if1 : tie.Need-add-if1
 add-if1 c = search needs
 
-cast-out : tie.Need-cast-out
-cast-out c = search needs
-
-slice-write-out : tie.Need-slice-write-out
-slice-write-out c = search needs
-
-cast-out-2 : tie.Need-cast-out-2
-cast-out-2 c = search needs
-
-add-out : tie.Need-add-out
-add-out c = search needs
-
-slice-write-out-2 : tie.Need-slice-write-out-2
-slice-write-out-2 c = simp length-set (omega arith)
-
-cast-out-3 : tie.Need-cast-out-3
-cast-out-3 c = search needs
-
-add-out-2 : tie.Need-add-out-2
-add-out-2 c = search needs
-
-slice-write-out-3 : tie.Need-slice-write-out-3
-slice-write-out-3 c = simp length-set (omega arith)
-
-cast-out-4 : tie.Need-cast-out-4
-cast-out-4 c = search needs
-
-add-out-3 : tie.Need-add-out-3
-add-out-3 c = search needs
-
-slice-write-out-4 : tie.Need-slice-write-out-4
-slice-write-out-4 c = simp length-set (omega arith)
-
-cast-out-5 : tie.Need-cast-out-5
-cast-out-5 c = search needs
-
-add-out-4 : tie.Need-add-out-4
-add-out-4 c = search needs
-
-slice-write-out-5 : tie.Need-slice-write-out-5
-slice-write-out-5 c = simp length-set (omega arith)
-
-cast-out-6 : tie.Need-cast-out-6
-cast-out-6 c = search needs
-
-add-out-5 : tie.Need-add-out-5
-add-out-5 c = search needs
-
-slice-write-out-6 : tie.Need-slice-write-out-6
-slice-write-out-6 c = simp length-set (omega arith)
-
-cast-out-7 : tie.Need-cast-out-7
-cast-out-7 c = search needs
-
-add-out-6 : tie.Need-add-out-6
-add-out-6 c = search needs
-
-slice-write-out-7 : tie.Need-slice-write-out-7
-slice-write-out-7 c = simp length-set (omega arith)
-
-cast-out-8 : tie.Need-cast-out-8
-cast-out-8 c = search needs
-
-add-out-7 : tie.Need-add-out-7
-add-out-7 c = search needs
-
-slice-write-out-8 : tie.Need-slice-write-out-8
-slice-write-out-8 c = simp length-set (omega arith)
+set-eight-requires : tie.Need-set-eight-requires
+set-eight-requires c κs = search needs
 
 same-length : tie.Need-same-length
-same-length c = simp length-set
+same-length c = search needs
 
 returns : tie.Need-returns
-unfolding eightIn
-returns c = rw (le-leb _ _ (c .if1 .taken)) (eight-sets (c .before .args .out .now) (c .before .args .at) (c .before .args .w) (c .if1 .taken))
+returns c = search needs
 
 returns-2 : tie.Need-returns-2
 unfolding eightIn
 returns-2 c = rw (lt-leb _ _ (c .if1 .left)) refl
 
 pub put-eight-spec : {M : Type 1} → statement M
-put-eight-spec =
-    tie.close
-    (tie.spec
-    add-if1
-    cast-out
-    slice-write-out
-    cast-out-2
-    add-out
-    slice-write-out-2
-    cast-out-3
-    add-out-2
-    slice-write-out-3
-    cast-out-4
-    add-out-3
-    slice-write-out-4
-    cast-out-5
-    add-out-4
-    slice-write-out-5
-    cast-out-6
-    add-out-5
-    slice-write-out-6
-    cast-out-7
-    add-out-6
-    slice-write-out-7
-    cast-out-8
-    add-out-7
-    slice-write-out-8
-    same-length
-    returns
-    returns-2)
+put-eight-spec = tie.close (tie.spec add-if1 set-eight-requires same-length returns returns-2)
