@@ -4,7 +4,7 @@ use native.Mathlib.Omega.{arith}
 use native.Mathlib.Decide.{decLt}
 use mathlib.Core.Bool.{Bool, false}
 use mathlib.Core.Path.{_≡_, refl, sym, ap, _∙_}
-use mathlib.Core.List.{List, [], _∷_}
+use mathlib.Core.List.{List, [], _∷_, _++_}
 use lib.ListN.{length, drop, getD}
 use borrow.Author.Tests.{eq-eqb, lt-ltb}
 use Rattle.format.specs.Word.{isFill, busOf, labelOf, infoOf}
@@ -19,7 +19,7 @@ use Rattle.format.specs.declared.Tag.the-variants.{Untagged, At}
 use Rattle.format.specs.Laws.Reader.Counted.{counted-next}
 use Rattle.data_items.specs.Row.{topOf}
 use Rattle.data_items.proofs.Words.{other-label, says-bus, says-label}
-use Rattle.data_items.proofs.Items.{flushed, more-none}
+use Rattle.data_items.proofs.Items.{flushed, more-more, more-none}
 
 -- the tag of three words
 abbrev pub tagged : ℕ → ℕ → ℕ → Tag
@@ -69,6 +69,17 @@ module _ (ks : List Kind) (parity : Bool) (row : List ℕ) where
     is = λ n old. g .is n old ∙ more-none (rest n j h (n + s)) ∙ run-word n j k h (n + s) (fed xs h′) z l nf e ∙ ap (λ (q : ℕ). more xs (rest n k h′ q)) (f n);
     unfilled = more-unfilled i j k z nf (g .unfilled);
   }
+
+  -- items one after the other
+  pub goes-then : {i j k s s′ : ℕ} {xs ys : List Item} → Goes i j xs Nothing s → Goes j k ys Nothing s′ → Goes i k (xs ++ ys) Nothing s′
+  goes-then {i} {j} {k} {s} {s′} {xs} {ys} g h = record {
+    is = λ n old. g .is n old ∙ ap (more xs) (h .is n (n + s)) ∙ more-more xs ys (rest n k Nothing (n + s′));
+    unfilled = λ m a b. go m a b (decLt m j);
+  }
+    where
+      go : (m : ℕ) → i ≤ m → m < k → Dec (m < j) → isFill (word m) ≡ false
+      go m a b (yes z) = g .unfilled m a z
+      go m a b (no z) = h .unfilled m (omega arith) b
 
   -- a command or an ARINC word, and a word behind it that is no fill and not its tag
   pub goes-bare : {i j s : ℕ} (x : Base) → Goes i j [] (Taggable x) s → j < length row → isFill (word j) ≡ false

@@ -1,6 +1,8 @@
 -- Items taken one after the other, and put.
-use Prim.Native.Nat.{ℕ, _+_, _*_, _-_, _^_, _≤_, _<_}
+use Prim.Native.Nat.{ℕ, suc, _+_, _*_, _-_, _%_, _^_, _≤_, _<_}
+use native.Mathlib.Nat.{mul-le-mul-right}
 use native.Mathlib.Omega.{arith}
+use lib.Pow.{pow-add, pow-lt, shl-exact}
 use native.Mathlib.Decide.{decLt}
 use mathlib.Core.Bool.{Bool, false, cond}
 use mathlib.Core.Path.{_≡_, refl, sym, ap, subst, _∙_}
@@ -14,12 +16,14 @@ use Rattle.format.specs.Reader.{Ran, run, more, counted}
 use Rattle.format.specs.declared.Kind.{Kind}
 use Rattle.format.specs.declared.Item.{Item}
 use Rattle.format.specs.declared.Held.the-variants.{Nothing}
+use Rattle.format.specs.Laws.Bits.{bits-cat}
 use Rattle.format.specs.Laws.Lists.{flatMap-append}
+use Rattle.data_start.specs.declared.Step.{Step}
 use Rattle.log_write.specs.declared.Pen.{Pen}
 use Rattle.log_write.specs.Pen.{Wrote, penIn, penPut}
 use Rattle.log_write.proofs.Writing.{put-bits, put-long, wrote-more}
 use Rattle.data_items.specs.declared.Taken.{Taken}
-use Rattle.data_items.specs.Taken.{Roomy, Took, lastOf}
+use Rattle.data_items.specs.Taken.{Roomy, Second, Took, bothOf, lastOf}
 use Rattle.data_items.proofs.Items.{more-more, more-none}
 use Rattle.data_items.proofs.Row.{Goes}
 
@@ -47,6 +51,31 @@ puts-then {xs} {ys} {m} {n} {out₀} {out₁} {out₂} {p} {q} {r} a b = record 
   bits = omega (arith, a .bits, b .bits);
   wrote = λ bits o. subst (λ (l : List ℕ). Wrote l out₂ r) (append-assoc bits xs ys) (b .wrote (bits ++ xs) (a .wrote bits o));
 }
+
+-- two strings as one
+both-low : (a b x y : ℕ) → x < 2 ^ a → y < 2 ^ b → x * 2 ^ b + y < 2 ^ (a + b)
+both-low a b x y h k =
+    let p : 2 ^ (a + b) ≡ 2 ^ a * 2 ^ b = pow-add 2 a b in
+    let q : suc x * 2 ^ b ≤ 2 ^ a * 2 ^ b = mul-le-mul-right (2 ^ b) h in
+    rw p (omega (arith, k))
+
+module _ (one two : Step) (f : Second one) (g : Second two) where
+  abbrev width : ℕ
+  width = one .«second_width» + two .«second_width»
+
+  pub both-fits : bothOf one two < 2 ^ width
+  both-fits = both-low (one .«second_width») (two .«second_width») (one .second) (two .second) (f .fits) (g .fits)
+
+  pub both-small : bothOf one two < 2 ^ 64
+  both-small =
+      let u : 2 ^ width < 2 ^ 64 = pow-lt {i = width} {j = 64} (omega (arith, f .short, g .short)) in
+      omega (arith, both-fits, u)
+
+  pub both-whole : one .second * 2 ^ (two .«second_width») % 2 ^ 64 ≡ one .second * 2 ^ (two .«second_width»)
+  both-whole = shl-exact (one .«second_width») (two .«second_width») 64 (f .fits) (omega (arith, f .short, g .short))
+
+  pub both-bits : bitsOf width (bothOf one two) ≡ bitsOf (one .«second_width») (one .second) ++ bitsOf (two .«second_width») (two .second)
+  both-bits = bits-cat (one .«second_width») (two .«second_width») (one .second) (two .second) (g .fits)
 
 -- ---- items taken
 

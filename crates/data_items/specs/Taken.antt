@@ -12,6 +12,7 @@ use Rattle.format.specs.Reader.{run, more, counted}
 use Rattle.format.specs.declared.Kind.{Kind}
 use Rattle.format.specs.declared.Item.{Item}
 use Rattle.format.specs.declared.Held.the-variants.{Nothing}
+use Rattle.data_start.specs.declared.Step.{Step}
 use Rattle.data_start.specs.Opening.{opens}
 use Rattle.log_write.specs.Pen.{Wrote}
 use Rattle.data_items.specs.declared.Taken.{Taken}
@@ -66,3 +67,12 @@ pub record Here (tops : ℕ) (row : List ℕ) (t : Taken) (word top : ℕ) (out 
 pub record Opened (n label : ℕ) : Type 0 where
   pub kind : Kind
   pub is : n ≡ opens kind label
+
+-- the second string of a step, that of an item of one word, fits its width
+pub record Second (s : Step) : Type 0 where
+  pub fits : s .second < 2 ^ (s .«second_width»)
+  pub short : s .«second_width» ≤ 27
+
+-- the second strings of two steps as one number
+abbrev pub bothOf : Step → Step → ℕ
+bothOf one two = one .second * 2 ^ (two .«second_width») + two .second

@@ -1,11 +1,13 @@
 // Items taken whole from a row of words where nothing is held, for words that stand next to each other. It stops before whatever
 // it does not take, which is left to the reader, word by word. It knows neither plan nor places.
 ghost use mathlib.Core.Path.{_≡_};
-ghost use Prim.Native.Nat.{_+_, _%_, _≤_, _<_, _^_};
+ghost use Prim.Native.Nat.{_+_, _/_, _%_, _≤_, _<_, _^_};
 ghost use lib.ListN.{length, getD};
 ghost use Rattle.format.specs.declared.Kind.the-variants.{Mil1553, Arinc429};
+ghost use Rattle.log_write.specs.Pen.{penIn, penPut};
 ghost use Rattle.data_items.specs.Row.{Words, parityOf, tagAt, tagOf, topOf, topsOf};
-ghost use Rattle.data_items.specs.Taken.{Here, Opened, Roomy, Took, TookBy, TookOn};
+ghost use Rattle.data_items.specs.Taken.{bothOf, Here, Opened, Roomy, Second, Took, TookBy, TookOn};
+use data_start::Step;
 use format::Kind;
 use log_write::Pen;
 
@@ -199,6 +201,15 @@ fn item_at(
     from
 }
 
+// Two items of one word each, at once.
+fn put_two(pen: Pen, out: &mut [u8], one: Step, two: Step) -> Pen
+    requires { ⌜ (pen .bits < 2 ^ 60) × Second one × Second two × (pen .bits / 8 + 8 ≤ length (now out)) ⌝ }
+    ensures { λ r. ⌜ (r ≡ penPut pen (bothOf one two) (one .«second_width» + two .«second_width»)) × (now (out .exit) ≡ penIn (now (out .entry)) pen (bothOf one two) (one .«second_width» + two .«second_width»)) ⌝ }
+{
+    let both = (one.second << two.second_width) + two.second;
+    pen.put_in(out, both, one.second_width + two.second_width)
+}
+
 // The items from `from` on, where nothing is held, as far as they are taken; `out` has room for 32 bits a word of the row.
 pub fn take(kinds: [Kind; 16], parity: bool, row: &[u32], from: Taken, out: &mut [u8]) -> Taken
     requires { ⌜ Words (now row) × Roomy (now row) from (now out) ⌝ }
@@ -215,6 +226,21 @@ pub fn take(kinds: [Kind; 16], parity: bool, row: &[u32], from: Taken, out: &mut
         let opening = data_start::opening(&openings, kinds[(top / 16) as usize], top % 16);
         if 8 <= opening {
             let one = data_start::single(opening, top / 16, word % 65536);
+            if slot + 1 < count {
+                let then = row[slot + 1];
+                let top_then = top_of(tops, then);
+                let opening_then = data_start::opening(
+                    &openings,
+                    kinds[(top_then / 16) as usize],
+                    top_then % 16,
+                );
+                if 8 <= opening_then {
+                    let two = data_start::single(opening_then, top_then / 16, then % 65536);
+                    pen = put_two(pen, out, one, two);
+                    slot += 2;
+                    continue;
+                }
+            }
             pen = pen.put_in(out, one.second, one.second_width);
             slot += 1;
             continue;
