@@ -5,7 +5,7 @@ int fast_plan_of(fast_plan *p, uint32_t words, uint32_t tracks, uint32_t frame_t
                  const uint8_t *kinds, size_t kinds_len)
 {
     uint32_t used_1553 = 0, used_arinc = 0, wrong = 0, used;
-    if (kinds_len != 16 || words - 129 > 511 - 129 || tracks - 1 > 3 || (frame_time | crc | parity) > 1)
+    if (kinds_len != 16 || words - 128 > 512 - 128 || tracks - 1 > 3 || (frame_time | crc | parity) > 1)
         return 0;
     for (uint32_t bus = 0; bus < 16; bus++) {
         wrong |= kinds[bus] > 2;

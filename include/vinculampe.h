@@ -5,7 +5,7 @@
  * times back. There are three functions, below: vin_compose, vin_read and vin_read_closed; and over
  * them vin_plan_compose, vin_plan_read and vin_plan_read_closed, which take the plan as a struct
  * and null pointers for runs of length 0. C99 or later, or C++. Link with libvinculampe.a (x86-64,
- * System V calling convention).
+ * System V calling convention; that of `make NATIVE=yes` is for the machine it was made on).
  *
  * What every function promises
  *   - Every input is taken. Either the work is done and the answer's number is 0, or the call is
@@ -59,7 +59,7 @@ extern "C" {
 
 /* ==== The plan ===================================================================================
  *
- *   words       L, the words of a frame, the sync word counted: 129 to 511
+ *   words       L, the words of a frame, the sync word counted: 128 to 512
  *   tracks      T, the frames of a group: 1 to 4
  *   frame_time  1: three frame time words open every group; 0: none
  *   crc         1: the last word of every frame is the CRC word; 0: it is a data slot
@@ -214,13 +214,13 @@ static inline const char *vin_text(uint32_t number_)
  * 262,140 bits. Groups are whole, so the capture is largest where the last group is nearly all
  * fill: of all legal plans with L 462, T 4 and CRC. There a group has 4 x 461 - 4 = 1,840 slots
  * (1,837 with frame time), 8 groups hold 14,720 (14,696) words, and a 9th is needed: 9 x 4 x 462 x
- * 3 = 49,896 bytes. The most groups are 119: L 129, T 1, CRC and frame time, 124 slots. */
+ * 3 = 49,896 bytes. The most groups are 120: L 128, T 1, CRC and frame time, 123 slots. */
 
 #define VIN_LOG_MAX 32768            /* bytes of a log */
 #define VIN_CAPTURE_MAX 1048576      /* bytes of a capture that is read */
 #define VIN_COMPOSED_MAX 49896       /* bytes of a capture that is composed, by any plan */
-#define VIN_COMPOSED_GROUPS_MAX 119  /* its groups, by any plan */
-#define VIN_READ_GROUPS_MAX 2709     /* groups of a capture that is read: 1,048,576 / (3 x 129) */
+#define VIN_COMPOSED_GROUPS_MAX 120  /* its groups, by any plan */
+#define VIN_READ_GROUPS_MAX 2730     /* groups of a capture that is read: 1,048,576 / (3 x 128) */
 #define VIN_TIME_BYTES 8             /* bytes of a frame time */
 #define VIN_STACK_BYTES 73728        /* stack that a call needs: measured, tests/abi/stack.c */
 
@@ -319,8 +319,8 @@ typedef struct {
 } vin_plan;
 
 /* A plan of so many words and tracks, without frame time, CRC and parity, and with no bus used. Begin
- * every plan with it: a field that a later version adds then has the value that means what was so
- * before. */
+ * every plan with it: a field that a later version adds, at the struct's end, then has the value that
+ * means what was so before, which need not be 0. */
 #define VIN_PLAN_INIT(words, tracks) {(uint32_t)(words), (uint32_t)(tracks), 0, 0, 0, {0}}
 
 static inline const uint8_t *vin_run_(const uint8_t *given_)

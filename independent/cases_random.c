@@ -29,10 +29,10 @@ static uint32_t draw_words(void)
 {
     uint32_t shape = draw(4);
     if (shape == 0)
-        return 129;
+        return 128;
     if (shape == 1)
-        return 511;
-    return 129 + draw(383);
+        return 512;
+    return 128 + draw(385);
 }
 
 /* A legal plan. */

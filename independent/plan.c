@@ -32,8 +32,8 @@ static bool legal(const plan *p)
             if (bus > 7)
                 used_above_7++;
         }
-    /* "Frame length L in words, more than 128 and less than 512" */
-    if (p->length <= 128 || p->length >= 512)
+    /* "at least 128 and at most 512" (K1) */
+    if (p->length < 128 || p->length > 512)
         return false;
     /* "Tracks T, 1 to 4." */
     if (p->tracks < 1 || p->tracks > 4)

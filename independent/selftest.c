@@ -175,7 +175,7 @@ static void p10(void)
     for (uint32_t l = 0; l < 600; l++) {
         plan_is(l, 1, 0, 0, 0);
         log_in[0] = 0;
-        CHECK(composed(1, 0).number == (l >= 129 && l <= 511 ? 0 : 1));
+        CHECK(composed(1, 0).number == (l >= 128 && l <= 512 ? 0 : 1));
     }
 }
 

@@ -33,7 +33,7 @@ static all_ends ends_of(const command *c, const arguments *a)
     all.count = 0;
     for (size_t n = c->words; n < a->count; n++)
         add(&all, a->files[n], NULL);
-    if (c->least == 0 && c->most > c->words && a->count == c->words && c->output != NEEDS_OUT)
+    if (c->least == c->words && c->most > c->words && a->count == c->words)
         add(&all, "-", NULL); /* the file that is left out */
     for (const option_row *row = c->options; row->id != OPTIONS; row++)
         if (a->values[row->id] && (row->role == INPUT || row->role == OUTPUT))

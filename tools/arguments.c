@@ -12,7 +12,10 @@
 /* getopt's number of an option is FIRST and its id; -o has its letter. */
 enum { FIRST = 256 };
 /* A name as the user writes it; getopt has it without the dashes, which stand before. */
-#define ROW(name, id, takes) {&name[2], takes, NULL, FIRST + id}
+#define ROW(name, id, takes) \
+    { \
+        &name[2], takes, NULL, FIRST + id \
+    }
 
 static const struct option long_options[] = {
     ROW("--times", OPT_TIMES, required_argument),

@@ -45,8 +45,8 @@ typedef struct {
 
 struct command;
 
-/* Takes the words behind the command's own. Answers DONE, or MISUSE once it is said; help_asked is set if help is
- * asked for. */
+/* Takes the words behind the command's own. Answers DONE, or MISUSE once it is said; help_asked is set if
+ * help is asked for. */
 int take_arguments(const struct command *c, int count, char **words, arguments *a, bool *help_asked);
 
 /* "-o" and the like. */

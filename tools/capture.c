@@ -83,8 +83,9 @@ const char *label_name(unsigned kind, unsigned label)
                                          "",         "time micro", "time low", "time high"};
     static const char *const mil1553[] = {"error B", "data B", "status B", "command B",
                                           "error A", "data A", "status A", "command A"};
-    static const char *const arinc[] = {"low syllable 1", "high syllable 1", "low syllable 2", "high syllable 2",
-                                        "low syllable 3", "high syllable 3", "low syllable 4", "high syllable 4"};
+    static const char *const arinc[] = {"low syllable 1",  "high syllable 1", "low syllable 2",
+                                        "high syllable 2", "low syllable 3",  "high syllable 3",
+                                        "low syllable 4",  "high syllable 4"};
     if (label == LABEL_4)
         return kind == VIN_KIND_1553 ? "response time" : "error notice";
     if (label < 8)
@@ -100,7 +101,8 @@ unsigned channel_of(unsigned label)
 place_text tell_place(const stored *s)
 {
     place_text t;
-    snprintf(t.text, sizeof t.text, "word %" PRIu64 " (group %" PRIu64 ", track %" PRIu32 ", word %" PRIu32 ")",
-             s->place, s->group, s->track, s->position);
+    snprintf(t.text, sizeof t.text,
+             "word %" PRIu64 " (group %" PRIu64 ", track %" PRIu32 ", word %" PRIu32 ")", s->place, s->group,
+             s->track, s->position);
     return t;
 }

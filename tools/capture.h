@@ -10,11 +10,20 @@
 enum slot { SLOT_SYNC, SLOT_HIGH, SLOT_LOW, SLOT_MICRO, SLOT_CRC, SLOT_DATA };
 
 /* Labels that both kinds of bus have, and the first of those that differ. */
-enum label { LABEL_OVERFLOW, LABEL_FILL, LABEL_USER_2, LABEL_USER_3, LABEL_4, LABEL_MICRO, LABEL_LOW, LABEL_HIGH };
+enum label {
+    LABEL_OVERFLOW,
+    LABEL_FILL,
+    LABEL_USER_2,
+    LABEL_USER_3,
+    LABEL_4,
+    LABEL_MICRO,
+    LABEL_LOW,
+    LABEL_HIGH
+};
 #define FILL_INFO 0xAAAAu
 
-/* A stored word, and where it stands: the group counted from 0, as frame times are; track and word from 1, as Chapter 8
- * has them. */
+/* A stored word, and where it stands: the group counted from 0, as frame times are; track and word from 1, as
+ * Chapter 8 has them. */
 typedef struct {
     uint32_t word, bus, label, info;
     uint64_t place, group;
@@ -27,7 +36,8 @@ stored stored_at(const vin_plan *plan, const run *capture, uint64_t place);
 uint64_t capture_words(const run *capture);
 uint64_t group_words(const vin_plan *plan);
 
-/* The place of a group's n-th word in dealt order: the sync words first, then row by row, the CRC words last. */
+/* The place of a group's n-th word in dealt order: the sync words first, then row by row, the CRC words last.
+ */
 uint64_t dealt_place(const vin_plan *plan, uint64_t group, uint64_t n);
 
 bool is_fill(const stored *s);

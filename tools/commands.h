@@ -20,7 +20,7 @@ typedef struct command {
     size_t least, most;               /* arguments that are no options */
     size_t words;                     /* so many of them, the first ones, name no file */
     enum main_output output;
-    const option_row *options; /* ended by one whose id is OPTIONS */
+    const option_row *options;     /* ended by one whose id is OPTIONS */
     int (*run)(const arguments *); /* answers the exit status: enum status */
 } command;
 

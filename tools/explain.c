@@ -25,7 +25,8 @@ static const struct {
         {"compose", BIT,
          "An item is on a bus that the plan does not use or has as another kind. Mend the plan's bus\n"
          "lines, or compose with the plan that the log was made for."},
-    [VIN_LIMIT] = {"compose, list, info", BIT, "The micro of a time tag, or a response time, is 10000 or more."},
+    [VIN_LIMIT] = {"compose, list, info", BIT,
+                   "The micro of a time tag, or a response time, is 10000 or more."},
     [VIN_TIMES] =
         {"compose", "the number of times needed; or the index of the time that is too large, counted from 0",
          "A plan with frame time needs one time for each group, a plan without it none; and a time is\n"

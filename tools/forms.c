@@ -22,7 +22,8 @@ static int word_digits(const item *i)
 void add_json(buffer *to, const listed *l, bool decode)
 {
     const item *i = &l->item;
-    add(to, "{\"n\":%zu,\"bit\":%zu,\"kind\":\"%s\",\"bus\":%u", l->number, l->bit, kind_code(i->kind), i->bus);
+    add(to, "{\"n\":%zu,\"bit\":%zu,\"kind\":\"%s\",\"bus\":%u", l->number, l->bit, kind_code(i->kind),
+        i->bus);
     if (has_side(i))
         add(to, ",\"side\":\"%c\"", i->part ? 'B' : 'A');
     if (has_channel(i))
@@ -34,8 +35,8 @@ void add_json(buffer *to, const listed *l, bool decode)
         add(to, ",\"%s\":%" PRIu64, i->kind == STATUS ? "resp" : "at", i->time);
     if (decode && i->kind == COMMAND) {
         decoded d = decode_command(i->word);
-        add(to, ",\"rt\":%u,\"tr\":\"%c\",\"sa\":%u,\"%s\":%u", d.terminal, d.transmit ? 'T' : 'R', d.subaddress,
-            d.mode ? "mode" : "count", d.count);
+        add(to, ",\"rt\":%u,\"tr\":\"%c\",\"sa\":%u,\"%s\":%u", d.terminal, d.transmit ? 'T' : 'R',
+            d.subaddress, d.mode ? "mode" : "count", d.count);
     }
     add(to, "}\n");
 }
@@ -69,7 +70,9 @@ void add_csv(buffer *to, const listed *l, bool decode)
 {
     const item *i = &l->item;
     add(to, "%zu,%zu,%s,%u,%s", l->number, l->bit, kind_code(i->kind), i->bus,
-        !has_side(i) ? "" : i->part ? "B" : "A");
+        !has_side(i) ? ""
+        : i->part    ? "B"
+                     : "A");
     add_number(to, has_channel(i), i->part + 1);
     add_number(to, i->kind == USER_WORD, i->part + 2);
     add(to, ",%0*" PRIX32, word_digits(i), i->word);

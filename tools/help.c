@@ -24,7 +24,8 @@ void help_all(FILE *to)
           to);
     for (size_t n = 0; n < command_count; n++)
         fprintf(to, "  vin %s %s\n      %s\n", commands[n]->name, commands[n]->usage, commands[n]->about);
-    fputs("\nvin COMMAND --help says more of one. A file named - is standard input or standard output.\n", to);
+    fputs("\nvin COMMAND --help says more of one. A file named - is standard input or standard output.\n",
+          to);
     help_plan(to);
     fputs("\nFrame times are text, one decimal number of microseconds a line, one a group.\n"
           "Exit status: 0 done; 1 refused; 2 misuse, or a file that cannot be read or written.\n"
@@ -57,7 +58,8 @@ static size_t least(size_t one, size_t other)
     return one < other ? one : other;
 }
 
-/* How many letters must be put in, taken out or changed, or change places with the next, to make one of the other. */
+/* How many letters must be put in, taken out or changed, or change places with the next, to make one of the
+ * other. */
 static size_t distance(const char *one, const char *other)
 {
     size_t n = strlen(one), m = strlen(other), d[NAME_MOST + 1][NAME_MOST + 1];

@@ -30,7 +30,8 @@ static share crc_words(const vin_plan *plan, const run *capture)
     for (uint64_t n = 0; n < s.all; n++) {
         uint64_t first = n * plan->words;
         stored last = stored_at(plan, capture, first + plan->words - 1);
-        s.seen += stored_at(plan, capture, first).word == SYNC_WORD && last.word == frame_crc(plan, capture, first);
+        s.seen +=
+            stored_at(plan, capture, first).word == SYNC_WORD && last.word == frame_crc(plan, capture, first);
     }
     return s;
 }
@@ -74,8 +75,9 @@ static share sync_words(const vin_plan *plan, const run *capture, uint64_t dista
     return s;
 }
 
-/* The least distance of sync words, as frames have it, over the whole capture, if it is another than the plan's; or 0. A
- * larger one counts only where the plan's own words are mostly no sync words: one damaged sync word is not enough. */
+/* The least distance of sync words, as frames have it, over the whole capture, if it is another than the
+ * plan's; or 0. A larger one counts only where the plan's own words are mostly no sync words: one damaged
+ * sync word is not enough. */
 static uint64_t other_distance(const vin_plan *plan, const run *capture)
 {
     enum { LEAST = 128, MOST = 512 };
@@ -97,21 +99,24 @@ void say_hints(const char *word, const char *name, const vin_plan *plan, const r
     char text[64];
     uint64_t distance = other_distance(plan, capture);
     if (distance) {
-        complain("%s: %s: the sync word FAF320 stands every %" PRIu64 " words; the plan says %" PRIu32, file, word,
-                 distance, plan->words);
+        complain("%s: %s: the sync word FAF320 stands every %" PRIu64 " words; the plan says %" PRIu32, file,
+                 word, distance, plan->words);
         return; /* then no word stands where the plan has it */
     }
     share crc = crc_words(plan, capture), times = frame_times(plan, capture);
     if (!plan->frame_time && is_most(times)) {
         tell_share(times, "group", text);
-        complain("%s: %s: the first data slots of %s hold a frame time; was the capture made with frame-time yes?",
-                 file, word, text);
+        complain(
+            "%s: %s: the first data slots of %s hold a frame time; was the capture made with frame-time yes?",
+            file, word, text);
     }
     if (!plan->crc && is_most(crc)) {
         tell_share(crc, "frame", text);
-        complain("%s: %s: the last data slot of %s holds the CRC word of its frame; was the capture made with crc yes?",
+        complain("%s: %s: the last data slot of %s holds the CRC word of its frame; was the capture made "
+                 "with crc yes?",
                  file, word, text);
     }
     if (!plan->parity && all_odd(plan, capture))
-        complain("%s: %s: every word has an odd number of ones; was the capture made with parity yes?", file, word);
+        complain("%s: %s: every word has an odd number of ones; was the capture made with parity yes?", file,
+                 word);
 }

@@ -1,7 +1,8 @@
 #include "items.h"
 
-/* The bits of an item: those before its word, the word's, and those that a time or response adds, whose last 14 are a
- * micro or a response; where the flag for them stands. Its words in a capture, and those that a time or response adds. */
+/* The bits of an item: those before its word, the word's, and those that a time or response adds, whose last
+ * 14 are a micro or a response; where the flag for them stands. Its words in a capture, and those that a time
+ * or response adds. */
 static const struct {
     const char *text, *code;
     unsigned part, flag, word, more, words, more_words;

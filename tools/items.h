@@ -6,7 +6,18 @@
 #include <stddef.h>
 #include <stdint.h>
 
-enum item_kind { END_MARK, COMMAND, STATUS, DATA, BUS_ERROR, ARINC_WORD, NOTICE, USER_WORD, OVERFLOW_MARK, KINDS };
+enum item_kind {
+    END_MARK,
+    COMMAND,
+    STATUS,
+    DATA,
+    BUS_ERROR,
+    ARINC_WORD,
+    NOTICE,
+    USER_WORD,
+    OVERFLOW_MARK,
+    KINDS
+};
 
 typedef struct {
     unsigned kind, bus;

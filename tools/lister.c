@@ -36,10 +36,10 @@ static bool find_lister(char path[PATH_MAX])
     return true;
 }
 
-static void become_lister(char *path, int input, int output)
+static void become_lister(char *path, int from, int to)
 {
     char *words[] = {RUNNER path, NULL};
-    if (dup2(input, STDIN_FILENO) >= 0 && dup2(output, STDOUT_FILENO) >= 0)
+    if (dup2(from, STDIN_FILENO) >= 0 && dup2(to, STDOUT_FILENO) >= 0)
         execvp(words[0], words);
     complain_errno("%s", words[0]);
     _exit(127);

@@ -56,8 +56,8 @@ static bool take_word(const cut_line *l, const char *word, item *i)
         i->word = (uint32_t)strtoul(word, NULL, 16);
         return true;
     }
-    snprintf(why, sizeof why, "the %s %u hexadecimal digits", i->kind == NOTICE ? "diagnostics are" : "word has",
-             digits);
+    snprintf(why, sizeof why, "the %s %u hexadecimal digits",
+             i->kind == NOTICE ? "diagnostics are" : "word has", digits);
     return wrong(l, why);
 }
 
@@ -123,7 +123,8 @@ bool item_of_line(const lines *at, char *line, item *i)
             i->kind = kind;
             return kind == END_MARK ? take_end(&l, i) : take_item(&l, i);
         }
-    return wrong(&l, "unknown kind; the kinds are cmd, sta, dat, err, arn, are, usr, ovf, and end at the end");
+    return wrong(&l,
+                 "unknown kind; the kinds are cmd, sta, dat, err, arn, are, usr, ovf, and end at the end");
 }
 
 decoded decode_command(uint32_t word)

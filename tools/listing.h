@@ -5,12 +5,12 @@
 #include "items.h"
 #include "text.h"
 
-/* The item of a line that is not blank; END_MARK for "end N", with N in its time. What is wrong is said with the
- * line. */
+/* The item of a line that is not blank; END_MARK for "end N", with N in its time. What is wrong is said with
+ * the line. */
 bool item_of_line(const lines *at, char *line, item *i);
 
-/* "05-T-01-24": terminal, transmit or receive, subaddress and count of a command word; of a mode command, whose
- * subaddress is 0 or 31, the code and " mode". */
+/* "05-T-01-24": terminal, transmit or receive, subaddress and count of a command word; of a mode command,
+ * whose subaddress is 0 or 31, the code and " mode". */
 typedef struct {
     char text[24];
     unsigned terminal, subaddress, count; /* or the mode code */
@@ -19,8 +19,8 @@ typedef struct {
 
 decoded decode_command(uint32_t word);
 
-/* Every item of a listing that the lister wrote, in order, with its number from 1 and its first bit. The text is cut up
- * on the way. */
+/* Every item of a listing that the lister wrote, in order, with its number from 1 and its first bit. The text
+ * is cut up on the way. */
 typedef void use_item(void *with, const item *i, size_t number, size_t bit);
 
 bool each_item(run *text, use_item *use, void *with);

@@ -7,7 +7,8 @@
 #include <stdlib.h>
 #include <string.h>
 
-static void set_fault(mark *m, unsigned number, const char *format, ...) __attribute__((format(printf, 3, 4)));
+static void set_fault(mark *m, unsigned number, const char *format, ...)
+    __attribute__((format(printf, 3, 4)));
 
 /* The first fault of a word stays. */
 static void set_fault(mark *m, unsigned number, const char *format, ...)
@@ -114,7 +115,8 @@ static void mark_fill(const vin_plan *plan, const run *capture, mark *marks)
             else if (data)
                 set_fault(&marks[s.place], VIN_FILL, "data follows it");
         }
-    for (uint64_t place = data ? (last + 1) * group_words(plan) : 0; place < capture_words(capture); place++) {
+    for (uint64_t place = data ? (last + 1) * group_words(plan) : 0; place < capture_words(capture);
+         place++) {
         stored s = stored_at(plan, capture, place);
         if (s.slot == SLOT_DATA && is_fill(&s))
             set_fault(&marks[place], VIN_FILL, "its group is after the last data word's");

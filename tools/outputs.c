@@ -71,8 +71,8 @@ static char *beside(const char *name, size_t index)
     return path;
 }
 
-/* Gives the file the old one's owner, group and mode. Where the group cannot be kept, the caller's gets no more
- * than others have. */
+/* Gives the file the old one's owner, group and mode. Where the group cannot be kept, the caller's gets no
+ * more than others have. */
 static bool like_old(int file, const struct stat *old, const struct stat *made)
 {
     mode_t mode = old->st_mode & 0777;
@@ -145,8 +145,8 @@ static bool stage(const output *o, staged *s)
     return whole;
 }
 
-/* Is a file that got its name just now what stands under this one? Names that look apart can be one, as where a
- * folder takes capitals for small letters. */
+/* Is a file that got its name just now what stands under this one? Names that look apart can be one, as where
+ * a folder takes capitals for small letters. */
 static bool was_just_written(const staged *ready, size_t count, const char *name)
 {
     struct stat there;
@@ -160,7 +160,8 @@ static bool was_just_written(const staged *ready, size_t count, const char *name
 static bool put_in_place(staged *ready, size_t index, const char *name)
 {
     staged *s = &ready[index];
-    bool again = was_just_written(ready, index, s->name), moved = !again && rename(s->temporary, s->name) == 0;
+    bool again = was_just_written(ready, index, s->name),
+         moved = !again && rename(s->temporary, s->name) == 0;
     if (again)
         complain("%s: another output has this name", output_name(name).text);
     else if (!moved)

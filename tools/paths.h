@@ -5,7 +5,8 @@
 #include <stdbool.h>
 #include <sys/stat.h>
 
-/* The name behind all links, on the heap, whether a file is there or not; NULL with errno for links in a circle. */
+/* The name behind all links, on the heap, whether a file is there or not; NULL with errno for links in a
+ * circle. */
 char *follow_links(const char *name);
 
 /* A file that is there, or the folder and the name that it would have. */

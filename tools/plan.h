@@ -9,8 +9,8 @@
 
 /* The limits that messages name. Whether a plan is legal is the library's to say (plan_is_legal). */
 enum {
-    WORDS_LEAST = 129,
-    WORDS_MOST = 511,
+    WORDS_LEAST = 128,
+    WORDS_MOST = 512,
     TRACKS_MOST = 4,
     BUSES = 16,
     BUSES_WITH_PARITY = 8,

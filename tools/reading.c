@@ -16,7 +16,8 @@ int read_capture(const char *plan_name, const char *capture_name, reader *by, re
     if (out_of_memory(r->log) || out_of_memory(r->times) || !read_plan(plan_name, &c->plan)
         || !read_file(capture_name, VIN_CAPTURE_MAX, &c->capture))
         return MISUSE;
-    r->answer = by(&c->plan.plan, c->capture.bytes, c->capture.length, r->log, VIN_LOG_MAX, r->times, TIMES_ROOM);
+    r->answer =
+        by(&c->plan.plan, c->capture.bytes, c->capture.length, r->log, VIN_LOG_MAX, r->times, TIMES_ROOM);
     if (r->answer.number == VIN_DONE)
         return DONE;
     say_reading_refused(c, r->answer);

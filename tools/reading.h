@@ -13,8 +13,8 @@ typedef struct {
 
 typedef vin_answer reader(const vin_plan *, const uint8_t *, size_t, uint8_t *, size_t, uint8_t *, size_t);
 
-/* Reads plan and capture from these files and has the capture read. DONE; or the exit status, once it is said. The
- * reading is to be dropped in any case. */
+/* Reads plan and capture from these files and has the capture read. DONE; or the exit status, once it is
+ * said. The reading is to be dropped in any case. */
 int read_capture(const char *plan_name, const char *capture_name, reader *by, reading *r);
 
 void drop_reading(reading *r);

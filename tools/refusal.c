@@ -105,9 +105,10 @@ static uint64_t times_needed(const call *c)
 /* A time that is too large, as it is written, with its line. */
 static void say_time_refused(const times_file *times, uint64_t index)
 {
-    complain("%s:%zu: refused by 5 at time %" PRIu64 " (counted from 0): %s microseconds, and times are below %" PRIu64,
-             input_name(times->name).text, times->line_numbers[index], index, show(times->written[index]).text,
-             VIN_TIME_LIMIT);
+    complain("%s:%zu: refused by 5 at time %" PRIu64
+             " (counted from 0): %s microseconds, and times are below %" PRIu64,
+             input_name(times->name).text, times->line_numbers[index], index,
+             show(times->written[index]).text, VIN_TIME_LIMIT);
 }
 
 static void say_times_refused(const call *c, uint64_t place)

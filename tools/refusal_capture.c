@@ -15,14 +15,15 @@ static void bad_frame_time(const stored *s, char *why)
         snprintf(why, WHY_MOST, "%s", vin_text(VIN_FRAME_TIME));
     else if (s->bus != 0 || s->label != LABEL_HIGH - which)
         snprintf(why, WHY_MOST,
-                 "it has bus %" PRIu32 " and label %" PRIu32 "; the frame time's %s word has bus 0 and label %u",
+                 "it has bus %" PRIu32 " and label %" PRIu32
+                 "; the frame time's %s word has bus 0 and label %u",
                  s->bus, s->label, names[which], LABEL_HIGH - which);
     else
         snprintf(why, WHY_MOST, "the frame time's micro is %" PRIu32 "; it must be below 10000", s->info);
 }
 
-/* Walks to the word and says why it breaks what was before it; or that the end cuts the item that it starts. The first
- * word of the unfinished item is found here, until the answer's second place has it. */
+/* Walks to the word and says why it breaks what was before it; or that the end cuts the item that it starts.
+ * The first word of the unfinished item is found here, until the answer's second place has it. */
 static void bad_data_word(const vin_plan *plan, const run *capture, uint64_t place, char *why)
 {
     walk w = {AWAIT_NOTHING, {0}, 0, 0, 0};
@@ -73,7 +74,8 @@ static void bad_word(const call *c, const stored *s, unsigned number, char *why)
     switch (number) {
     case VIN_SYNC: snprintf(why, WHY_MOST, "the sync word FAF320 belongs here"); break;
     case VIN_PARITY:
-        snprintf(why, WHY_MOST, "it has %u ones, an even number, and the plan has parity", count_ones(s->word));
+        snprintf(why, WHY_MOST, "it has %u ones, an even number, and the plan has parity",
+                 count_ones(s->word));
         break;
     case VIN_CRC:
         snprintf(why, WHY_MOST, "the CRC word of the words before it in its frame is %06" PRIX32,
@@ -95,8 +97,8 @@ static void say_word_refused(const call *c, vin_answer a)
     }
     stored s = stored_at(&c->plan.plan, &c->capture, a.place);
     bad_word(c, &s, a.number, why);
-    complain("%s: refused by %" PRIu32 " at %s: %06" PRIX32 ": %s", input_name(c->capture_name).text, a.number,
-             tell_place(&s).text, s.word, why);
+    complain("%s: refused by %" PRIu32 " at %s: %06" PRIX32 ": %s", input_name(c->capture_name).text,
+             a.number, tell_place(&s).text, s.word, why);
     if (a.number == VIN_SYNC || a.number == VIN_DATA_WORD || a.number == VIN_FILL)
         say_hints("hint", c->capture_name, &c->plan.plan, &c->capture);
 }
@@ -107,13 +109,15 @@ static void say_too_long(const call *c, size_t group)
     uint64_t size = file_size(c->capture_name);
     shown_name name = input_name(c->capture_name);
     if (size > VIN_CAPTURE_MAX)
-        complain("%s: refused by 8 at %" PRIu64 ": the capture has %" PRIu64 " bytes, and at most %d are read", name.text,
-                 size, size, VIN_CAPTURE_MAX);
+        complain("%s: refused by 8 at %" PRIu64 ": the capture has %" PRIu64
+                 " bytes, and at most %d are read",
+                 name.text, size, size, VIN_CAPTURE_MAX);
     else
         complain("%s: refused by 8 at %zu: the capture has more than %d bytes", name.text, c->capture.length,
                  VIN_CAPTURE_MAX);
-    complain("%s: hint: cut it into pieces of whole groups (split -b %zu); an item that lies across a cut is lost",
-             name.text, VIN_CAPTURE_MAX / group * group);
+    complain(
+        "%s: hint: cut it into pieces of whole groups (split -b %zu); an item that lies across a cut is lost",
+        name.text, VIN_CAPTURE_MAX / group * group);
 }
 
 static void say_length_refused(const call *c)

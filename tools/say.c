@@ -54,13 +54,15 @@ shown show(const char *word)
 static size_t letter(const char *at)
 {
     const uint8_t *b = (const uint8_t *)at;
-    size_t more = b[0] >= 0xC2 && b[0] < 0xE0 ? 1 : b[0] >= 0xE0 && b[0] < 0xF0 ? 2
-                : b[0] >= 0xF0 && b[0] < 0xF5 ? 3 : 0;
+    size_t more = b[0] >= 0xC2 && b[0] < 0xE0   ? 1
+                  : b[0] >= 0xE0 && b[0] < 0xF0 ? 2
+                  : b[0] >= 0xF0 && b[0] < 0xF5 ? 3
+                                                : 0;
     for (size_t n = 1; n <= more; n++)
         if ((b[n] & 0xC0) != 0x80)
             return 0;
-    bool control = b[0] == 0xC2 && b[1] < 0xA0;                       /* U+0080 to U+009F */
-    bool turns = b[0] == 0xE2 && (b[1] == 0x80 || b[1] == 0x81);      /* marks of direction and of lines */
+    bool control = b[0] == 0xC2 && b[1] < 0xA0;                  /* U+0080 to U+009F */
+    bool turns = b[0] == 0xE2 && (b[1] == 0x80 || b[1] == 0x81); /* marks of direction and of lines */
     return more == 0 || control || turns ? 0 : more + 1;
 }
 

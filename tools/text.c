@@ -54,7 +54,8 @@ size_t cut_words(char *line, char **words, size_t most)
     static const char blanks[] = " \t\r";
     size_t count = 0;
     char *rest = NULL;
-    for (char *word = strtok_r(line, blanks, &rest); word && count <= most; word = strtok_r(NULL, blanks, &rest)) {
+    for (char *word = strtok_r(line, blanks, &rest); word && count <= most;
+         word = strtok_r(NULL, blanks, &rest)) {
         if (count < most)
             words[count] = word;
         count++;

@@ -4,8 +4,8 @@
 
 #include "files.h"
 
-/* Reads a text of at most `most` bytes, and puts a zero behind it; a byte order mark at its start is passed over. What
- * is longer or has zeros in it is told as "NAME: WHAT", and then nothing is to be freed. */
+/* Reads a text of at most `most` bytes, and puts a zero behind it; a byte order mark at its start is passed
+ * over. What is longer or has zeros in it is told as "NAME: WHAT", and then nothing is to be freed. */
 bool read_text(const char *name, size_t most, const char *what, run *text);
 
 /* Where the text stands, for messages. */
@@ -20,8 +20,8 @@ lines lines_of(const char *name, const run *text);
 /* Cuts the next line off, without its comment ('#') and what ends it; NULL at the end. */
 char *next_line(lines *at);
 
-/* Cuts a line's words apart, at most so many; answers how many there are, or one more than `most` for any higher
- * number. */
+/* Cuts a line's words apart, at most so many; answers how many there are, or one more than `most` for any
+ * higher number. */
 size_t cut_words(char *line, char **words, size_t most);
 
 /* Says "FILE:LINE: " and the message. */

@@ -61,7 +61,8 @@ static bool take_line(const lines *at, char *line, times_file *times)
 bool read_times(const char *name, times_file *times)
 {
     *times = (times_file){name, {NULL, 0}, NULL, NULL, {NULL, 0}};
-    if (!read_text(name, TEXT_MOST, "these are no times: one decimal number of microseconds a line", &times->text))
+    if (!read_text(name, TEXT_MOST, "these are no times: one decimal number of microseconds a line",
+                   &times->text))
         return false;
     size_t most = times->text.length / 2 + 1; /* a time takes two bytes of text or more, but for the last */
     times->bytes.bytes = malloc(most * VIN_TIME_BYTES);

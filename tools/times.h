@@ -4,7 +4,8 @@
 
 #include "files.h"
 
-/* Times as the library takes them, and for messages where each stands in its file and what is written there. */
+/* Times as the library takes them, and for messages where each stands in its file and what is written there.
+ */
 typedef struct {
     const char *name; /* of the file; NULL: there is none */
     run bytes;
@@ -13,8 +14,8 @@ typedef struct {
     run text;
 } times_file;
 
-/* Reads a text of times. Blank lines and comments (#) are passed over. What is wrong is said with its line. The times
- * are to be dropped in any case. */
+/* Reads a text of times. Blank lines and comments (#) are passed over. What is wrong is said with its line.
+ * The times are to be dropped in any case. */
 bool read_times(const char *name, times_file *times);
 
 void drop_times(times_file *times);

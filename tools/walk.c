@@ -68,9 +68,15 @@ static bool is_awaited(const walk *w, unsigned label)
 static enum step go_on(walk *w, const stored *s)
 {
     switch (w->awaits) {
-    case AWAIT_TAG: w->high = s->info; w->awaits = AWAIT_LOW; return STEP_GOES_ON;
+    case AWAIT_TAG:
+        w->high = s->info;
+        w->awaits = AWAIT_LOW;
+        return STEP_GOES_ON;
     case AWAIT_LOW_SYLLABLE: w->awaits = AWAIT_TAG; return STEP_GOES_ON;
-    case AWAIT_LOW: w->low = s->info; w->awaits = AWAIT_MICRO; return STEP_GOES_ON;
+    case AWAIT_LOW:
+        w->low = s->info;
+        w->awaits = AWAIT_MICRO;
+        return STEP_GOES_ON;
     default: w->awaits = AWAIT_NOTHING; return STEP_ENDS;
     }
 }
@@ -108,7 +114,8 @@ static void tell_waiting(const vin_plan *plan, const walk *w, char *text, size_t
         break;
     default:
         snprintf(text, room, "the time of the %s at %s waits for its %s word on bus %u",
-                 arinc ? "ARINC word" : first, at.text, w->awaits == AWAIT_LOW ? "low" : "micro", w->first.bus);
+                 arinc ? "ARINC word" : first, at.text, w->awaits == AWAIT_LOW ? "low" : "micro",
+                 w->first.bus);
     }
 }
 
@@ -119,8 +126,8 @@ static void tell_inside(const vin_plan *plan, const walk *w, const stored *s, ch
     place_text at = tell_place(&w->first);
     char waiting[WHY_MOST - 40];
     if (w->awaits == AWAIT_MICRO && s->bus == w->first.bus && s->label == LABEL_MICRO)
-        snprintf(why, WHY_MOST, "micro is %u: it must be below 10000; it would end the time of the %s at %s", s->info,
-                 plan->kinds[s->bus] == VIN_KIND_ARINC ? "ARINC word" : "command", at.text);
+        snprintf(why, WHY_MOST, "micro is %u: it must be below 10000; it would end the time of the %s at %s",
+                 s->info, plan->kinds[s->bus] == VIN_KIND_ARINC ? "ARINC word" : "command", at.text);
     else if (w->awaits == AWAIT_LOW_SYLLABLE && s->bus == w->first.bus && s->label >= 8 && s->label % 2 == 0)
         snprintf(why, WHY_MOST, "low syllable of channel %u behind the high syllable of channel %u at %s",
                  channel_of(s->label), channel_of(w->first.label), at.text);
@@ -135,8 +142,8 @@ static void tell_no_start(const vin_plan *plan, const stored *s, char *why)
 {
     bool arinc = plan->kinds[s->bus] == VIN_KIND_ARINC;
     if (s->label == LABEL_4 && arinc)
-        snprintf(why, WHY_MOST, "error notice on bus %u: its labels %X and %X are not one channel's pair", s->bus,
-                 s->info >> 12, s->info >> 8 & 15);
+        snprintf(why, WHY_MOST, "error notice on bus %u: its labels %X and %X are not one channel's pair",
+                 s->bus, s->info >> 12, s->info >> 8 & 15);
     else if (s->label == LABEL_4)
         snprintf(why, WHY_MOST, "response is %u: it must be below 10000", s->info);
     else if (s->label >= 8)
@@ -146,8 +153,8 @@ static void tell_no_start(const vin_plan *plan, const stored *s, char *why)
         snprintf(why, WHY_MOST, "time high on bus %u: no %s of that bus stands before it", s->bus,
                  arinc ? "ARINC word" : "command");
     else
-        snprintf(why, WHY_MOST, "%s on bus %u: no time %s stands before it", label_name(VIN_KIND_1553, s->label),
-                 s->bus, s->label == LABEL_LOW ? "high" : "low");
+        snprintf(why, WHY_MOST, "%s on bus %u: no time %s stands before it",
+                 label_name(VIN_KIND_1553, s->label), s->bus, s->label == LABEL_LOW ? "high" : "low");
 }
 
 void tell_break(const vin_plan *plan, const walk *before, const stored *s, char why[WHY_MOST])
@@ -159,8 +166,8 @@ void tell_break(const vin_plan *plan, const walk *before, const stored *s, char 
     if (s->label == LABEL_FILL)
         snprintf(why, WHY_MOST, "it has label 1, fill, and fill is AAAA%s%s", inside ? "; " : "", waiting);
     else if (plan->kinds[s->bus] == VIN_KIND_UNUSED)
-        snprintf(why, WHY_MOST, "it is on bus %u, which the plan does not use%s%s", s->bus, inside ? "; " : "",
-                 waiting);
+        snprintf(why, WHY_MOST, "it is on bus %u, which the plan does not use%s%s", s->bus,
+                 inside ? "; " : "", waiting);
     else if (inside)
         tell_inside(plan, before, s, why);
     else

@@ -54,13 +54,13 @@ static uint32_t draw_words(void)
 {
     switch (draw(6)) {
     case 0: case 1: case 2:
-        return 129;
+        return 128;
     case 3:
-        return 130 + draw(10);
+        return 129 + draw(10);
     case 4:
-        return one_in(2) ? 511 : 510;
+        return one_in(2) ? 512 : 511;
     default:
-        return 129 + draw(383);
+        return 128 + draw(385);
     }
 }
 

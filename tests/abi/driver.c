@@ -101,7 +101,10 @@ static vin_answer library(const call *c)
 static vin_answer library_by_plan(const call *c)
 {
     const drawn_plan *p = &the_case.plan;
-    vin_plan plan = {p->words, p->tracks, p->frame_time, p->crc, p->parity, {0}};
+    vin_plan plan = VIN_PLAN_INIT(p->words, p->tracks);
+    plan.frame_time = p->frame_time;
+    plan.crc = p->crc;
+    plan.parity = p->parity;
     memcpy(plan.kinds, p->kinds, 16);
     const uint8_t *a = c->in_1_len ? in_1.at : NULL, *b = c->in_2_len ? in_2.at : NULL;
     uint8_t *x = c->room_1_len ? room_1.at : NULL, *y = c->room_2_len ? room_2.at : NULL;

@@ -32,7 +32,7 @@ static void fill_most(void)
 static void sizes(void)
 {
     size_t largest = 0, groups_most = 0, all = most[8 * VIN_LOG_MAX - 4];
-    for (size_t words = 129; words < 512; words++)
+    for (size_t words = 128; words <= 512; words++)
         for (size_t tracks = 1; tracks <= 4; tracks++)
             for (int choices = 0; choices < 4; choices++) {
                 int frame_time = choices & 1, crc = choices >> 1;
@@ -49,7 +49,7 @@ static void sizes(void)
     CHECK(groups_most == VIN_COMPOSED_GROUPS_MAX);
     for (size_t bytes = 1; bytes <= VIN_LOG_MAX; bytes++)
         CHECK(most[8 * bytes - 4] <= VIN_COMPOSED_WORDS(bytes));
-    CHECK(VIN_READ_GROUPS(VIN_CAPTURE_MAX, 129, 1) == VIN_READ_GROUPS_MAX);
+    CHECK(VIN_READ_GROUPS(VIN_CAPTURE_MAX, 128, 1) == VIN_READ_GROUPS_MAX);
     CHECK(VIN_READ_LOG_BYTES(0) == 1 && VIN_READ_LOG_BYTES(387) == 420 && VIN_READ_LOG_BYTES(VIN_CAPTURE_MAX) == VIN_LOG_MAX);
     CHECK(VIN_READ_TIMES_BYTES(774, 129, 1, 1) == 16 && VIN_READ_TIMES_BYTES(774, 129, 1, 0) == 0);
 }
@@ -76,6 +76,54 @@ static void example(void)
         CHECK(strlen(vin_text(number)) > 0);
 }
 
+/* The limits of a frame's length, for each number of tracks: both are legal in all three functions, one less and one more in none. */
+static void lengths(void)
+{
+    static const uint32_t words[4] = {127, 128, 512, 513};
+    static const uint8_t log[] = {0x32, 0x5F, 0x77, 0x80};
+    static uint8_t capture[VIN_GROUP_BYTES(513, 4)], back[4];
+    for (uint32_t tracks = 1; tracks <= 4; tracks++)
+        for (int n = 0; n < 4; n++) {
+            vin_plan plan = VIN_PLAN_INIT(words[n], tracks);
+            int legal = n == 1 || n == 2;
+            size_t bytes = VIN_GROUP_BYTES(words[n], tracks);
+            vin_answer a;
+            plan.kinds[2] = VIN_KIND_1553;
+            a = vin_plan_compose(&plan, log, sizeof log, NULL, 0, capture, bytes);
+            CHECK(legal ? a.number == VIN_DONE && a.bytes == bytes : a.number == VIN_PLAN && a.place == 0);
+            a = vin_plan_read(&plan, capture, bytes, back, sizeof back, NULL, 0);
+            CHECK(legal ? a.number == VIN_DONE && a.bytes == sizeof log : a.number == VIN_PLAN && a.place == 0);
+            a = vin_plan_read_closed(&plan, capture, bytes, back, sizeof back, NULL, 0);
+            CHECK(legal ? a.number == VIN_DONE && a.bytes == sizeof log : a.number == VIN_PLAN && a.place == 0);
+        }
+}
+
+/* The most groups that a capture can have: all their times are given where there is room, and 7 says how many are needed. */
+static void most_groups(void)
+{
+    static uint8_t capture[VIN_CAPTURE_MAX], log[VIN_LOG_MAX], times[VIN_READ_GROUPS_MAX * VIN_TIME_BYTES];
+    size_t size = VIN_GROUP_BYTES(128, 1), bytes = VIN_READ_GROUPS_MAX * size;
+    vin_plan plan = VIN_PLAN_INIT(128, 1);
+    vin_answer a;
+    plan.frame_time = 1;
+    plan.kinds[2] = VIN_KIND_1553;
+    for (size_t at = 0; at < bytes; at += 3) {
+        static const uint8_t front[4][3] = {{0xFA, 0xF3, 0x20}, {0x07, 0, 0}, {0x06, 0, 0}, {0x05, 0, 0}}, fill[3] = {0x01, 0xAA, 0xAA};
+        size_t word = at % size / 3;
+        memcpy(capture + at, word < 4 ? front[word] : fill, 3);
+        if (word == 3) {
+            capture[at + 1] = (uint8_t)(at / size >> 8);
+            capture[at + 2] = (uint8_t)(at / size);
+        }
+    }
+    a = vin_plan_read(&plan, capture, bytes, log, sizeof log, times, sizeof times - 1);
+    CHECK(a.number == VIN_TIME_ROOM && a.place == VIN_READ_GROUPS_MAX);
+    a = vin_plan_read(&plan, capture, bytes, log, sizeof log, times, sizeof times);
+    CHECK(a.number == VIN_DONE && a.bytes == 1 && a.times == VIN_READ_GROUPS_MAX);
+    for (size_t group = 0; group < VIN_READ_GROUPS_MAX; group++)
+        CHECK(times[8 * group + 6] == group >> 8 && times[8 * group + 7] == (group & 255));
+}
+
 /* A plan begun with VIN_PLAN_INIT is the plan of these numbers with nothing chosen; the version's number is its text's. */
 static void names(void)
 {
@@ -94,6 +142,8 @@ int main(void)
     fill_most();
     sizes();
     example();
-    puts("header: its sizes and its example hold");
+    lengths();
+    most_groups();
+    puts("header: its sizes, its limits and its example hold");
     return 0;
 }

@@ -142,7 +142,7 @@ int main(void)
         for (uint32_t tracks = 1; tracks <= 4; tracks++)
             for (unsigned choices = 0; choices < 8; choices++)
                 for (int longest = 0; longest < 2; longest++) {
-                    vin_plan plan = VIN_PLAN_INIT(longest ? 511 : 129, tracks);
+                    vin_plan plan = VIN_PLAN_INIT(longest ? 512 : 128, tracks);
                     plan.frame_time = choices & 1;
                     plan.crc = choices >> 1 & 1;
                     plan.parity = choices >> 2;

@@ -45,6 +45,10 @@ same "--bus 5" want have
 [ "$(wc -l <have)" -gt 100 ]
 result "--bus 5 has lines" $?
 
+"${vin[@]}" dump composite.plan composite.capture --bus 0 | tail -n +2 >have
+awk '$7 == 0 && !/frame time/' dealt >want
+same "--bus 0 has the data slots, not the frame time" want have
+
 # Faults stand in their line, all of them, in dealt order.
 cp four-track.capture bad
 for change in 645:FAF321 520:2D0000 517:040000 390:250000 770:31AAAA; do
@@ -96,8 +100,8 @@ dump="PLAN CAPTURE [--from WORD] [--count N] [--group G] [--bus B] [--stored] [-
 usage dump "--from -1: a decimal number is needed" "$dump" p bad --from -1
 usage dump "--count needs a number" "$dump" p bad --count
 # The plan and the length are refused as reading refuses them.
-plan "words 128" "tracks 1"
-refused "vin: p:1: refused by 1 at 0: words is 128: a frame has 129 to 511 words" dump p bad
+plan "words 127" "tracks 1"
+refused "vin: p:1: refused by 1 at 0: words is 127: a frame has 128 to 512 words" dump p bad
 refused "vin: bad: refused by 8 at 387: 387 bytes are not whole groups of 1548 bytes; left over: 387" dump four-track.plan bad
 
 # What a capture and a log hold.

@@ -109,6 +109,8 @@ same "a listing with a byte order mark" four-track.log new
 # Names are shown so that they can be: no escape, no second line, and of a long one the end.
 misuse "vin: ?[31mevil?name: No such file or directory" list $'\e[31mevil\nname'
 misuse "vin: überflug?: No such file or directory" list $'überflug\x9b'
+misuse "vin: a??31m: No such file or directory" list $'a\xc2\x9b31m' # a control of two bytes
+misuse "vin: a???b: No such file or directory" list $'a\xe2\x80\xaeb' # turns the direction of writing
 long=$(printf 'folder/%.0s' {1..60})end.log
 misuse "vin: ..${long: -221}: No such file or directory" list "$long"
 rm -f p t new

@@ -33,6 +33,15 @@ result "the longest and the empty log are among them" $?
 "${vin[@]}" list drawn/59.log | sed '$d' >text
 echo "ovf 0 0000" >>text
 misuse "vin: text:$(wc -l <text): with this item the log has more than 32768 bytes" pack text -o new
+# The last bit: 10921 marks are 262104 bits of 262144. Two notices leave four for the end mark; a timed status leaves none.
+for n in {1..10921}; do echo "ovf 0 0000"; done >text
+{ cat text; echo "are 0 1 00"; echo "are 0 1 00"; } | "${vin[@]}" pack -o new
+result "a log to the last bit" $?
+[ "$(stat -c %s new)" -eq 32768 ] && [ "$("${vin[@]}" list new | tail -n 1)" = "end 10923" ]
+result "a log to the last bit is listed" $?
+rm -f new
+echo "sta 0 A 0000 resp 1" >>text
+misuse "vin: text:10922: with this item the log has more than 32768 bytes" pack text -o new
 rm -rf drawn draw text
 
 # What is no line of a listing.
@@ -82,3 +91,15 @@ done_by pack t -o new
 says 0 "$(cat t)" list new
 same "a tagged command at the edge" <(bytes 1F FF FF FF FF FF FF E7 0F) <(head -c 9 new)
 rm -f t new
+
+# To a terminal nothing is packed unless it is asked for; to a pipe it is. (script gives a terminal.)
+if command -v script >/dev/null; then
+    echo "dat 2 A 0001" >t
+    printf -v line '%q ' "${vin[@]}" pack t
+    script -qec "$line" /dev/null </dev/null 2>&1 | tr -d '\r' >have
+    echo "vin: pack: no output is named, and standard output is a terminal: -o FILE, or -o -" >want
+    same "pack to a terminal" want have
+    script -qec "$line -o -" /dev/null </dev/null | cmp -s - <(bytes 32 00 00 80)
+    result "pack to a terminal that is asked for" $?
+    rm -f t have want
+fi

@@ -2,23 +2,23 @@
 one="words 129" two="tracks 1"
 
 # 1
-plan "words 128" "$two"
+plan "words 127" "$two"
 for command in "plan p" "compose p four-track.log -o new" "read p four-track.capture -o new" "check p four-track.capture"; do
-    refused "vin: p:1: refused by 1 at 0: words is 128: a frame has 129 to 511 words" $command
+    refused "vin: p:1: refused by 1 at 0: words is 127: a frame has 128 to 512 words" $command
 done
-plan "words 512" "$two"
-refused "vin: p:1: refused by 1 at 0: words is 512: a frame has 129 to 511 words" plan p
+plan "words 513" "$two"
+refused "vin: p:1: refused by 1 at 0: words is 513: a frame has 128 to 512 words" plan p
 plan "$one" "tracks 0"
 refused "vin: p:2: refused by 1 at 0: tracks is 0: a group has 1 to 4 tracks" plan p
 plan "$one" "tracks 2"
 refused "vin: p:2: refused by 1 at 0: more than one track needs exactly one used bus; used: 0" plan p
 plan "words 999999999" "tracks 5" "parity yes" "bus 1 1553" "bus 9 arinc"
-refused "vin: p:1: refused by 1 at 0: words is 999999999: a frame has 129 to 511 words
+refused "vin: p:1: refused by 1 at 0: words is 999999999: a frame has 128 to 512 words
 vin: p:2: refused by 1 at 0: tracks is 5: a group has 1 to 4 tracks
 vin: p:2: refused by 1 at 0: more than one track needs exactly one used bus; used: 2
 vin: p:5: refused by 1 at 0: bus 9 is used: with parity the buses are 0 to 7" plan p
 # Every rule with every other: legal just when document 01 says so, and each refusal names a rule.
-for words in 128 129 511 512; do for tracks in 0 1 2 4 5; do for parity in no yes; do for buses in "" 7 8 "2 9"; do
+for words in 127 128 512 513; do for tracks in 0 1 2 4 5; do for parity in no yes; do for buses in "" 7 8 "2 9"; do
     plan "words $words" "tracks $tracks" "parity $parity"
     used=0 high=0
     for bus in $buses; do
@@ -26,7 +26,7 @@ for words in 128 129 511 512; do for tracks in 0 1 2 4 5; do for parity in no ye
         used=$((used + 1)) high=$((high + bus / 8))
     done
     legal=0
-    [ $words -gt 128 ] && [ $words -lt 512 ] && [ $tracks -ge 1 ] && [ $tracks -le 4 ] \
+    [ $words -ge 128 ] && [ $words -le 512 ] && [ $tracks -ge 1 ] && [ $tracks -le 4 ] \
         && { [ $tracks -eq 1 ] || [ $used -eq 1 ]; } && { [ $parity = no ] || [ $high -eq 0 ]; } || legal=1
     "${vin[@]}" plan p >out.txt 2>err.txt
     [ $? -eq $legal ] && ! grep -q "the plan is illegal" err.txt
@@ -76,6 +76,9 @@ printf '%s\n' 0 42949672959999 >t
 done_by compose four-track.plan four-track.log t -o new
 printf '%s\n' 0 42949672960000 >t
 refused "vin: t:2: refused by 5 at time 1 (counted from 0): 42949672960000 microseconds, and times are below 42949672960000" \
+    compose four-track.plan four-track.log t -o new
+printf '%s\n' '# two groups' '' 0 '42949672960000 # too late' >t
+refused "vin: t:4: refused by 5 at time 1 (counted from 0): 42949672960000 microseconds, and times are below 42949672960000" \
     compose four-track.plan four-track.log t -o new
 printf '%s\n' 99999999999999999999999 0 >t
 refused "vin: t:1: refused by 5 at time 0 (counted from 0): 99999999999999999999999 microseconds, and times are below 42949672960000" \

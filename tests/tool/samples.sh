@@ -23,6 +23,8 @@ for sample in four-track composite; do
 
     "${vin[@]}" compose $sample.plan - $sample.times -o - <$sample.log | "${vin[@]}" read $sample.plan - -o - | "${vin[@]}" list >new
     same "$sample: through pipes" $sample.txt new
+    "${vin[@]}" read $sample.plan $sample.capture -o - 2>err.txt | cmp -s - $sample.log && [ ! -s err.txt ]
+    result "$sample: read into a pipe, without a note" $?
     "${vin[@]}" compose - $sample.log $sample.times -o - <$sample.plan | cmp -s - $sample.capture
     result "$sample: plan from standard input" $?
     "${vin[@]}" compose $sample.plan $sample.log - -o new <$sample.times && cmp -s new $sample.capture

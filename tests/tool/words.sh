@@ -60,6 +60,16 @@ refused "vin: bad: refused by 14 at $at2: 31AAAA: misplaced fill: its bus is 3 a
 bytes "$(group 01AAAA)$(group 2D0001)" >bad
 refused "vin: bad: refused by 14 at $at1: 01AAAA: misplaced fill: data follows it, 2D0001 at word 130 (group 1, track 1, word 2)" check p bad
 
+# The CRC word and the frame time between are no data. The right CRC word is what the dump expects.
+plan "words 129" "tracks 1" "frame-time yes" "crc yes" "bus 2 1553"
+for n in {1..200}; do echo "dat 2 A 0001"; done | "${vin[@]}" pack >l
+printf '%s\n' 1 2 >t
+done_by compose p l --times t -o c
+patched c 127 01AAAA
+mv bad c
+patched c 128 "$("${vin[@]}" dump p c --faults | sed -n 's/.*!11 expected //p')"
+refused "vin: bad: refused by 14 at word 127 (group 0, track 1, word 128): 01AAAA: misplaced fill: data follows it, 2D0001 at word 133 (group 1, track 1, word 5)" check p bad
+
 # Another plan: CRC words in data slots are accepted where bus 0 is used, and told.
 plan "words 129" "tracks 1" "crc yes" "bus 0 1553"
 for n in {1..300}; do echo "dat 0 A 0F0F"; done >t

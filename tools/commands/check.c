@@ -19,8 +19,15 @@ static int run_check(const arguments *given)
 static const option_row options[] = {{OPTIONS, FLAG, NULL, NULL}};
 
 const command check_command = {
-    "check", "PLAN CAPTURE", "say whether composing made exactly this capture",
-    "\nThe closed reading: as read, but fill must stand just where composing puts it. A capture of no\n"
-    "bytes is that of the empty log; a note says so.\n",
-    2, 2, 0, PRINTS, options, run_check,
+    .name = "check",
+    .usage = "PLAN CAPTURE",
+    .about = "say whether composing made exactly this capture",
+    .more =
+        "\nThe closed reading: as read, but fill must stand just where composing puts it. A capture of no\n"
+        "bytes is that of the empty log; a note says so.\n",
+    .least = 2,
+    .most = 2,
+    .output = PRINTS,
+    .options = options,
+    .run = run_check,
 };

@@ -43,8 +43,14 @@ static const option_row options[] = {
 };
 
 const command compose_command = {
-    "compose", "PLAN LOG [--times FILE] -o CAPTURE", "pack a log into frames",
-    "\nThe log goes into the fewest groups that hold it, with fill after its last word. A plan with\n"
-    "frame time needs a time for each group; without a file of times the refusal says how many.\n",
-    2, 3, 0, NEEDS_OUT, options, run_compose,
+    .name = "compose",
+    .usage = "PLAN LOG [--times FILE] -o CAPTURE",
+    .about = "pack a log into frames",
+    .more = "\nThe log goes into the fewest groups that hold it, with fill after its last word. A plan with\n"
+            "frame time needs a time for each group; without a file of times the refusal says how many.\n",
+    .least = 2,
+    .most = 3,
+    .output = NEEDS_OUT,
+    .options = options,
+    .run = run_compose,
 };

@@ -24,14 +24,16 @@ static wanted wanted_of(const arguments *given)
 
 static bool is_wanted(const wanted *w, const stored *s, const mark *m)
 {
-    return (!w->some_group || s->group == w->group) && (!w->some_bus || (s->slot == SLOT_DATA && s->bus == w->bus))
+    return (!w->some_group || s->group == w->group)
+           && (!w->some_bus || (s->slot == SLOT_DATA && s->bus == w->bus))
            && (!w->no_fill || s->slot != SLOT_DATA || !is_fill(s)) && (!w->faults || m->fault);
 }
 
 /* What the word is where it stands. */
 static const char *meaning(const vin_plan *plan, const stored *s)
 {
-    static const char *const furniture[] = {"sync", "frame time high", "frame time low", "frame time micro", "CRC"};
+    static const char *const furniture[] = {"sync", "frame time high", "frame time low", "frame time micro",
+                                            "CRC"};
     if (s->slot != SLOT_DATA)
         return furniture[s->slot];
     if (s->label == LABEL_FILL)
@@ -43,8 +45,8 @@ static const char *meaning(const vin_plan *plan, const stored *s)
 
 static void add_head(buffer *to)
 {
-    add(to, "%7s  %5s %5s %4s  %-8s %-6s  %3s %5s %4s  %-17s item\n", "place", "group", "track", "word", "offset",
-        "word", "bus", "label", "info", "what");
+    add(to, "%7s  %5s %5s %4s  %-8s %-6s  %3s %5s %4s  %-17s item\n", "place", "group", "track", "word",
+        "offset", "word", "bus", "label", "info", "what");
 }
 
 static void add_word(buffer *to, const vin_plan *plan, const stored *s, const mark *m)
@@ -57,8 +59,8 @@ static void add_word(buffer *to, const vin_plan *plan, const stored *s, const ma
     if (m->fault)
         snprintf(fault, sizeof fault, "%s!%u ", m->item || m->timed ? "  " : "", m->fault);
     bool any = m->item || m->timed || m->fault;
-    add(to, "%7" PRIu64 "  %5" PRIu64 " %5" PRIu32 " %4" PRIu32 "  0x%06" PRIX64 " %06" PRIX32, s->place, s->group,
-        s->track, s->position, 3 * s->place, s->word);
+    add(to, "%7" PRIu64 "  %5" PRIu64 " %5" PRIu32 " %4" PRIu32 "  0x%06" PRIX64 " %06" PRIX32, s->place,
+        s->group, s->track, s->position, 3 * s->place, s->word);
     if (s->slot == SLOT_SYNC)
         add(to, "  %3s %5s %4s  ", "", "", "");
     else
@@ -106,9 +108,11 @@ static bool has_numbers(const call *c, const wanted *w)
     if (w->some_bus && w->bus >= BUSES)
         complain("dump: --bus %" PRIu64 ": a bus is 0 to %d", w->bus, BUSES - 1);
     else if (w->some_group && w->group >= groups)
-        complain("dump: --group %" PRIu64 ": the capture has %" PRIu64 " groups, counted from 0", w->group, groups);
+        complain("dump: --group %" PRIu64 ": the capture has %" PRIu64 " groups, counted from 0", w->group,
+                 groups);
     else if (w->some_from && w->from >= words)
-        complain("dump: --from %" PRIu64 ": the capture has %" PRIu64 " words, counted from 0", w->from, words);
+        complain("dump: --from %" PRIu64 ": the capture has %" PRIu64 " words, counted from 0", w->from,
+                 words);
     else
         return true;
     return false;
@@ -154,10 +158,17 @@ static const option_row options[] = {
 };
 
 const command dump_command = {
-    "dump", "PLAN CAPTURE [--from WORD] [--count N] [--group G] [--bus B] [--stored] [--no-fill] [--faults]", "print a capture word by word",
-    "\nA line a word: its place, where that is, its byte offset, bus, label and information, what it is,\n"
-    "the item it belongs to (1, then 1+ for its further words), the time it ends, and behind ! the\n"
-    "number of a refusal and why. All faults are marked, not only the first; misplaced fill, 14, which\n"
-    "check refuses, only where there is no other.\n",
-    2, 2, 0, PRINTS, options, run_dump,
+    .name = "dump",
+    .usage = "PLAN CAPTURE [--from WORD] [--count N] [--group G] [--bus B] [--stored] [--no-fill] [--faults]",
+    .about = "print a capture word by word",
+    .more =
+        "\nA line a word: its place, where that is, its byte offset, bus, label and information, what it\n"
+        "is, the item it belongs to (1, then 1+ for its further words), the time it ends, and behind !\n"
+        "the number of a refusal and why. All faults are marked, not only the first; misplaced fill, 14,\n"
+        "which check refuses, only where there is no other.\n",
+    .least = 2,
+    .most = 2,
+    .output = PRINTS,
+    .options = options,
+    .run = run_dump,
 };

@@ -23,5 +23,14 @@ static int run_explain(const arguments *given)
 static const option_row options[] = {{OPTIONS, FLAG, NULL, NULL}};
 
 const command explain_command = {
-    "explain", "[N]", "say what refusal N means, or list them all", "", 0, 1, 1, PRINTS, options, run_explain,
+    .name = "explain",
+    .usage = "[N]",
+    .about = "say what refusal N means, or list them all",
+    .more = "",
+    .least = 0,
+    .most = 1,
+    .words = 1,
+    .output = PRINTS,
+    .options = options,
+    .run = run_explain,
 };

@@ -56,15 +56,17 @@ static void add_span(buffer *to, uint64_t first, uint64_t last)
 {
     bool back = last < first;
     uint64_t apart = back ? first - last : last - first;
-    add(to, "%" PRIu64 " to %" PRIu64 ", %s%" PRIu64 ".%06" PRIu64 " s", first, last, back ? "-" : "", apart / 1000000,
-        apart % 1000000);
+    add(to, "%" PRIu64 " to %" PRIu64 ", %s%" PRIu64 ".%06" PRIu64 " s", first, last, back ? "-" : "",
+        apart / 1000000, apart % 1000000);
 }
 
 static void add_items(buffer *to, const tally *t, size_t log_bytes)
 {
-    static const char *const names[KINDS] = {"",           "command", "status word", "data word",    "bus error",
-                                             "ARINC word", "notice",  "user word",   "overflow mark"};
-    add(to, "log          %zu byte%s, %" PRIu64 " item%s\n", log_bytes, plural(log_bytes), t->items, plural(t->items));
+    static const char *const names[KINDS] = {"",          "command",   "status word",
+                                             "data word", "bus error", "ARINC word",
+                                             "notice",    "user word", "overflow mark"};
+    add(to, "log          %zu byte%s, %" PRIu64 " item%s\n", log_bytes, plural(log_bytes), t->items,
+        plural(t->items));
     for (unsigned bus = 0; bus < BUSES; bus++) {
         bool any = false;
         for (unsigned kind = COMMAND; kind < KINDS; kind++) {
@@ -105,8 +107,9 @@ static void add_groups(buffer *to, const reading *r, const tally *t)
         add_span(to, time_at(r->times, 0), time_at(r->times, r->answer.times - 1));
         add(to, "\n");
     }
-    add(to, "data slots   %" PRIu64 ": %" PRIu64 " data word%s, %" PRIu64 " fill, %" PRIu64 ".%" PRIu64 " %%\n", slots,
-        t->words, plural(t->words), fill, share / 10, share % 10);
+    add(to,
+        "data slots   %" PRIu64 ": %" PRIu64 " data word%s, %" PRIu64 " fill, %" PRIu64 ".%" PRIu64 " %%\n",
+        slots, t->words, plural(t->words), fill, share / 10, share % 10);
 }
 
 static int info_capture(const arguments *given)
@@ -152,8 +155,16 @@ static const option_row options[] = {
 };
 
 const command info_command = {
-    "info", "PLAN CAPTURE | LOG", "count what a capture or a log holds",
-    "\nOf a capture: groups, the first and last frame time, data words and the share of fill. Of its log,\n"
-    "or of a log alone: items by bus and kind, the first and last time tag, and how often tags step back.\n",
-    1, 2, 0, PRINTS, options, run_info,
+    .name = "info",
+    .usage = "PLAN CAPTURE | LOG",
+    .about = "count what a capture or a log holds",
+    .more = "\nOf a capture: groups, the first and last frame time, data words and the share of fill. Of its "
+            "log,\n"
+            "or of a log alone: items by bus and kind, the first and last time tag, and how often tags step "
+            "back.\n",
+    .least = 1,
+    .most = 2,
+    .output = PRINTS,
+    .options = options,
+    .run = run_info,
 };

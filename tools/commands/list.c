@@ -58,7 +58,11 @@ static int write_form(writing *w, run *text, const char *to)
 
 static int list_file(const arguments *given, const char *name, const run *log)
 {
-    writing w = {{{NULL, 0}, 0, false}, given->values[OPT_JSON], given->values[OPT_CSV], given->values[OPT_DECODE], NULL};
+    writing w = {{{NULL, 0}, 0, false},
+                 given->values[OPT_JSON],
+                 given->values[OPT_CSV],
+                 given->values[OPT_DECODE],
+                 NULL};
     const char *to = given->values[OPT_OUT];
     run text;
     int status = list_log(name, log, &text);
@@ -90,14 +94,22 @@ static int run_list(const arguments *given)
 static const option_row options[] = {
     {OPT_JSON, FLAG, NULL, "an object a line: {\"n\":1,\"bit\":0,\"kind\":\"cmd\",\"bus\":2,..}"},
     {OPT_CSV, FLAG, NULL, "a row an item, the first row has the names"},
-    {OPT_DECODE, FLAG, NULL, "take 1553 command words apart: 05-T-01-24 is terminal 5, transmit, subaddress 1, 24 words"},
+    {OPT_DECODE, FLAG, NULL,
+     "take 1553 command words apart: 05-T-01-24 is terminal 5, transmit, subaddress 1, 24 words"},
     {OPT_OUT, OUTPUT, "TEXT", "the listing; left out, standard output"},
     {OPTIONS, FLAG, NULL, NULL},
 };
 
 const command list_command = {
-    "list", "[LOG] [--json | --csv] [--decode] [-o TEXT]", "print a log, a line an item",
-    "\nLOG is by default standard input. It is listed by the proved lister, vin-lister. What a line has\n"
-    "is told by vin pack --help.\n",
-    0, 1, 0, PRINTS, options, run_list,
+    .name = "list",
+    .usage = "[LOG] [--json | --csv] [--decode] [-o TEXT]",
+    .about = "print a log, a line an item",
+    .more =
+        "\nLOG is by default standard input. It is listed by the proved lister, vin-lister. What a line has\n"
+        "is told by vin pack --help.\n",
+    .least = 0,
+    .most = 1,
+    .output = PRINTS,
+    .options = options,
+    .run = run_list,
 };

@@ -81,13 +81,19 @@ static const option_row options[] = {
 };
 
 const command pack_command = {
-    "pack", "[TEXT] [-o LOG]", "make a log from its listing: what list prints, backwards",
-    "\nTEXT, by default standard input, has an item a line:\n\n"
-    "  cmd BUS A|B WORD [at TIME]       arn BUS CHANNEL WORD [at TIME]\n"
-    "  sta BUS A|B WORD [resp TIME]     are BUS CHANNEL DIAGNOSTICS\n"
-    "  dat BUS A|B WORD                 usr BUS LABEL WORD\n"
-    "  err BUS A|B WORD                 ovf BUS WORD\n\n"
-    "and, if it likes, a last line end N, which is checked. Words are hexadecimal, all other numbers\n"
-    "decimal. Blank lines and comments (#) are passed over.\n",
-    0, 1, 0, FILTERS, options, run_pack,
+    .name = "pack",
+    .usage = "[TEXT] [-o LOG]",
+    .about = "make a log from its listing: what list prints, backwards",
+    .more = "\nTEXT, by default standard input, has an item a line:\n\n"
+            "  cmd BUS A|B WORD [at TIME]       arn BUS CHANNEL WORD [at TIME]\n"
+            "  sta BUS A|B WORD [resp TIME]     are BUS CHANNEL DIAGNOSTICS\n"
+            "  dat BUS A|B WORD                 usr BUS LABEL WORD\n"
+            "  err BUS A|B WORD                 ovf BUS WORD\n\n"
+            "and may have a last line end N, which is checked. Words are hexadecimal, all other numbers\n"
+            "decimal. Blank lines and comments (#) are passed over.\n",
+    .least = 0,
+    .most = 1,
+    .output = FILTERS,
+    .options = options,
+    .run = run_pack,
 };

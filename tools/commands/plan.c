@@ -22,5 +22,13 @@ static int run_plan(const arguments *given)
 static const option_row options[] = {{OPTIONS, FLAG, NULL, NULL}};
 
 const command plan_command = {
-    "plan", "PLAN", "say whether a plan is legal, and draw its group", "", 1, 1, 0, PRINTS, options, run_plan,
+    .name = "plan",
+    .usage = "PLAN",
+    .about = "say whether a plan is legal, and draw its group",
+    .more = "",
+    .least = 1,
+    .most = 1,
+    .output = PRINTS,
+    .options = options,
+    .run = run_plan,
 };

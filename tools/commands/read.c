@@ -30,7 +30,8 @@ static int run_read(const arguments *given)
 {
     reading r;
     const char *to = given->values[OPT_OUT];
-    const char *times = given->values[OPT_TIMES_OUT] ? given->values[OPT_TIMES_OUT] : given->values[OPT_TIMES];
+    const char *times =
+        given->values[OPT_TIMES_OUT] ? given->values[OPT_TIMES_OUT] : given->values[OPT_TIMES];
     if (given->values[OPT_TIMES_OUT] && given->values[OPT_TIMES]) {
         complain("read: --times is an old name of --times-out; one of them is enough");
         return MISUSE;
@@ -55,7 +56,13 @@ static const option_row options[] = {
 };
 
 const command read_command = {
-    "read", "PLAN CAPTURE -o LOG [--times-out FILE]", "read frames back into a log and times",
-    "\nThe plain reading: fill is passed over in any slot and on any bus.\n",
-    2, 2, 0, NEEDS_OUT, options, run_read,
+    .name = "read",
+    .usage = "PLAN CAPTURE -o LOG [--times-out FILE]",
+    .about = "read frames back into a log and times",
+    .more = "\nThe plain reading: fill is passed over in any slot and on any bus.\n",
+    .least = 2,
+    .most = 2,
+    .output = NEEDS_OUT,
+    .options = options,
+    .run = run_read,
 };

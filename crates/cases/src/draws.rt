@@ -34,9 +34,9 @@ pub(crate) fn faulty(seed: &mut u64, faults: bool, n: u32) -> bool
 fn draw_words(seed: &mut u64) -> u32 {
     let shape = draw(seed, 4);
     match shape {
-        0 => 129,
-        1 => 511,
-        _ => 129 + draw(seed, 383),
+        0 => 128,
+        1 => 512,
+        _ => 128 + draw(seed, 385),
     }
 }
 

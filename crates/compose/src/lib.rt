@@ -1,6 +1,6 @@
 // Composing (document 01, "Groups" and "Answers by number"): from a log and its frame times to the bytes of the groups.
 
-ghost use mathlib.Core.Bool.{cond, false, true};
+ghost use mathlib.Core.Bool.{true};
 ghost use mathlib.Core.Path.{_≡_};
 ghost use Prim.Native.Nat.{ℕ, min, _+_, _*_, _<_, _≤_};
 ghost use lib.ListN.{getD, length};
@@ -8,15 +8,12 @@ ghost use Rattle.format.specs.Answer.{Made, over, refusal};
 ghost use Rattle.format.specs.Compose.{captureOf, composeWords, composed, firstLate, groupsFor};
 ghost use Rattle.format.specs.Plan.{groupWords, legal, timesNeeded};
 ghost use Rattle.format.specs.Time.{timeEnd};
-ghost use Rattle.crc.specs.Running.{entries, farEntries};
 ghost use Rattle.format.specs.Laws.Limits.{Shape, mostDealt};
 ghost use Rattle.group_write.specs.Writing.{Unsent};
-use crc;
 use format::Answer;
 use format::Kind;
 use format::Plan;
-use group_write::write_checked_group;
-use group_write::write_plain_group;
+use group_write::write_group;
 use log_read::Tally;
 use log_words::lay;
 use plan::group_words;
@@ -54,75 +51,23 @@ fn share_end(from: usize, share: usize, words: usize) -> usize
     if end < words { end } else { words }
 }
 
-// Every group of a plan with CRC, each in its own part of the output.
-fn write_checked(
-    plan: Plan,
-    words: &[u32],
-    times: &[u64],
-    groups: usize,
-    out: &mut [u8],
-    tables: &[u32; 768],
-    far: &[u32; 768],
-)
-    requires { ⌜ Shape plan × (length (now words) ≤ 15420) × Unsent plan (now words) × ((g : ℕ) → getD (now times) g 0 < timeEnd) ⌝ }
-    requires { ⌜ (groups ≡ groupsFor plan (length (now words))) × (groups * (3 * groupWords plan) ≤ length (now out)) ⌝ }
-    requires { ⌜ (plan .crc ≡ true) × (now tables ≡ entries) × (now far ≡ farEntries) ⌝ }
-    ensures { λ _. ⌜ now (out .exit) ≡ over (captureOf plan (now (times .entry)) (now (words .entry))) (now (out .entry)) ⌝ }
-{
-    let share = slots(plan);
-    let size = 3 * group_words(plan);
-    let mut group = 0;
-    while group < groups {
-        let start = group * size;
-        let end = start + size;
-        let from = group * share;
-        let to = share_end(from, share, words.len());
-        let time = time_of(times, group);
-        write_checked_group(
-            &mut out[start..end],
-            tables,
-            far,
-            plan,
-            time,
-            &words[from..to],
-        );
-        group += 1;
-    }
-}
-
-// The same for a plan without CRC.
-fn write_plain(plan: Plan, words: &[u32], times: &[u64], groups: usize, out: &mut [u8])
-    requires { ⌜ Shape plan × (length (now words) ≤ 15420) × Unsent plan (now words) × ((g : ℕ) → getD (now times) g 0 < timeEnd) ⌝ }
-    requires { ⌜ (groups ≡ groupsFor plan (length (now words))) × (groups * (3 * groupWords plan) ≤ length (now out)) ⌝ }
-    requires { ⌜ plan .crc ≡ false ⌝ }
-    ensures { λ _. ⌜ now (out .exit) ≡ over (captureOf plan (now (times .entry)) (now (words .entry))) (now (out .entry)) ⌝ }
-{
-    let share = slots(plan);
-    let size = 3 * group_words(plan);
-    let mut group = 0;
-    while group < groups {
-        let start = group * size;
-        let end = start + size;
-        let from = group * share;
-        let to = share_end(from, share, words.len());
-        let time = time_of(times, group);
-        write_plain_group(&mut out[start..end], plan, time, &words[from..to]);
-        group += 1;
-    }
-}
-
-// The tables are made for a plan with CRC only.
+// Every group, each in its own part of the output.
 fn write_groups(plan: Plan, words: &[u32], times: &[u64], groups: usize, out: &mut [u8])
     requires { ⌜ Shape plan × (length (now words) ≤ 15420) × Unsent plan (now words) × ((g : ℕ) → getD (now times) g 0 < timeEnd) ⌝ }
     requires { ⌜ (groups ≡ groupsFor plan (length (now words))) × (groups * (3 * groupWords plan) ≤ length (now out)) ⌝ }
     ensures { λ _. ⌜ now (out .exit) ≡ over (captureOf plan (now (times .entry)) (now (words .entry))) (now (out .entry)) ⌝ }
 {
-    if plan.crc {
-        let tables = crc::tables();
-        let far = crc::far_tables();
-        write_checked(plan, words, times, groups, out, &tables, &far);
-    } else {
-        write_plain(plan, words, times, groups, out);
+    let share = slots(plan);
+    let size = 3 * group_words(plan);
+    let mut group = 0;
+    while group < groups {
+        let start = group * size;
+        let end = start + size;
+        let from = group * share;
+        let to = share_end(from, share, words.len());
+        let time = time_of(times, group);
+        write_group(&mut out[start..end], plan, time, &words[from..to]);
+        group += 1;
     }
 }
 

@@ -2,7 +2,11 @@
 pub mod Xor
 pub mod Division
 pub mod Running
-pub mod Entries
-pub mod Two
-pub mod Spanned
 pub mod Linear
+pub mod Parity
+pub mod Kept
+pub mod Law
+pub mod Five
+pub mod Low
+pub mod Same
+pub mod Sums

@@ -1,61 +1,69 @@
--- The rules of the tables are linear in the byte.
-use Prim.Native.Nat.{ℕ, _+_, _*_, _/_, _%_, _^_, _<_}
-use native.Mathlib.Nat.{add-zero}
+-- Two rules that are linear over xor and agree on the powers of two below 2 ^ k agree below 2 ^ k.
+use Prim.Native.Nat.{ℕ, zero, suc, _+_, _-_, _*_, _/_, _%_, _^_, _<_}
+use native.Mathlib.Nat.{add-zero, pow-succ'}
 use native.Mathlib.Omega.{arith}
-use mathlib.Core.Path.{_≡_, refl, sym, ap, ap₂, _∙_}
-use mathlib.Core.List.{List, [], _∷_, _++_, flatMap}
+use native.Mathlib.Decide.{decLt}
+use mathlib.Core.Bool.{Bool, true, false, _&&_}
+use mathlib.Core.Path.{_≡_, sym, ap, ap₂, _∙_}
 use lib.Pow.{pow-pos}
-use lib.Bits.{bitXor, xor-block}
-use Rattle.format.specs.Bits.{bitsOf}
-use Rattle.format.specs.Check.{checkOf, remainder}
-use Rattle.crc.specs.Running.{nextCheck, entryOf, entries, farEntryOf, farEntries}
-use Rattle.crc.proofs.Running.{check-xor}
-use Rattle.crc.proofs.Two.{next-xor}
-use Rattle.crc.proofs.Spanned.{powers, spanned, three-spans}
+use lib.Dec.{T, eqb, eqb→eq}
+use lib.Bits.{bitXor, xor-self, xor-shr, xor-mod, xor-shifted, xor-block}
+use Rattle.crc.proofs.Xor.{xor-swap}
 
--- the check of the byte k with p bytes below it, and what it leaves when one word more has gone by
-abbrev pub near : ℕ → ℕ → ℕ
-near p k = checkOf (k * 2 ^ (8 * p) ∷ [])
+abbrev pub Linear : (ℕ → ℕ) → Type 0
+Linear f = (x y : ℕ) → f (bitXor x y) ≡ bitXor (f x) (f y)
 
-abbrev pub far : ℕ → ℕ → ℕ
-far p k = nextCheck (near p k) 0
+pub raised : (k : ℕ) → Linear (λ x. x * 2 ^ k)
+raised k x y =
+    sym (ap₂ bitXor (sym (add-zero (x * 2 ^ k))) (sym (add-zero (y * 2 ^ k))) ∙ xor-block k x y 0 0 (pow-pos k) (pow-pos k) ∙ add-zero (bitXor x y * 2 ^ k))
 
-shifted : (n x y : ℕ) → bitXor x y * 2 ^ n ≡ bitXor (x * 2 ^ n) (y * 2 ^ n)
-shifted n x y =
-    sym (ap₂ bitXor (sym (add-zero (x * 2 ^ n))) (sym (add-zero (y * 2 ^ n))) ∙ xor-block n x y 0 0 (pow-pos n) (pow-pos n) ∙ add-zero (bitXor x y * 2 ^ n))
+pub lowered : (k : ℕ) → Linear (λ x. x / 2 ^ k)
+lowered k x y = xor-shr x y k
 
-near-xor : (p x y : ℕ) → near p (bitXor x y) ≡ bitXor (near p x) (near p y)
-near-xor p x y = ap (λ (n : ℕ). checkOf (n ∷ [])) (shifted (8 * p) x y) ∙ check-xor (x * 2 ^ (8 * p)) (y * 2 ^ (8 * p))
+pub kept : (k : ℕ) → Linear (λ x. x % 2 ^ k)
+kept k x y = xor-mod x y k
 
-far-xor : (p x y : ℕ) → far p (bitXor x y) ≡ bitXor (far p x) (far p y)
-far-xor p x y = ap (λ (n : ℕ). nextCheck n 0) (near-xor p x y) ∙ next-xor (near p x) (near p y) 0 0
+pub after : (f g : ℕ → ℕ) → Linear f → Linear g → Linear (λ x. f (g x))
+after f g lf lg x y = ap f (lg x y) ∙ lf (g x) (g y)
 
-none : (p : ℕ) → 0 * 2 ^ (8 * p) ≡ 0
-none p = omega arith
+pub added : (f g : ℕ → ℕ) → Linear f → Linear g → Linear (λ x. bitXor (f x) (g x))
+added f g lf lg x y = ap₂ bitXor (lf x y) (lg x y) ∙ xor-swap (f x) (f y) (g x) (g y)
 
-near-none : (p : ℕ) → near p 0 ≡ 0
-unfolding checkOf remainder bitsOf flatMap
-near-none p = ap (λ (n : ℕ). checkOf (n ∷ [])) (none p)
+pub none : (f : ℕ → ℕ) → Linear f → f 0 ≡ 0
+none f lf = lf 0 0 ∙ xor-self (f 0)
 
-far-none : (p : ℕ) → far p 0 ≡ 0
-unfolding nextCheck checkOf remainder bitsOf flatMap
-far-none p = ap (λ (n : ℕ). nextCheck n 0) (near-none p)
+-- computed at the powers of two
+abbrev pub agree : (ℕ → ℕ) → (ℕ → ℕ) → ℕ → Bool
+agree f g zero = true
+agree f g (suc k) = eqb (f (2 ^ k)) (g (2 ^ k)) && agree f g k
 
-near-at : (p k : ℕ) → k < 256 → entryOf (p * 256 + k) ≡ near p k
-unfolding entryOf
-near-at p k h =
-    let q : (p * 256 + k) / 256 ≡ p = omega arith in
-    let m : (p * 256 + k) % 256 ≡ k = omega arith in
-    ap₂ (λ (x y : ℕ). checkOf (x * 2 ^ (8 * y) ∷ [])) m q
+both : (a b : Bool) → T (a && b) → T a × T b
+both true b t = (tt, t)
+both false b t = absurd t
 
-far-at : (p k : ℕ) → k < 256 → farEntryOf (p * 256 + k) ≡ far p k
-unfolding farEntryOf
-far-at p k h = ap (λ (n : ℕ). nextCheck n 0) (near-at p k h)
+-- a number of k + 1 bits that has the highest of them
+topped : (k x : ℕ) → 2 ^ k + (x - 2 ^ k) ≡ x → x - 2 ^ k < 2 ^ k → bitXor (2 ^ k) (x - 2 ^ k) ≡ x
+topped k x e h =
+    let o : 2 ^ k ≡ 1 * 2 ^ k = omega arith in
+    ap (λ (m : ℕ). bitXor m (x - 2 ^ k)) o ∙ xor-shifted 1 k (x - 2 ^ k) h ∙ ap (λ (m : ℕ). m + (x - 2 ^ k)) (sym o) ∙ e
 
-pub entries-spanned : entries ≡ spanned (powers (near 0) 8) ++ (spanned (powers (near 1) 8) ++ spanned (powers (near 2) 8))
-unfolding entries
-entries-spanned = three-spans entryOf near near-at near-xor near-none
+-- one bit more
+more : (f g : ℕ → ℕ) → Linear f → Linear g → (k : ℕ) → f (2 ^ k) ≡ g (2 ^ k) → ((x : ℕ) → x < 2 ^ k → f x ≡ g x) → (x : ℕ) → x < 2 ^ suc k → f x ≡ g x
+more f g lf lg k top low x h = go (decLt x (2 ^ k))
+  where
+    go : Dec (x < 2 ^ k) → f x ≡ g x
+    go (yes l) = low x l
+    go (no l) =
+        let d : 2 ^ suc k ≡ 2 ^ k + 2 ^ k = rw (pow-succ' 2 k) (omega arith) in
+        let r : ℕ = x - 2 ^ k in
+        let hr : r < 2 ^ k = omega arith in
+        let e : bitXor (2 ^ k) r ≡ x = topped k x (omega arith) hr in
+        ap f (sym e) ∙ lf (2 ^ k) r ∙ ap₂ bitXor top (low r hr) ∙ sym (lg (2 ^ k) r) ∙ ap g e
 
-pub far-spanned : farEntries ≡ spanned (powers (far 0) 8) ++ (spanned (powers (far 1) 8) ++ spanned (powers (far 2) 8))
-unfolding farEntries
-far-spanned = three-spans farEntryOf far far-at far-xor far-none
+pub agreed : (f g : ℕ → ℕ) → Linear f → Linear g → (k : ℕ) → T (agree f g k) → (x : ℕ) → x < 2 ^ k → f x ≡ g x
+agreed f g lf lg zero t x h =
+    let z : x ≡ 0 = omega arith in
+    ap f z ∙ none f lf ∙ sym (ap g z ∙ none g lg)
+agreed f g lf lg (suc k) t x h =
+    let p = both (eqb (f (2 ^ k)) (g (2 ^ k))) (agree f g k) t in
+    more f g lf lg k (eqb→eq (f (2 ^ k)) (g (2 ^ k)) (p .0)) (agreed f g lf lg k (p .1)) x h

@@ -1,2 +1,3 @@
 -- What the contracts cite beside the definitions of `format`.
 pub mod Running
+pub mod Sum

@@ -1,5 +1,5 @@
--- The check of a frame, a word at a time; the three tables, one a byte of the word; and three that go a word further.
-use Prim.Native.Nat.{ℕ, _*_, _/_, _%_, _^_}
+-- The check of a frame, a word at a time.
+use Prim.Native.Nat.{ℕ, _*_, _^_}
 use mathlib.Core.List.{List, [], _∷_}
 use lib.Bits.{bitXor}
 use Rattle.format.specs.Check.{checkOf}
@@ -15,16 +15,10 @@ unfoldable pub checkFrom : ℕ → List ℕ → ℕ
 checkFrom r [] = r
 checkFrom r (w ∷ ws) = checkFrom (nextCheck r w) ws
 
--- the check of a word that has only the byte i % 256, with i / 256 bytes below it
-unfoldable pub entryOf : ℕ → ℕ
-entryOf i = checkOf (i % 256 * 2 ^ (8 * (i / 256)) ∷ [])
+-- the same word n times
+abbrev pub same : ℕ → ℕ → List ℕ
+same w n = list (λ i. w) 0 n
 
-unfoldable pub entries : List ℕ
-entries = list entryOf 0 768
-
--- what this byte leaves when one word more has gone by
-unfoldable pub farEntryOf : ℕ → ℕ
-farEntryOf i = nextCheck (entryOf i) 0
-
-unfoldable pub farEntries : List ℕ
-farEntries = list farEntryOf 0 768
+-- the check of five more of the same word
+abbrev pub nextFive : ℕ → ℕ → ℕ
+nextFive r w = nextCheck (nextCheck (nextCheck (nextCheck (nextCheck r w) w) w) w) w

@@ -1,50 +1,147 @@
-// The remainder by X^16 + X^15 + X^2 + 1 (document 01, "Groups"), a 24-bit word at a time.
+// The remainder by X^16 + X^15 + X^2 + 1 (document 01, "Groups"), without tables.
+//
+// X^16 + X^15 + X^2 + 1 is (X + 1) (X^15 + X + 1), and X^15 is X + 1 by the second of these: so a product by a power of X is a few
+// shifts, and X^30 is X^2 + 1. What is kept is the words so far by X^15 + X + 1, in 30 bits, and their sum bit by bit, whose parity
+// is the remainder by X + 1.
 
 ghost use mathlib.Core.Path.{_≡_};
+ghost use mathlib.Core.List.{[], _∷_};
 ghost use Prim.Native.Nat.{_<_, _^_};
-ghost use lib.ListN.{getD};
-ghost use Rattle.crc.specs.Running.{nextCheck, entries, farEntries};
+ghost use lib.Bits.{bitXor};
+ghost use Rattle.crc.specs.Running.{nextFive, same};
+ghost use Rattle.crc.specs.Sum.{Small, Sums, Added, Summed, checkOfSum, folded, reduced};
+use word::is_odd;
 
-mod far;
-mod table;
-
-// The tables, to be made once and lent to each `step`: a constant is copied wherever it is named.
-pub fn tables() -> [u32; 768]
-    ensures { λ r. ⌜ r ≡ entries ⌝ }
-{
-    table::ENTRIES
+// The words so far.
+pub struct Sum {
+    pub rest: u64,
+    pub ones: u64,
 }
 
-// The tables for the first of two words, for `step_two`.
-pub fn far_tables() -> [u32; 768]
-    ensures { λ r. ⌜ r ≡ farEntries ⌝ }
+// A number of up to 58 bits by X^30 + X^2 + 1.
+fn fold(v: u64) -> u64
+    requires { ⌜ v < 2 ^ 58 ⌝ }
+    ensures { λ r. ⌜ r ≡ folded v ⌝ }
 {
-    far::ENTRIES
+    let over = v / 0x40000000;
+    v % 0x40000000 ^ over ^ over * 4
 }
 
-fn entry(tables: &[u32; 768], at: u32) -> u32
-    requires { ⌜ at < 768 ⌝ }
-    ensures { λ r. ⌜ r ≡ getD (now (tables .entry)) at 0 ⌝ }
+// A number of up to 45 bits by X^15 + X + 1, but for what that leaves above 15 bits.
+fn reduce(v: u64) -> u64
+    requires { ⌜ v < 2 ^ 45 ⌝ }
+    ensures { λ r. ⌜ r ≡ reduced v ⌝ }
 {
-    tables[at as usize]
+    let over = v / 0x8000;
+    v % 0x8000 ^ over ^ over * 2
 }
 
-// The check of one word more, after words that have this check; a frame starts from 0.
-pub fn step(tables: &[u32; 768], check: u32, word: u32) -> u32
-    requires { ⌜ (now tables ≡ entries) × (check < 2 ^ 16) × (word < 2 ^ 24) ⌝ }
-    ensures { λ r. ⌜ (r ≡ nextCheck check word) × (r < 2 ^ 16) ⌝ }
-{
-    let x = check ^ word / 0x100;
-    entry(tables, word % 0x100) ^ entry(tables, 256 + x % 0x100) ^ entry(tables, 512 + x / 0x100)
-}
+impl Sum {
+    // No words.
+    pub fn start() -> Sum
+        ensures { λ r. ⌜ Sums [] r ⌝ }
+    {
+        Sum { rest: 0, ones: 0 }
+    }
 
-// The check of two words more. The second has its check from 0, and what the first leaves is brought past it by
-// the far tables: so a run of words waits for one look-up in two words, where `step` waits for one a word.
-pub fn step_two(tables: &[u32; 768], far: &[u32; 768], check: u32, first: u32, second: u32) -> u32
-    requires { ⌜ (now tables ≡ entries) × (now far ≡ farEntries) × (check < 2 ^ 16) × (first < 2 ^ 24) × (second < 2 ^ 24) ⌝ }
-    ensures { λ r. ⌜ (r ≡ nextCheck (nextCheck check first) second) × (r < 2 ^ 16) ⌝ }
-{
-    let apart = step(tables, 0, second) ^ entry(far, first % 0x100);
-    let x = check ^ first / 0x100;
-    apart ^ (entry(far, 256 + x % 0x100) ^ entry(far, 512 + x / 0x100))
+    // One word more: the words so far by X^24, which is X^9 (X + 1).
+    pub fn add(self, word: u32) -> Sum
+        requires { ⌜ Small self × (word < 2 ^ 24) ⌝ }
+        ensures { λ r. ⌜ Added self (word ∷ []) r ⌝ }
+    {
+        let rest = self.rest;
+        let wide = word as u64;
+        Sum {
+            rest: fold((rest ^ rest * 2) * 0x200 ^ wide),
+            ones: self.ones ^ wide,
+        }
+    }
+
+    // Two words more: the words so far by X^48, which is X^3 (X + 1) (X^2 + 1).
+    pub fn add_two(self, one: u32, two: u32) -> Sum
+        requires { ⌜ Small self × (one < 2 ^ 24) × (two < 2 ^ 24) ⌝ }
+        ensures { λ r. ⌜ Added self (one ∷ two ∷ []) r ⌝ }
+    {
+        let rest = self.rest;
+        let odd = rest ^ rest * 2;
+        let far = odd ^ odd * 4;
+        let both = one as u64 * 0x1000000 + two as u64;
+        Sum {
+            rest: fold(far * 8 ^ both),
+            ones: self.ones ^ (one ^ two) as u64,
+        }
+    }
+
+    // The words so far by X^120, which is X^8 + 1, and five more whose sum is `five`.
+    fn add_five(self, five: Sum) -> Sum
+        requires { ⌜ Small self × Small five ⌝ }
+        ensures { λ r. ⌜ Small r × (checkOfSum r ≡ bitXor (nextFive (checkOfSum self) 0) (checkOfSum five)) ⌝ }
+    {
+        let rest = self.rest;
+        Sum {
+            rest: fold(rest * 0x100 ^ rest ^ five.rest),
+            ones: self.ones ^ five.ones,
+        }
+    }
+
+    // The same word so many times more.
+    pub fn add_same(self, word: u32, times: usize) -> Sum
+        requires { ⌜ Small self × (word < 2 ^ 24) ⌝ }
+        ensures { λ r. ⌜ Added self (same word times) r ⌝ }
+    {
+        let five = Sum::start()
+            .add(word)
+            .add_two(word, word)
+            .add_two(word, word);
+        let mut sum = self;
+        let mut left = times;
+        while 5 <= left {
+            sum = sum.add_five(five);
+            left -= 5;
+        }
+        while 0 < left {
+            sum = sum.add(word);
+            left -= 1;
+        }
+        sum
+    }
+
+    // The same for a plan with CRC; without it nothing is summed.
+    pub fn with_one(self, crc: bool, word: u32) -> Sum
+        requires { ⌜ Small self × (word < 2 ^ 24) ⌝ }
+        ensures { λ r. ⌜ Summed crc self (word ∷ []) r ⌝ }
+    {
+        if crc { self.add(word) } else { self }
+    }
+
+    pub fn with_two(self, crc: bool, one: u32, two: u32) -> Sum
+        requires { ⌜ Small self × (one < 2 ^ 24) × (two < 2 ^ 24) ⌝ }
+        ensures { λ r. ⌜ Summed crc self (one ∷ two ∷ []) r ⌝ }
+    {
+        if crc { self.add_two(one, two) } else { self }
+    }
+
+    pub fn with_same(self, crc: bool, word: u32, times: usize) -> Sum
+        requires { ⌜ Small self × (word < 2 ^ 24) ⌝ }
+        ensures { λ r. ⌜ Summed crc self (same word times) r ⌝ }
+    {
+        if crc {
+            self.add_same(word, times)
+        } else {
+            self
+        }
+    }
+
+    // The remainder of the words and 16 zero bits: by X^16, which is X (X + 1), and then by X^15 + X + 1 to the end.
+    pub fn check(self) -> u32
+        requires { ⌜ Small self ⌝ }
+        ensures { λ r. ⌜ (r ≡ checkOfSum self) × (r < 2 ^ 16) ⌝ }
+    {
+        let rest = self.rest;
+        let less = reduce(reduce(rest * 2 ^ rest * 4)) as u32;
+        if is_odd(less ^ self.ones as u32) {
+            return less ^ 0x8003;
+        }
+        less
+    }
 }

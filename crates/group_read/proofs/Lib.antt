@@ -3,3 +3,8 @@ pub mod Numbers
 pub mod Places
 pub mod Times
 pub mod Search
+pub mod Frame
+pub mod Dealing
+pub mod Words
+pub mod Moved
+pub mod Answers

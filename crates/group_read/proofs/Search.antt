@@ -15,10 +15,11 @@ use Rattle.format.specs.Group.{Fault, none, found, orElse, unless, firstOf, fau
 use Rattle.format.specs.declared.Plan.{Plan}
 use Rattle.crc.specs.Running.{nextCheck, checkFrom}
 use Rattle.crc.proofs.Running.{check-is-from, check-more}
-use native.Mathlib.Decide.{decLt}
-use Rattle.group_read.specs.Reach.{checkSoFar, Clean}
-use Rattle.group_read.specs.declared.Reached.{Reached}
 use Rattle.group_read.specs.Faults.{numberUnless, earlierNumber, wordNumber}
+
+-- the check of the j words from the place `first` on, 0 where no CRC word is chosen
+abbrev pub checkSoFar : Bool → List ℕ → ℕ → ℕ → ℕ
+checkSoFar crc c first j = cond crc (checkOf (list (wordAt c) first j)) 0
 
 or-else-assoc : (a b d : Fault) → orElse (orElse a b) d ≡ orElse a (orElse b d)
 or-else-assoc none b d = refl
@@ -84,7 +85,7 @@ pub check-of-more : (crc : Bool) (c : List ℕ) (first j : ℕ) {w check r : ℕ
     → r ≡ cond crc (nextCheck check w) check → r ≡ checkSoFar crc c first (j + 1)
 check-of-more crc c first j e k h = h ∙ rw (e, k) (check-goes-on crc c first j)
 
-check-of-two : (crc : Bool) (c : List ℕ) (first j : ℕ) {one two check r : ℕ} → one ≡ wordAt c (first + j) → two ≡ wordAt c (first + (j + 1)) → check ≡ checkSoFar crc c first j
+pub check-of-two : (crc : Bool) (c : List ℕ) (first j : ℕ) {one two check r : ℕ} → one ≡ wordAt c (first + j) → two ≡ wordAt c (first + (j + 1)) → check ≡ checkSoFar crc c first j
     → r ≡ cond crc (nextCheck (nextCheck check one) two) check → r ≡ checkSoFar crc c first (j + 2)
 check-of-two true c first j {one} {two} {check} e f k h =
     let s : j + 1 + 1 ≡ j + 2 = omega arith in
@@ -100,61 +101,16 @@ pub check-word-low : (r : ℕ) → r < 2 ^ 16 → wordOf 0 3 r < 2 ^ 24
 unfolding wordOf
 check-word-low r h = omega arith
 
--- ---- the words of a frame that have no fault
-
-not-due : (crc : Bool) (n : ℕ) → cond (crc && false) n 0 ≡ 0
-not-due true n = refl
-not-due false n = refl
-
-number-fine : (parity crc last : Bool) (r w : ℕ) → last ≡ false → (not parity || isOdd w) ≡ true → wordNumber parity (crc && last) r w ≡ 0
-unfolding wordNumber
-number-fine parity crc last r w e o = rw (e, o) (not-due crc (numberUnless (eqb w (sent parity (wordOf 0 3 r))) 11))
+-- ---- two words
 
 pub not-both : {b : Bool} → b ≡ true → b ≡ false → ⊥
 not-both {b} h g = let z : _≡_ {A = ℕ} 0 1 = ap (λ (x : Bool). cond x 0 1) (sym h ∙ g) in absurd (omega arith)
 
-both-odd : (parity a b : Bool) → (not parity || a && b) ≡ true → ((not parity || a) ≡ true) × ((not parity || b) ≡ true)
+pub both-odd : (parity a b : Bool) → (not parity || a && b) ≡ true → ((not parity || a) ≡ true) × ((not parity || b) ≡ true)
 both-odd true true true e = (refl, refl)
 both-odd true true false e = (refl, e)
 both-odd true false b e = (e, absurd (not-both e refl))
 both-odd false a b e = (refl, refl)
-
-module _ (p : Plan) (c : List ℕ) (first : ℕ) where
-  word-fine : (j : ℕ) {w : ℕ} → 1 ≤ j → j + 1 < p .words → w ≡ wordAt c (first + j) → (not (p .parity) || isOdd w) ≡ true → faultAt p c first j ≡ none
-  word-fine j h l e o =
-      fault-number p c first j h
-      ∙ ap (λ (n : ℕ). numbered n (first + j)) (number-fine (p .parity) (p .crc) (eqb (j + 1) (p .words)) (checkSoFar (p .crc) c first j) (wordAt c (first + j)) (ne-eqb (j + 1) (p .words) (λ z. omega arith)) (rw e at o))
-
-  -- without parity and CRC the other words have no fault
-  quiet : (j : ℕ) → 1 ≤ j → p .parity ≡ false → p .crc ≡ false → faultAt p c first j ≡ none
-  unfolding faultAt
-  quiet zero h a b = absurd (omega arith)
-  quiet (suc j) h a b = rw (a, b) refl
-
-  pub clean-start : (parity crc : Bool) → p .parity ≡ parity → p .crc ≡ crc → 1 ≤ p .words → (check k : ℕ) → check < 2 ^ 16 → check ≡ checkSoFar (p .crc) c first 1
-      → k ≡ cond (parity || crc) 1 (p .words) → Clean p c first (record { position = k; check = check })
-  clean-start true crc a b h check k l e z =
-      record { past = omega arith; within = omega arith; low = l; is = e ∙ ap (checkSoFar (p .crc) c first) (sym z); fine = λ j m n. absurd (omega arith) }
-  clean-start false true a b h check k l e z =
-      record { past = omega arith; within = omega arith; low = l; is = e ∙ ap (checkSoFar (p .crc) c first) (sym z); fine = λ j m n. absurd (omega arith) }
-  clean-start false false a b h check k l e z =
-      record { past = omega arith; within = omega arith; low = l; is = e ∙ rw b refl; fine = λ j m n. quiet j m a b }
-
-  one-more : (k : ℕ) → ((j : ℕ) → 1 ≤ j → j < k → faultAt p c first j ≡ none) → faultAt p c first k ≡ none → (j : ℕ) → 1 ≤ j → j < k + 1 → faultAt p c first j ≡ none
-  one-more k f g j m n = go (decLt j k)
-    where
-      go : Dec (j < k) → faultAt p c first j ≡ none
-      go (yes l) = f j m l
-      go (no l) = let e : j ≡ k = omega arith in ap (faultAt p c first) e ∙ g
-
-  pub clean-two : (q : Reached) → Clean p c first q → q .position + 2 < p .words → {one two check : ℕ} → one ≡ wordAt c (first + q .position) → two ≡ wordAt c (first + q .position + 1)
-      → (not (p .parity) || isOdd one && isOdd two) ≡ true → check < 2 ^ 16 → check ≡ cond (p .crc) (nextCheck (nextCheck (q .check) one) two) (q .check)
-      → Clean p c first (record { position = q .position + 2; check = check })
-  clean-two q k h {one} {two} {check} e f o l z =
-      let b = both-odd (p .parity) (isOdd one) (isOdd two) o in
-      let s : first + q .position + 1 ≡ first + (q .position + 1) = omega arith in
-      let f' : two ≡ wordAt c (first + (q .position + 1)) = f ∙ ap (wordAt c) s in
-      record { past = omega (arith, k .past); within = omega arith; low = l; is = check-of-two (p .crc) c first (q .position) e f' (k .is) z; fine = λ j m n. one-more (q .position + 1) (one-more (q .position) (k .fine) (word-fine (q .position) (k .past) (omega arith) e (b .0))) (word-fine (q .position + 1) (omega arith) (omega arith) f' (b .1)) j m (omega arith) }
 
 -- ---- the rest of the search
 
@@ -218,15 +174,3 @@ module _ (p : Plan) (c : List ℕ) (at : ℕ) where
 
       pub word-good : number ≡ 0 → restOfTrack t j ≡ restOfTrack t (j + 1)
       word-good n = word-first ∙ rw n
-
-    past-some : (n j : ℕ) → j + n ≤ p .words → ((i : ℕ) → j ≤ i → i < j + n → faultAt p c (at + t * p .words) i ≡ none) → restOfTrack t j ≡ restOfTrack t (j + n)
-    past-some zero j h f = let z : j ≡ j + 0 = omega arith in ap (restOfTrack t) z
-    past-some (suc n) j h f =
-        let z : j + 1 + n ≡ j + suc n = omega arith in
-        rest-word t j (omega arith) ∙ ap (λ (x : Fault). orElse x (restOfTrack t (j + 1))) (f j (omega arith) (omega arith))
-        ∙ past-some n (j + 1) (omega arith) (λ i a b. f i (omega arith) (omega arith)) ∙ ap (restOfTrack t) z
-
-    pub past-clean : (q : Reached) → Clean p c (at + t * p .words) q → restOfTrack t 1 ≡ restOfTrack t (q .position)
-    past-clean q k =
-        let z : 1 + (q .position - 1) ≡ q .position = omega (arith, k .past) in
-        past-some (q .position - 1) 1 (omega (arith, k .within)) (λ i a b. k .fine i a (omega arith)) ∙ ap (restOfTrack t) z

@@ -1,20 +1,15 @@
 -- A group's fault as number and place, and the tests that make it (document 01, "Answers by number").
-use Prim.Native.Nat.{ℕ}
+use Prim.Native.Nat.{ℕ, _+_}
 use mathlib.Core.Bool.{Bool, true, false, cond, not, _&&_, _||_}
 use lib.Dec.{ltb, eqb}
 use Rattle.format.specs.Word.{wordOf, busOf, labelOf, infoOf, isOdd, sent}
 use Rattle.format.specs.Group.{Fault as GroupFault, none, found}
-use Rattle.format.specs.declared.Plan.{Plan}
 use Rattle.group_read.specs.declared.Fault.{Fault}
 
 -- "number 0, place 0" where there is none
 abbrev pub faultOf : GroupFault → Fault
 faultOf none = record { number = 0; place = 0 }
 faultOf (found n q) = record { number = n; place = q }
-
--- the first position of a frame that can have a fault, past its sync word
-abbrev pub firstChecked : Plan → ℕ
-firstChecked p = cond (p .parity || p .crc) 1 (p .words)
 
 abbrev pub earlierFault : Fault → Fault → Fault
 earlierFault a b = cond (eqb (a .number) 0) b a
@@ -39,3 +34,11 @@ dueNumber parity due r w = cond due (numberUnless (eqb w (sent parity (wordOf 0 
 -- "10 for any other, 11 after 10 for a CRC word"
 unfoldable pub wordNumber : Bool → Bool → ℕ → ℕ → ℕ
 wordNumber parity due r w = earlierNumber (numberUnless (not parity || isOdd w) 10) (dueNumber parity due r w)
+
+-- the last word of a frame after words whose check is r, if it is a CRC word
+unfoldable pub lastNumber : Bool → Bool → ℕ → ℕ → ℕ
+lastNumber parity crc r w = cond crc (wordNumber parity true r w) 0
+
+-- of two words of which one is even, with parity, the place of that: the first stands at `place`
+abbrev pub evenPlace : Bool → ℕ → ℕ → ℕ
+evenPlace parity one place = cond (not parity || isOdd one) (place + 1) place

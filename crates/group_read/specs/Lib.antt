@@ -1,4 +1,3 @@
 -- What the contracts cite beside the definitions of `format`.
-pub mod Position
 pub mod Faults
-pub mod Reach
+pub mod Row

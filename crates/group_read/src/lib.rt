@@ -1,18 +1,18 @@
-// One group as read: its first fault, its time, and where its dealt words stand.
+// One group as read, from its own bytes: its first fault, its frame time, and its words dealt into a lent row.
 
 ghost use mathlib.Core.Path.{_≡_};
-ghost use mathlib.Core.Bool.{true, cond, not, _&&_, _||_};
-ghost use Prim.Native.Nat.{ℕ, _+_, _*_, _≤_, _<_, _^_};
+ghost use mathlib.Core.Bool.{true, not, _&&_, _||_};
+ghost use Prim.Native.Nat.{_+_, _*_, _≤_, _<_, _^_};
 ghost use lib.ListN.{length};
 ghost use lib.Dec.{eqb};
 ghost use Rattle.format.specs.Word.{wordOf, wordAt, isOdd, sent};
-ghost use Rattle.format.specs.Plan.{lead, groupWords, placeOf};
-ghost use Rattle.format.specs.Group.{none, unless, groupFault, timeFault, timeInfo, groupTime};
-ghost use Rattle.crc.specs.Running.{entries, farEntries, nextCheck};
+ghost use Rattle.format.specs.Plan.{lead, rows, groupWords, placeOf};
+ghost use Rattle.format.specs.Group.{none, unless, timeFault, timeInfo, groupTime};
 ghost use Rattle.format.specs.Laws.Limits.{Shape};
-ghost use Rattle.group_read.specs.Position.{Dealt, Follows, positionOf};
-ghost use Rattle.group_read.specs.Faults.{faultOf, firstChecked, earlierFault, isTimeWord, numberUnless, dueNumber, earlierNumber, wordNumber};
-ghost use Rattle.group_read.specs.Reach.{Clean};
+ghost use Rattle.crc.specs.Sum.{Small, checkOfSum};
+ghost use Rattle.group_read.specs.Faults.{faultOf, earlierFault, isTimeWord, numberUnless, earlierNumber, wordNumber, lastNumber, evenPlace};
+ghost use Rattle.group_read.specs.Row.{dealtCount, Deals};
+use crc::Sum;
 use format::Plan;
 use format::Time;
 
@@ -22,71 +22,39 @@ pub struct Fault {
     pub place: usize,
 }
 
-// Where a dealt word stands: its track, and its stored place in the capture.
-pub struct Position {
-    pub track: usize,
-    pub place: usize,
-}
-
-// How far a frame is checked: the position reached, and the check of the words before it.
-struct Reached {
-    position: usize,
-    check: u32,
-}
-
-// The first data slot of the group whose first stored word is `at`.
-pub fn first_slot(plan: Plan, at: usize) -> Position
-    requires { ⌜ Shape plan × (at ≤ 1048576) ⌝ }
-    ensures { λ r. ⌜ r ≡ positionOf plan at (lead plan) ⌝ }
+// The time words in front of a group's data.
+pub fn lead(plan: Plan) -> usize
+    ensures { λ r. ⌜ r ≡ lead plan ⌝ }
 {
-    if plan.frame_time {
-        return Position {
-            track: 3 % plan.tracks,
-            place: at + (3 % plan.tracks * plan.words + 3 / plan.tracks + 1),
-        };
-    }
-    Position {
-        track: 0,
-        place: at + 1,
+    if plan.frame_time { 3 } else { 0 }
+}
+
+// The rows that are dealt: all but the sync word and, with CRC, the last.
+fn dealt_rows(plan: Plan) -> usize
+    requires { ⌜ Shape plan ⌝ }
+    ensures { λ r. ⌜ r ≡ rows plan ⌝ }
+{
+    if plan.crc {
+        plan.words - 2
+    } else {
+        plan.words - 1
     }
 }
 
-// The dealt word behind the one that stands there: in the next track, or in the first and a row further.
-pub fn next_slot(plan: Plan, at: Position) -> Position
-    requires { ⌜ Shape plan × Dealt plan at ⌝ }
-    ensures { λ r. ⌜ Follows plan at r ⌝ }
+// Where a dealt word stands in its group: "word 2 of track 1, of track 2, and so on, then word 3".
+pub fn place_of(plan: Plan, dealt: usize) -> usize
+    requires { ⌜ Shape plan × (dealt < dealtCount plan) ⌝ }
+    ensures { λ r. ⌜ (r ≡ placeOf plan dealt) × (r < groupWords plan) ⌝ }
 {
-    if plan.tracks == 1 {
-        return Position {
-            track: at.track,
-            place: at.place + 1,
-        };
-    }
-    if at.track + 1 < plan.tracks {
-        return Position {
-            track: at.track + 1,
-            place: at.place + plan.words,
-        };
-    }
-    Position {
-        track: 0,
-        place: at.place + 1 - (plan.tracks - 1) * plan.words,
-    }
+    dealt % plan.tracks * plan.words + dealt / plan.tracks + 1
 }
 
-fn time_place(plan: Plan, at: usize, dealt: usize) -> usize
-    requires { ⌜ Shape plan × (at ≤ 1048576) × (dealt < 3) ⌝ }
-    ensures { λ r. ⌜ r ≡ at + placeOf plan dealt ⌝ }
+// The stored word at a place of the group.
+fn stored_word(group: &[u8], place: usize) -> u32
+    requires { ⌜ 3 * (place + 1) ≤ length (now group) ⌝ }
+    ensures { λ r. ⌜ (r ≡ wordAt (now (group .entry)) place) × (r < 2 ^ 24) ⌝ }
 {
-    at + (dealt % plan.tracks * plan.words + dealt / plan.tracks + 1)
-}
-
-// The stored word at a place of the capture.
-fn stored_word(capture: &[u8], place: usize) -> u32
-    requires { ⌜ (3 * (place + 1) ≤ length (now capture)) × (length (now capture) ≤ 1048576) ⌝ }
-    ensures { λ r. ⌜ (r ≡ wordAt (now (capture .entry)) place) × (r < 2 ^ 24) ⌝ }
-{
-    word::word_at(capture, 3 * place)
+    word::word_at(group, 3 * place)
 }
 
 fn no_fault() -> Fault
@@ -117,44 +85,45 @@ fn is_time_word(parity: bool, word: u32, label: u32, end: u32) -> bool
     word::information_of(word) < end
 }
 
-fn time_word_fault(capture: &[u8], parity: bool, place: usize, label: u32, end: u32) -> Fault
-    requires { ⌜ (3 * (place + 1) ≤ length (now capture)) × (length (now capture) ≤ 1048576) ⌝ }
-    ensures { λ r. ⌜ r ≡ faultOf (unless (isTimeWord parity (wordAt (now (capture .entry)) place) label end) 12 place) ⌝ }
+fn time_word_fault(group: &[u8], parity: bool, place: usize, label: u32, end: u32) -> Fault
+    requires { ⌜ 3 * (place + 1) ≤ length (now group) ⌝ }
+    ensures { λ r. ⌜ r ≡ faultOf (unless (isTimeWord parity (wordAt (now (group .entry)) place) label end) 12 place) ⌝ }
 {
-    if is_time_word(parity, stored_word(capture, place), label, end) {
+    if is_time_word(parity, stored_word(group, place), label, end) {
         return no_fault();
     }
     Fault { number: 12, place }
 }
 
-fn time_fault(capture: &[u8], plan: Plan, at: usize) -> Fault
-    requires { ⌜ Shape plan × (3 * (at + groupWords plan) ≤ length (now capture)) × (length (now capture) ≤ 1048576) ⌝ }
-    ensures { λ r. ⌜ r ≡ faultOf (timeFault plan (now (capture .entry)) at) ⌝ }
+fn time_fault(group: &[u8], plan: Plan) -> Fault
+    requires { ⌜ Shape plan × (length (now group) ≡ 3 * groupWords plan) ⌝ }
+    ensures { λ r. ⌜ r ≡ faultOf (timeFault plan (now (group .entry)) 0) ⌝ }
 {
     if plan.frame_time {
-        let high = time_word_fault(capture, plan.parity, time_place(plan, at, 0), 7, 0x10000);
-        let low = time_word_fault(capture, plan.parity, time_place(plan, at, 1), 6, 0x10000);
-        let micro = time_word_fault(capture, plan.parity, time_place(plan, at, 2), 5, 10000);
+        let high = time_word_fault(group, plan.parity, place_of(plan, 0), 7, 0x10000);
+        let low = time_word_fault(group, plan.parity, place_of(plan, 1), 6, 0x10000);
+        let micro = time_word_fault(group, plan.parity, place_of(plan, 2), 5, 10000);
         return earlier(high, earlier(low, micro));
     }
     no_fault()
 }
 
-fn time_information(capture: &[u8], plan: Plan, at: usize, dealt: usize) -> u16
-    requires { ⌜ Shape plan × (3 * (at + groupWords plan) ≤ length (now capture)) × (length (now capture) ≤ 1048576) × (dealt < 3) ⌝ }
-    ensures { λ r. ⌜ r ≡ timeInfo plan (now (capture .entry)) at dealt ⌝ }
+fn time_information(group: &[u8], plan: Plan, dealt: usize) -> u16
+    requires { ⌜ Shape plan × (length (now group) ≡ 3 * groupWords plan) × (dealt < 3) ⌝ }
+    ensures { λ r. ⌜ r ≡ timeInfo plan (now (group .entry)) 0 dealt ⌝ }
 {
-    word::information_of(stored_word(capture, time_place(plan, at, dealt))) as u16
+    word::information_of(stored_word(group, place_of(plan, dealt))) as u16
 }
 
-pub fn group_time(capture: &[u8], plan: Plan, at: usize) -> u64
-    requires { ⌜ Shape plan × (3 * (at + groupWords plan) ≤ length (now capture)) × (length (now capture) ≤ 1048576) ⌝ }
-    ensures { λ r. ⌜ r ≡ groupTime plan (now (capture .entry)) at ⌝ }
+// The frame time of a group.
+pub fn group_time(group: &[u8], plan: Plan) -> u64
+    requires { ⌜ Shape plan × (length (now group) ≡ 3 * groupWords plan) ⌝ }
+    ensures { λ r. ⌜ r ≡ groupTime plan (now (group .entry)) 0 ⌝ }
 {
     word::time_number(Time {
-        high: time_information(capture, plan, at, 0),
-        low: time_information(capture, plan, at, 1),
-        micro: time_information(capture, plan, at, 2),
+        high: time_information(group, plan, 0),
+        low: time_information(group, plan, 1),
+        micro: time_information(group, plan, 2),
     })
 }
 
@@ -180,57 +149,23 @@ fn check_number(parity: bool, check: u32, word: u32) -> u32
     }
 }
 
-fn due_number(parity: bool, crc: bool, last: bool, check: u32, word: u32) -> u32
-    requires { ⌜ check < 2 ^ 16 ⌝ }
-    ensures { λ r. ⌜ r ≡ dueNumber parity (crc && last) check word ⌝ }
-{
-    if crc {
-        if last {
-            check_number(parity, check, word)
-        } else {
-            0
-        }
-    } else {
-        0
-    }
-}
-
 fn earlier_number(first: u32, then: u32) -> u32
     ensures { λ r. ⌜ r ≡ earlierNumber first then ⌝ }
 {
     if first == 0 { then } else { first }
 }
 
-// "10 for any other, 11 after 10 for a CRC word": a word past the sync word, the words before it having this check.
-fn word_number(parity: bool, crc: bool, last: bool, check: u32, word: u32) -> u32
-    requires { ⌜ (check < 2 ^ 16) × (word < 2 ^ 24) ⌝ }
-    ensures { λ r. ⌜ r ≡ wordNumber parity (crc && last) check word ⌝ }
+// "11 after 10 for a CRC word", which is the last of a frame, the words before it having this sum; 0 without CRC.
+fn last_number(group: &[u8], plan: Plan, place: usize, sum: Sum) -> u32
+    requires { ⌜ Small sum × (3 * (place + 1) ≤ length (now group)) ⌝ }
+    ensures { λ r. ⌜ r ≡ lastNumber (plan .parity) (plan .crc) (checkOfSum sum) (wordAt (now (group .entry)) place) ⌝ }
 {
-    let even = parity_number(parity, word);
-    let wrong = due_number(parity, crc, last, check, word);
-    earlier_number(even, wrong)
-}
-
-fn next_check(tables: &[u32; 768], crc: bool, check: u32, word: u32) -> u32
-    requires { ⌜ (crc ≡ true → now tables ≡ entries) × (check < 2 ^ 16) × (word < 2 ^ 24) ⌝ }
-    ensures { λ r. ⌜ (r ≡ cond crc (nextCheck check word) check) × (r < 2 ^ 16) ⌝ }
-{
-    if crc {
-        crc::step(tables, check, word)
-    } else {
-        check
+    if plan.crc {
+        let word = stored_word(group, place);
+        let even = parity_number(plan.parity, word);
+        return earlier_number(even, check_number(plan.parity, sum.check(), word));
     }
-}
-
-fn next_two(tables: &[u32; 768], far: &[u32; 768], crc: bool, check: u32, one: u32, two: u32) -> u32
-    requires { ⌜ (crc ≡ true → now tables ≡ entries) × (crc ≡ true → now far ≡ farEntries) × (check < 2 ^ 16) × (one < 2 ^ 24) × (two < 2 ^ 24) ⌝ }
-    ensures { λ r. ⌜ (r ≡ cond crc (nextCheck (nextCheck check one) two) check) × (r < 2 ^ 16) ⌝ }
-{
-    if crc {
-        crc::step_two(tables, far, check, one, two)
-    } else {
-        check
-    }
+    0
 }
 
 // Neither of two words has a fault of parity.
@@ -245,87 +180,78 @@ fn are_odd(parity: bool, one: u32, two: u32) -> bool
     }
 }
 
-// Without parity and CRC no word past the sync word has a fault: the first position of a frame to look at.
-fn first_checked(plan: Plan) -> usize
-    ensures { λ r. ⌜ r ≡ firstChecked plan ⌝ }
+// Which of two words is even, where one is: the first, or the one behind it.
+fn even_place(parity: bool, one: u32, place: usize) -> usize
+    requires { ⌜ (one < 2 ^ 24) × (place < 2 ^ 32) ⌝ }
+    ensures { λ r. ⌜ r ≡ evenPlace parity one place ⌝ }
 {
-    if plan.parity {
-        return 1;
+    if parity_number(parity, one) == 0 {
+        place + 1
+    } else {
+        place
     }
-    if plan.crc { 1 } else { plan.words }
 }
 
-// Goes on two words a step, for `crc::step_two`: up to a word that has a fault, or near the frame's last word.
-fn skim(
-    capture: &[u8],
-    tables: &[u32; 768],
-    far: &[u32; 768],
-    plan: Plan,
-    first: usize,
-    from: Reached,
-) -> Reached
-    requires { ⌜ Clean plan (now capture) first from × (3 * (first + plan .words) ≤ length (now capture)) × (length (now capture) ≤ 1048576) × (plan .crc ≡ true → now tables ≡ entries) × (plan .crc ≡ true → now far ≡ farEntries) ⌝ }
-    ensures { λ r. ⌜ Clean plan (now (capture .entry)) first r ⌝ }
-{
-    let mut position = from.position;
-    let mut check = from.check;
-    while position + 2 < plan.words {
-        let one = stored_word(capture, first + position);
-        let two = stored_word(capture, first + position + 1);
-        if are_odd(plan.parity, one, two) {
-            check = next_two(tables, far, plan.crc, check, one, two);
-            position += 2;
-        } else {
-            return Reached { position, check };
-        }
-    }
-    Reached { position, check }
-}
-
-// "each word as stored (9 for a frame's first word, 10 for any other, 11 after 10 for a CRC word), then 12"
-pub fn first_fault(
-    capture: &[u8],
-    tables: &[u32; 768],
-    far: &[u32; 768],
-    plan: Plan,
-    at: usize,
-) -> Fault
-    requires { ⌜ Shape plan × (3 * (at + groupWords plan) ≤ length (now capture)) × (length (now capture) ≤ 1048576) × (plan .crc ≡ true → now tables ≡ entries) × (plan .crc ≡ true → now far ≡ farEntries) ⌝ }
-    ensures { λ r. ⌜ r ≡ faultOf (groupFault plan (now (capture .entry)) at) ⌝ }
+// "each word as stored (9 for a frame's first word, 10 for any other, 11 after 10 for a CRC word), then 12"; and the words, each
+// loaded once, stand in the row as they are dealt, two a step. Where there is a fault, that part of the row is work room.
+pub fn deal(group: &[u8], plan: Plan, row: &mut [u32]) -> Fault
+    requires { ⌜ Shape plan × (length (now group) ≡ 3 * groupWords plan) × (dealtCount plan ≤ length (now row)) ⌝ }
+    ensures { λ r. ⌜ Deals plan (now (group .entry)) (now (row .entry)) r (now (row .exit)) ⌝ }
 {
     let words = plan.words;
+    let tracks = plan.tracks;
+    let rows = dealt_rows(plan);
     let mut track: usize = 0;
     let fault = 'scan: loop {
-        if track == plan.tracks {
-            break 'scan time_fault(capture, plan, at);
+        if track == tracks {
+            break 'scan time_fault(group, plan);
         }
-        let first = at + track * words;
-        let sync = stored_word(capture, first);
+        let first = track * words;
+        let sync = stored_word(group, first);
         if sync != word::sync() {
             break 'scan Fault {
                 number: 9,
                 place: first,
             };
         }
-        let synced = next_check(tables, plan.crc, 0, sync);
-        let start = Reached {
-            position: first_checked(plan),
-            check: synced,
-        };
-        let skimmed = skim(capture, tables, far, plan, first, start);
-        let mut check = skimmed.check;
-        let mut position = skimmed.position;
-        while position < words {
-            let word = stored_word(capture, first + position);
-            let number = word_number(plan.parity, plan.crc, position + 1 == words, check, word);
+        let mut sum = Sum::start().with_one(plan.crc, sync);
+        let mut slot = track;
+        let mut position: usize = 1;
+        while position < rows {
+            let place = first + position;
+            let one = stored_word(group, place);
+            let two = stored_word(group, place + 1);
+            if !are_odd(plan.parity, one, two) {
+                break 'scan Fault {
+                    number: 10,
+                    place: even_place(plan.parity, one, place),
+                };
+            }
+            sum = sum.with_two(plan.crc, one, two);
+            row[slot] = one;
+            row[slot + tracks] = two;
+            slot += 2 * tracks;
+            position += 2;
+        }
+        if position <= rows {
+            let word = stored_word(group, first + position);
+            let number = parity_number(plan.parity, word);
             if number != 0 {
                 break 'scan Fault {
                     number,
                     place: first + position,
                 };
             }
-            check = next_check(tables, plan.crc, check, word);
-            position += 1;
+            sum = sum.with_one(plan.crc, word);
+            row[slot] = word;
+        }
+        let last = first + (words - 1);
+        let number = last_number(group, plan, last, sum);
+        if number != 0 {
+            break 'scan Fault {
+                number,
+                place: last,
+            };
         }
         track += 1;
     };

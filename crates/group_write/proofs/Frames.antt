@@ -2,7 +2,7 @@
 use Prim.Native.Nat.{ℕ, suc, _+_, _^_, _<_}
 use native.Mathlib.Omega.{arith}
 use mathlib.Core.Bool.{Bool, true, false}
-use mathlib.Core.Path.{_≡_, refl, sym, ap, _∙_}
+use mathlib.Core.Path.{_≡_, refl, ap, _∙_}
 use mathlib.Core.List.{List, [], _∷_, _++_, flatMap}
 use lib.ListN.{length}
 use Rattle.format.specs.Word.{sync}
@@ -11,7 +11,9 @@ use Rattle.format.specs.Group.{frame, group}
 use Rattle.format.specs.Check.{checkWord}
 use Rattle.format.specs.Lists.{list}
 use Rattle.format.specs.declared.Plan.{Plan}
-use Rattle.crc.specs.Running.{nextCheck, checkFrom}
+use Rattle.crc.specs.Sum.{Sums, Summed}
+use Rattle.crc.specs.declared.Sum.{Sum}
+use Rattle.crc.proofs.Sums.{sums-more, summed-is}
 use Rattle.format.specs.Laws.Limits.{Shape}
 use Rattle.group_write.specs.Writing.{rowWord, front}
 use Rattle.group_write.proofs.Laws.{blocks-more, length-list, frame-length, group-length}
@@ -34,11 +36,11 @@ pub sync-below : sync < 2 ^ 24
 unfolding sync
 sync-below = omega arith
 
--- ---- the check
-
-pub check-one : (w : ℕ) → nextCheck 0 w ≡ checkFrom 0 (w ∷ [])
-unfolding checkFrom
-check-one w = refl
+-- the sum of the sync word and three runs of rows, with CRC
+pub sums-runs : {crc : Bool} {vs us ts ws all : List ℕ} {r s t u : Sum} → crc ≡ true → Sums vs r → Summed crc r us s → Summed crc s ts t → Summed crc t ws u
+    → ((vs ++ us) ++ ts) ++ ws ≡ all → Sums all u
+sums-runs {crc} {vs} {us} {ts} {ws} e p a b d z =
+    rw (← z) (sums-more ws (sums-more ts (sums-more us p (summed-is e a)) (summed-is e b)) (summed-is e d))
 
 -- the first n frames
 unfoldable pub framesOf : Plan → List ℕ → ℕ → List ℕ

@@ -3,12 +3,10 @@ use Prim.Native.Nat.{ℕ, _+_, _*_, _/_, _%_, _-_, _<_, _≤_}
 use native.Mathlib.Omega.{arith}
 use native.Mathlib.Decide.{decLt}
 use native.Mathlib.Nat.{zero-add, mod-lt, div-add-mod', mul-le-mul-right}
-use mathlib.Core.Bool.{Bool, true, false, cond}
 use mathlib.Core.Path.{_≡_, sym, ap, ap₂, _∙_}
 use mathlib.Core.List.{List, [], _∷_, _++_}
 use lib.ListN.{length, take, getD, List·getD-eq-default}
 use Rattle.format.specs.Word.{sent, sync, fill}
-use Rattle.format.specs.Bits.{bit}
 use Rattle.format.specs.Plan.{rows, lead, slots}
 use Rattle.format.specs.Lists.{list}
 use Rattle.format.specs.declared.Plan.{Plan}

@@ -1,5 +1,6 @@
 -- What the parts of the writer cite: runs of a track's rows, and a frame up to its row n.
 use Prim.Native.Nat.{ℕ, _+_, _*_, _/_, _-_, _^_, _<_, _≤_}
+use mathlib.Core.Path.{_≡_}
 use mathlib.Core.List.{List, _∷_}
 use lib.ListN.{getD, length}
 use Rattle.format.specs.Laws.Limits.{mostRows}
@@ -11,6 +12,10 @@ use Rattle.format.specs.declared.Plan.{Plan}
 -- words that leave bit 1 to the parity, where it is chosen
 abbrev pub Unsent : Plan → List ℕ → Type 0
 Unsent p ws = All (λ w. w < buses (p .parity) * 2 ^ 20) ws
+
+-- three words for the time, whether they are dealt or not
+abbrev pub Timed : Plan → List ℕ → Type 0
+Timed p ts = Unsent p ts × (length ts ≡ 3)
 
 -- the track's dealt word in row r, as it is sent
 abbrev pub rowWord : Plan → List ℕ → ℕ → ℕ → ℕ

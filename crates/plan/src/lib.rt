@@ -56,9 +56,9 @@ fn parity_fits(parity: bool, kinds: [Kind; 16]) -> bool
 }
 
 // The limits of a frame's length in words.
-const LEAST_WORDS: usize = 129;
+const LEAST_WORDS: usize = 128;
 
-const MOST_WORDS: usize = 511;
+const MOST_WORDS: usize = 512;
 
 pub fn legal(plan: Plan, kinds: [Kind; 16]) -> bool
     ensures { λ r. ⌜ r ≡ legal plan kinds ⌝ }

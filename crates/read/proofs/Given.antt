@@ -1,5 +1,5 @@
 -- The refusals behind the groups, and what is handed over.
-use Prim.Native.Nat.{ℕ, _+_, _*_, _-_, _/_, _%_, _≤_, _<_}
+use Prim.Native.Nat.{ℕ, zero, suc, _+_, _*_, _-_, _/_, _%_, _≤_, _<_}
 use native.Mathlib.Nat.{mul-le-mul-right, div-add-mod'}
 use native.Mathlib.Omega.{arith}
 use mathlib.Core.Bool.{Bool, true, false, cond, _&&_}
@@ -10,7 +10,7 @@ use lib.Dec.{leb}
 use borrow.Author.Tests.{le-leb, lt-leb, leb-true, eq-eqb, ne-eqb}
 use Rattle.format.specs.Lists.{list}
 use Rattle.format.specs.Log.{logOf}
-use Rattle.format.specs.Plan.{groupWords, legal, timesNeeded}
+use Rattle.format.specs.Plan.{groupWords, legal, timesNeeded, storedAt}
 use Rattle.format.specs.Group.{Fault, none, found, groupTime}
 use Rattle.format.specs.Read.{Got, Reading, gives, refuses, roomed, unmisplaced, settled, reading, readGroups, misplaced}
 use Rattle.format.specs.Answer.{Given, success, refusal}
@@ -23,10 +23,11 @@ pub use Rattle.format.specs.Laws.Legal.{shape-of}
 pub use Rattle.format.specs.Laws.Limits.{some-words}
 use Rattle.format.specs.Laws.Limits.{Shape}
 use Rattle.read_groups.specs.declared.Outcome.{Outcome}
-use Rattle.read_groups.specs.Misplaced.{told}
+use Rattle.read_groups.specs.Misplaced.{told, placeUp}
 use Rattle.read_groups.specs.Groups.{groupsOn}
 use Rattle.read_groups.specs.End.{Logged, Ended}
 use Rattle.read_groups.proofs.Misplaced.{told-none, told-found}
+use Rattle.read_groups.proofs.Groups.{numbers-few}
 use Rattle.read.specs.Room.{earlier, roomNumber, Built}
 
 pub given-refused : {g : Reading} {r : Answer} {number place : ℕ} (log times : List ℕ) → g ≡ refuses number place → r ≡ refusal number place → Given g r log log times times
@@ -126,14 +127,18 @@ given-copied p c n whole built bytes need log log′ times times′ b small fits
     (et ∙ ap (λ (k : ℕ). list (λ g. groupTime p c (g * groupWords p)) 0 k ++ drop k times) e ∙ ap (λ (k : ℕ). table ++ drop k times) (sym t))
 
 -- misplaced fill, as it was found
-fill-by : (b : Bool) (x : Reading) (f : Fault) (m q : ℕ) → told m ≡ f → q ≡ cond b m 0 → (q ≡ 0 → ⊥) → unmisplaced (cond b f none) x ≡ refuses 14 (q - 1)
-fill-by false x f m q e a z = absurd (z a)
-fill-by true x f m q e a z =
-    ap (λ (y : Fault). unmisplaced y x) (sym e ∙ told-found m (λ w. z (a ∙ w)) ∙ ap (λ (j : ℕ). found 14 (j - 1)) (sym a))
+fill-by : (b : Bool) (x : Reading) (f : Fault) (at : ℕ → ℕ) (m q : ℕ) → told (placeUp at m) ≡ f → q ≡ cond b m 0 → (q ≡ 0 → ⊥)
+    → unmisplaced (cond b f none) x ≡ refuses 14 (at (q - 1))
+fill-by false x f at m q e a z = absurd (z a)
+fill-by true x f at zero q e a z = absurd (z a)
+fill-by true x f at (suc m) q e a z =
+    let k : suc (at m) - 1 ≡ at m = omega arith in
+    let j : m ≡ q - 1 = omega arith in
+    ap (λ (y : Fault). unmisplaced y x) (sym e ∙ told-found (suc (at m)) (λ w. omega arith) ∙ ap (found 14) (k ∙ ap at j))
 
-none-by : (b : Bool) (x : Reading) (f : Fault) (m : ℕ) → told m ≡ f → cond b m 0 ≡ 0 → unmisplaced (cond b f none) x ≡ x
-none-by false x f m e a = refl
-none-by true x f m e a = ap (λ (y : Fault). unmisplaced y x) (sym e ∙ told-none m a)
+none-by : (b : Bool) (x : Reading) (f : Fault) (at : ℕ → ℕ) (m : ℕ) → told (placeUp at m) ≡ f → cond b m 0 ≡ 0 → unmisplaced (cond b f none) x ≡ x
+none-by false x f at m e a = refl
+none-by true x f at m e a = ap (λ (y : Fault). unmisplaced y x) (sym e ∙ ap (λ (k : ℕ). told (placeUp at k)) a ∙ told-none 0 refl)
 
 -- what the groups brought
 pub built-of : {ks : List Kind} {p : Plan} {c : List ℕ} {n : ℕ} {r : Outcome} {out : List ℕ} (l : Logged ks p c n r out) → Built (logOf (l .items)) out (r .bytes)
@@ -148,13 +153,22 @@ module _ (p : Plan) (c : List ℕ) (n logRoom timeRoom : ℕ) (closed : Bool) wh
     stops-settled e z = ap answers (e .refused z .is)
 
     module _ (l : Logged ks p c n r out) (q : ℕ) (e : q ≡ cond closed (r .misplaced) 0) where
-      pub fill-settled : (q ≡ 0 → ⊥) → answers (readGroups p ks c n 0 Nothing 0) ≡ refuses 14 (q - 1)
-      fill-settled z =
-          ap answers (l .is) ∙ fill-by closed (roomed p c n logRoom timeRoom (logOf (l .items))) (misplaced p (groupsOn p c 0 n)) (r .misplaced) q (l .fill) e z
+      pub fill-settled : {place : ℕ} → (q ≡ 0 → ⊥) → place ≡ storedAt p (q - 1) → answers (readGroups p ks c n 0 Nothing 0) ≡ refuses 14 place
+      fill-settled z s =
+          ap answers (l .is)
+          ∙ fill-by closed (roomed p c n logRoom timeRoom (logOf (l .items))) (misplaced p (groupsOn p c 0 n)) (storedAt p) (r .misplaced) q (l .fill) e z
+          ∙ ap (refuses 14) (sym s)
+
+      pub fill-few : (k : ℕ) → k ≡ n * (3 * groupWords p) → k ≤ 1048576 → Shape p → q ≤ 349525
+      fill-few k a b s = omega (arith, e, asked-low closed, l .low, numbers-few p s n k a b)
+        where
+          asked-low : (b : Bool) → cond b (r .misplaced) 0 ≤ r .misplaced
+          asked-low true = omega arith
+          asked-low false = omega arith
 
       pub log-settled : q ≡ 0 → answers (readGroups p ks c n 0 Nothing 0) ≡ roomed p c n logRoom timeRoom (logOf (l .items))
       log-settled z =
-          ap answers (l .is) ∙ none-by closed (roomed p c n logRoom timeRoom (logOf (l .items))) (misplaced p (groupsOn p c 0 n)) (r .misplaced) (l .fill) (sym e ∙ z)
+          ap answers (l .is) ∙ none-by closed (roomed p c n logRoom timeRoom (logOf (l .items))) (misplaced p (groupsOn p c 0 n)) (storedAt p) (r .misplaced) (l .fill) (sym e ∙ z)
 
 -- ---- "Reading checks 1, 8"
 

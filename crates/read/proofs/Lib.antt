@@ -1,3 +1,4 @@
 -- The laws of the readings.
 pub mod Given
+pub mod Times
 pub mod Short

@@ -27,8 +27,8 @@ use Rattle.format.specs.Laws.Accepted.Faultless.{accepted-parts}
 use Rattle.format.specs.Laws.Accepted.Together.{data-all}
 use Rattle.format.specs.Laws.Limits.{Shape}
 use Rattle.read.specs.Room.{Enough}
-use Rattle.data_items.proofs.Items.{yes-or-no}
-use Rattle.data_items.proofs.Slots.{slots-few}
+use Rattle.read_groups.proofs.Misplaced.{yes-or-no}
+use Rattle.read_groups.proofs.Groups.{slots-few}
 use Rattle.read.proofs.Given.{whole-groups}
 
 item-short : (i : Item) → length (itemBits i) ≤ 26 * length (itemParts i)

@@ -19,6 +19,7 @@ use plan::group_words;
 use plan::legal;
 use plan::slots;
 use read_groups::read_groups;
+use read_groups::stored_place;
 
 // The first n bytes of `from`.
 fn copy(to: &mut [u8], from: &[u8], n: usize)
@@ -37,12 +38,12 @@ fn write_times(capture: &[u8], plan: Plan, n: usize, times: &mut [u64])
     requires { ⌜ Shape plan × (3 * (n * groupWords plan) ≤ length (now capture)) × (length (now capture) ≤ 1048576) × (n ≤ length (now times)) ⌝ }
     ensures { λ _. ⌜ now (times .exit) ≡ list (λ g. groupTime plan (now (capture .entry)) (g * groupWords plan)) 0 n ++ drop n (now (times .entry)) ⌝ }
 {
-    let size = group_words(plan);
+    let size = 3 * group_words(plan);
     let mut g: usize = 0;
-    let mut group: usize = 0;
     while g < n {
-        times[g] = group_read::group_time(capture, plan, group);
-        group += size;
+        let begin = g * size;
+        let end = begin + size;
+        times[g] = group_read::group_time(&capture[begin..end], plan);
         g += 1;
     }
 }
@@ -123,7 +124,7 @@ fn give(
 }
 
 // The plain reading asks nothing of fill.
-fn asked(closed: bool, misplaced: usize) -> usize
+fn asked(closed: bool, misplaced: u64) -> u64
     ensures { λ r. ⌜ r ≡ cond closed misplaced 0 ⌝ }
 {
     if closed { misplaced } else { 0 }
@@ -144,13 +145,14 @@ fn read_by(
     ensures { λ r. ⌜ Given (settled plan (now (capture .entry)) (length (now (capture .entry)) / (3 * groupWords plan)) (length (now (log .entry))) (length (now (times .entry))) closed (readGroups plan kinds (now (capture .entry)) (length (now (capture .entry)) / (3 * groupWords plan)) 0 Nothing 0)) r (now (log .entry)) (now (log .exit)) (now (times .entry)) (now (times .exit)) ⌝ }
 {
     let n = capture.len() / (3 * group_words(plan));
-    let end = read_groups(kinds, plan, slots(plan), capture, n, built);
+    let count = slots(plan);
+    let end = read_groups(kinds, plan, count, capture, n, built);
     if end.number != 0 {
         return refusal(end.number, end.place);
     }
     let misplaced = asked(closed, end.misplaced);
     if misplaced != 0 {
-        return refusal(14, (misplaced - 1) as u64);
+        return refusal(14, stored_place(plan, count, misplaced - 1));
     }
     give(plan, capture, n, built, end.bytes, log, times)
 }

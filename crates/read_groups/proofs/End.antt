@@ -6,6 +6,7 @@ use mathlib.Core.Path.{_≡_, refl, sym, ap, ap₂, subst, _∙_}
 use mathlib.Core.List.{List, [], _++_, flatMap}
 use lib.ListN.{length, take}
 use Rattle.format.specs.Item.{itemBits}
+use Rattle.format.specs.Plan.{slots, storedAt}
 use Rattle.format.specs.Log.{logOf}
 use Rattle.format.specs.Read.{Got, got, stopped, before, finish, readGroups, misplaced}
 use Rattle.format.specs.declared.Kind.{Kind}
@@ -22,13 +23,13 @@ use Rattle.data_word.proofs.Meaning.{Finished, finished}
 use Rattle.data_run.specs.declared.Pass.{Pass}
 use Rattle.data_run.specs.declared.fill.Fills.{Fills}
 use Rattle.read_groups.specs.declared.Walk.{Walk}
-use Rattle.read_groups.specs.Misplaced.{told}
 use Rattle.log_write.specs.Pen.{closedIn, closedSize, Wrote}
 use Rattle.log_write.proofs.Writing.{wrote-none, closed-size, closed-long, closed-log}
 use Rattle.data_run.specs.Pass.{Strings, stepPen, stepOut}
-use Rattle.read_groups.specs.Groups.{groupsOn, Through, Walked}
+use Rattle.read_groups.specs.Misplaced.{told, placeUp}
+use Rattle.read_groups.specs.Groups.{Through, Walked}
 use Rattle.read_groups.specs.End.{Ended}
-use Rattle.read_groups.proofs.Misplaced.{fills-say-misplaced}
+use Rattle.read_groups.proofs.Numbered.{numbers-say-misplaced}
 use Rattle.data_run.proofs.OneSlot.{step-bits, step-wrote}
 
 -- ---- the cut item
@@ -57,15 +58,19 @@ module _ (ks : List Kind) (p : Plan) (c : List ℕ) (n : ℕ) (out₀ : List ℕ
       → Ended ks p c n (record { number = k .number; place = k .place; bytes = 0; misplaced = 0 }) out′
   ends-stopped {out} {k} out′ m z = refusal-ends (k .number) (k .place) out′ z (m .stops z)
 
-  module _ (x : Pass) (out : List ℕ) (t : Through ks p c n out₀ x out) (s : Step) (m : Closes (finish (heldOf (x .held)) (x .since)) s) where
-    pub ends-cut : (out′ : List ℕ) → s .bad ≡ true → Ended ks p c n (record { number = 13; place = x .since; bytes = 0; misplaced = 0 }) out′
-    ends-cut out′ z =
-        refusal-ends 13 (x .since) out′ (λ y. absurd (omega arith))
-        (t .is ∙ ap (before (t .items)) (finish-cut (heldOf (x .held)) (x .since) s m z))
+  module _ (x : Pass) (out : List ℕ) (t : Through ks p c n out₀ x out) (s : Step) (m : Closes (finish (heldOf (x .held)) (storedAt p (x .since))) s) where
+    abbrev last : Got
+    last = finish (heldOf (x .held)) (storedAt p (x .since))
+
+    pub ends-cut : {place : ℕ} (out′ : List ℕ) → s .bad ≡ true → place ≡ storedAt p (x .since)
+        → Ended ks p c n (record { number = 13; place = place; bytes = 0; misplaced = 0 }) out′
+    ends-cut {place} out′ z e =
+        refusal-ends 13 place out′ (λ y. absurd (omega arith))
+        (t .is ∙ ap (before (t .items)) (finish-cut (heldOf (x .held)) (storedAt p (x .since)) s m z ∙ ap (stopped 13) (sym e)))
 
     module _ (z : s .bad ≡ false) where
-      f : Finished (finish (heldOf (x .held)) (x .since)) s
-      f = finished (finish (heldOf (x .held)) (x .since)) s m z
+      f : Finished last s
+      f = finished last s m z
 
       items : List Item
       items = t .items ++ f .items
@@ -83,9 +88,9 @@ module _ (ks : List Kind) (p : Plan) (c : List ℕ) (n : ℕ) (out₀ : List ℕ
           subst (λ (b : List ℕ). Wrote b (stepOut out (x .pen) s) (stepPen (x .pen) s)) (sym (flatMap-append itemBits (t .items) (f .items)))
           (step-wrote (f .items) Nothing s (f .brings) (x .pen) (flatMap itemBits (t .items)) out (t .brought .wrote [] (wrote-none out₀)))
 
-      pub ends-log : {bytes : ℕ} {out′ : List ℕ} → bytes ≡ closedSize (stepPen (x .pen) s) → out′ ≡ closedIn (stepOut out (x .pen) s) (stepPen (x .pen) s)
+      pub ends-log : {bytes : ℕ} {out′ : List ℕ} → 1 ≤ slots p → bytes ≡ closedSize (stepPen (x .pen) s) → out′ ≡ closedIn (stepOut out (x .pen) s) (stepPen (x .pen) s)
           → Ended ks p c n (record { number = 0; place = 0; bytes = bytes; misplaced = x .fills .misplaced }) out′
-      ends-log {bytes} {out′} b e =
+      ends-log {bytes} {out′} some b e =
           let size : bytes ≡ length (logOf items) = b ∙ closed-size items (stepOut out (x .pen) s) (stepPen (x .pen) s) all-wrote in
           let long : length out′ ≡ length (stepOut out (x .pen) s) = ap (λ (l : List ℕ). length l) e ∙ closed-long items (stepOut out (x .pen) s) (stepPen (x .pen) s) all-wrote in
           record {
@@ -95,7 +100,9 @@ module _ (ks : List Kind) (p : Plan) (c : List ℕ) (n : ℕ) (out₀ : List ℕ
               place = refl;
               bytes = size;
               log = λ h. ap₂ (λ (j : ℕ) (l : List ℕ). take j l) size e ∙ closed-log items (stepOut out (x .pen) s) (stepPen (x .pen) s) all-wrote (omega (arith, h, size, long));
-              fill = ap told (sym (ap (λ (y : Fills). y .misplaced) (t .fill))) ∙ fills-say-misplaced p (groupsOn p c 0 n);
+              number = sym (ap (λ (y : Fills). y .misplaced) (t .fill));
+              fill = ap (λ (y : Fills). told (placeUp (storedAt p) (y .misplaced))) (sym (t .fill)) ∙ numbers-say-misplaced p c some n;
+              low = t .fill-low;
             };
             refused = λ z. absurd (z refl);
           }

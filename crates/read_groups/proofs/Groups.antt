@@ -1,38 +1,41 @@
 -- A reading goes from group to group.
 use Prim.Native.Nat.{ℕ, suc, _+_, _*_, _-_, _≤_, _<_}
-use native.Mathlib.Nat.{mul-le-mul-right}
+use native.Mathlib.Nat.{mul-le-mul-right, mul-le-mul-left}
 use native.Mathlib.Omega.{arith}
-use mathlib.Core.Bool.{true, false}
+use mathlib.Core.Bool.{Bool, true, false}
 use mathlib.Core.Path.{_≡_, refl, sym, ap, ap₂, subst, _∙_}
 use mathlib.Core.List.{List, [], _∷_, _++_, append-assoc, append-nil, flatMap}
-use lib.ListN.{length}
+use lib.ListN.{length, take, drop, length-take, length-drop}
 use Rattle.format.specs.Lists.{list}
-use Rattle.format.specs.Plan.{groupWords}
+use Rattle.format.specs.Plan.{groupWords, slots, storedAt, rows, lead}
 use Rattle.format.specs.Item.{itemBits}
-use Rattle.format.specs.Group.{Fault, groupFault, groupSlots}
-use Rattle.format.specs.Reader.{Ran, badAt, ran, run}
+use Rattle.format.specs.Group.{Fault, none, found, groupFault, groupSlots}
+use Rattle.format.specs.Reader.{Slot, Ran, badAt, ran, run}
 use Rattle.format.specs.Read.{Got, got, stopped, before, finish, onward, ifSound, readGroups}
 use Rattle.format.specs.declared.Kind.{Kind}
 use Rattle.format.specs.declared.Item.{Item}
 use Rattle.format.specs.declared.Held.{Held}
 use Rattle.format.specs.declared.Held.the-variants.{Nothing}
 use Rattle.format.specs.declared.Plan.{Plan}
+use Rattle.format.specs.Laws.Limits.{Shape, free, rows-under, lead-few, room}
 use Rattle.format.specs.Laws.Tests.{clash}
 use Rattle.format.specs.Laws.Lists.{flatMap-append}
+use Rattle.format.specs.Laws.Reader.Named.{renamed, run-named, run-in, groups-fresh, slots-counted, wordsIn}
 use Rattle.group_read.specs.declared.Fault.{Fault as Found}
-use Rattle.group_read.specs.Faults.{faultOf}
-use Rattle.group_read.proofs.Numbers.{number-none, number-found}
+use Rattle.group_read.specs.Row.{dealtCount, Deals}
+use Rattle.group_read.proofs.Answers.{answer-none, answer-found, answer-low, answer-words, words-length}
 use Rattle.data_start.specs.Holding.{flat}
 use Rattle.data_word.specs.Holding.{heldOf}
 use Rattle.data_word.proofs.Flat.{nothing-is-held}
 use Rattle.data_word.proofs.Meaning.{nothing-is-sane}
+use Rattle.log_write.specs.Pen.{Wrote}
 use Rattle.data_run.specs.declared.Pass.{Pass}
 use Rattle.data_run.specs.declared.fill.Fills.{Fills}
 use Rattle.data_run.specs.Fills.{fillsIn}
-use Rattle.read_groups.specs.Misplaced.{noFill, fillsOver}
-use Rattle.log_write.specs.Pen.{Wrote}
 use Rattle.data_run.specs.Pass.{Brought, RanTo}
-use Rattle.read_groups.specs.Groups.{startPass, groupsOn, Over, Through}
+use Rattle.read_groups.specs.Misplaced.{noFill, fillsOver, numbersOf, numbersOn}
+use Rattle.read_groups.specs.Groups.{startPass, Over, Through}
+use Rattle.read_groups.proofs.Numbered.{counted-below, counted-within, fills-few, ran-low}
 
 -- ---- from group to group
 
@@ -59,89 +62,117 @@ module _ (ks : List Kind) (p : Plan) (c : List ℕ) (n : ℕ) (out₀ : List ℕ
   unfolding flatMap
   over-none {x} e = subst (λ (y : Pass). Over ks p c n out₀ 0 y out₀) (sym e) (record {
     items = [];
-    is = ap₂ (λ (k : ℕ) (h : Held). readGroups p ks c k 0 h 0) z (sym nothing-is-held) ∙ sym (before-none (readGroups p ks c (n - 0) 0 (heldOf (flat Nothing)) 0));
-    fill = ap (λ (k : ℕ). fillsOver p (groupsOn p c 0 k) noFill) z;
+    is = groups-fresh p ks c n 0 0 (storedAt p 0)
+        ∙ ap₂ (λ (k : ℕ) (h : Held). readGroups p ks c k 0 h (storedAt p 0)) z (sym nothing-is-held)
+        ∙ sym (before-none (readGroups p ks c (n - 0) 0 (heldOf (flat Nothing)) (storedAt p 0)));
+    fill = ap (λ (k : ℕ). fillsOver p (numbersOn p c 0 k) noFill) z;
     brought = record {
       sound = record { good = refl; sane = nothing-is-sane };
       long = refl;
       wrote = λ bits w. subst (λ (l : List ℕ). Wrote l out₀ (startPass .pen)) (sym (append-nil bits)) w;
     };
     few = omega arith;
+    low = omega arith;
+    fill-low = (omega arith, omega arith);
   })
     where
       z : n ≡ n - 0
       z = omega arith
 
-  module _ (g : ℕ) (h : g < n) (x : Pass) (out : List ℕ) (a : Over ks p c n out₀ g x out) where
+  module _ (s : Shape p) (g : ℕ) (h : g < n) (x : Pass) (out : List ℕ) (a : Over ks p c n out₀ g x out) where
     abbrev first : ℕ
     first = g * groupWords p
 
+    -- the words of the group g, told by their numbers
     abbrev here : Ran
-    here = run ks (p .parity) (groupSlots p c first) (heldOf (x .held)) (x .since)
+    here = run ks (p .parity) (numbersOf p c g) (heldOf (x .held)) (x .since)
+
+    abbrev behind : Held → ℕ → Got
+    behind = λ h q. readGroups p ks c (n - (g + 1)) (g + 1) h q
+
+    here-named : run ks (p .parity) (groupSlots p c first) (heldOf (x .held)) (storedAt p (x .since)) ≡ renamed (storedAt p) here
+    here-named =
+        ap (λ (ss : List Slot). run ks (p .parity) ss (heldOf (x .held)) (storedAt p (x .since))) (slots-counted p c (free p s) g)
+        ∙ run-named ks (p .parity) (storedAt p) (numbersOf p c g) (heldOf (x .held)) (x .since)
 
     -- the group g, and those behind it
-    group-next : readGroups p ks c (n - g) g (heldOf (x .held)) (x .since)
-        ≡ ifSound (groupFault p c first) (onward here (λ h q. readGroups p ks c (n - (g + 1)) (g + 1) h q))
+    group-next : readGroups p ks c (n - g) g (heldOf (x .held)) (storedAt p (x .since)) ≡ ifSound (groupFault p c first) (onward (renamed (storedAt p) here) behind)
     unfolding readGroups
     group-next =
         let e : n - g ≡ suc (n - (g + 1)) = omega arith in
-        rw e refl
+        rw e (ap (λ (y : Ran). ifSound (groupFault p c first) (onward y behind)) here-named)
 
-    slots-next : groupsOn p c g (n - g) ≡ groupSlots p c first ∷ groupsOn p c (g + 1) (n - (g + 1))
+    slots-next : numbersOn p c g (n - g) ≡ numbersOf p c g ∷ numbersOn p c (g + 1) (n - (g + 1))
     unfolding list
     slots-next =
         let e : n - g ≡ suc (n - (g + 1)) = omega arith in
         rw e refl
 
-    pub over-fault : {r : Found} → r ≡ faultOf (groupFault p c first) → (r .number ≡ 0 → ⊥) → readGroups p ks c n 0 Nothing 0 ≡ stopped (r .number) (r .place)
-    over-fault {r} e z = a .is ∙ ap (before (a .items)) (group-next ∙ ap (λ (f : Fault). ifSound f (onward here (λ h q. readGroups p ks c (n - (g + 1)) (g + 1) h q))) (number-found p c first e z))
+    pub over-fault : {k q : ℕ} → groupFault p c first ≡ found k q → readGroups p ks c n 0 Nothing 0 ≡ stopped k q
+    over-fault e = a .is ∙ ap (before (a .items)) (group-next ∙ ap (λ (f : Fault). ifSound f (onward (renamed (storedAt p) here) behind)) e)
 
-    sound-next : {r : Found} → r ≡ faultOf (groupFault p c first) → r .number ≡ 0
-        → readGroups p ks c n 0 Nothing 0 ≡ before (a .items) (onward here (λ h q. readGroups p ks c (n - (g + 1)) (g + 1) h q))
-    sound-next {r} e z = a .is ∙ ap (before (a .items)) (group-next ∙ ap (λ (f : Fault). ifSound f (onward here (λ h q. readGroups p ks c (n - (g + 1)) (g + 1) h q))) (number-none p c first e z))
+    sound-next : groupFault p c first ≡ none → readGroups p ks c n 0 Nothing 0 ≡ before (a .items) (onward (renamed (storedAt p) here) behind)
+    sound-next e = a .is ∙ ap (before (a .items)) (group-next ∙ ap (λ (f : Fault). ifSound f (onward (renamed (storedAt p) here) behind)) e)
 
-    fill-next : fillsOver p (groupsOn p c 0 n) noFill ≡ fillsOver p (groupsOn p c (g + 1) (n - (g + 1))) (fillsIn p 0 (groupSlots p c first) (x .fills))
+    fill-next : fillsOver p (numbersOn p c 0 n) noFill ≡ fillsOver p (numbersOn p c (g + 1) (n - (g + 1))) (fillsIn (p .parity) 0 (numbersOf p c g) (x .fills))
     unfolding fillsOver
     fill-next = a .fill ∙ rw slots-next refl
 
-    bad-at : (y : Ran) (r : Pass) (out′ : List ℕ) (f : Fills) → RanTo x out y f r out′ → r .bad ≡ true → y ≡ badAt (r .since)
-    bad-at (badAt q) r out′ f m z = ap badAt (sym (m .1))
-    bad-at (ran is k q) r out′ f m z = clash (sym (m .0 .sound .good) ∙ z)
+    -- numbers so far
+    upto : g * slots p + length (wordsIn (groupSlots p c first)) ≤ (g + 1) * slots p
+    upto = omega (arith, words-length p c first)
 
-    pub over-bad : {d : Found} (r : Pass) (out′ : List ℕ) (f : Fills) → d ≡ faultOf (groupFault p c first) → d .number ≡ 0 → RanTo x out here f r out′ → r .bad ≡ true
-        → readGroups p ks c n 0 Nothing 0 ≡ stopped 13 (r .since)
-    over-bad r out′ f e w m z =
-        sound-next e w ∙ ap (λ (y : Ran). before (a .items) (onward y (λ h q. readGroups p ks c (n - (g + 1)) (g + 1) h q))) (bad-at here r out′ f m z)
+    fill-low : (fillsIn (p .parity) 0 (numbersOf p c g) (x .fills) .first ≤ (g + 1) * slots p) × (fillsIn (p .parity) 0 (numbersOf p c g) (x .fills) .misplaced ≤ (g + 1) * slots p)
+    fill-low =
+        fills-few ((g + 1) * slots p) (p .parity) 0 (numbersOf p c g) (x .fills) (counted-below ((g + 1) * slots p) (g * slots p) (wordsIn (groupSlots p c first)) upto)
+        (omega (arith, a .fill-low .0), omega (arith, a .fill-low .1))
 
-    more-of : (y : Ran) {r : Pass} {out′ : List ℕ} → RanTo x out y (fillsIn p 0 (groupSlots p c first) (x .fills)) r out′ → r .bad ≡ false
-        → r .pen .bits ≤ 128 * (first + groupWords p)
-        → readGroups p ks c n 0 Nothing 0 ≡ before (a .items) (onward y (λ h q. readGroups p ks c (n - (g + 1)) (g + 1) h q))
-        → Over ks p c n out₀ (g + 1) r out′
-    more-of (badAt q) m z l e = clash (sym z ∙ m .0)
-    more-of (ran is k q) {r} m z l e = record {
-      items = a .items ++ is;
-      is = e ∙ before-before (a .items) is (readGroups p ks c (n - (g + 1)) (g + 1) k q)
-          ∙ ap₂ (λ (k : Held) (q : ℕ). before (a .items ++ is) (readGroups p ks c (n - (g + 1)) (g + 1) k q)) (sym (m .1)) (sym (m .2));
-      fill = fill-next ∙ ap (fillsOver p (groupsOn p c (g + 1) (n - (g + 1)))) (sym (m .3));
-      brought = brought-more (a .brought) (m .0);
-      few = omega (arith, l);
-    }
+    -- the slots that were run over are the group's, told by numbers
+    module _ (ss : List Slot) (t : ss ≡ numbersOf p c g) (sound : groupFault p c first ≡ none) (r : Pass) (out′ : List ℕ)
+        (m : RanTo x out (run ks (p .parity) ss (heldOf (x .held)) (x .since)) (fillsIn (p .parity) 0 ss (x .fills)) r out′) where
+      abbrev fills : Fills
+      fills = fillsIn (p .parity) 0 (numbersOf p c g) (x .fills)
 
-    pub over-more : {d : Found} {r : Pass} {out′ : List ℕ} → d ≡ faultOf (groupFault p c first) → d .number ≡ 0
-        → RanTo x out here (fillsIn p 0 (groupSlots p c first) (x .fills)) r out′ → r .bad ≡ false → r .pen .bits ≤ 128 * (first + groupWords p)
-        → Over ks p c n out₀ (g + 1) r out′
-    over-more e w m z l = more-of here m z l (sound-next e w)
+      ran-to : RanTo x out here fills r out′
+      ran-to =
+          subst (λ (l : List Slot). RanTo x out (run ks (p .parity) l (heldOf (x .held)) (x .since)) (fillsIn (p .parity) 0 l (x .fills)) r out′) t m
 
-    pub group-room : length c ≡ n * (3 * groupWords p) → 3 * (first + groupWords p) ≤ length c
-    group-room e =
-        let k : suc g ≤ n = h in
-        omega (arith, mul-le-mul-right (3 * groupWords p) k)
+      pub since-low : r .since ≤ (g + 1) * slots p
+      since-low =
+          ran-low ((g + 1) * slots p) x r out out′ here fills
+          (run-in ks (p .parity) (λ q. q ≤ (g + 1) * slots p) (numbersOf p c g) (counted-within ((g + 1) * slots p) (g * slots p) (wordsIn (groupSlots p c first)) upto)
+          (heldOf (x .held)) (x .since) (omega (arith, a .low)))
+          ran-to
+
+      bad-at : (y : Ran) → RanTo x out y fills r out′ → r .bad ≡ true → y ≡ badAt (r .since)
+      bad-at (badAt q) m z = ap badAt (sym (m .1))
+      bad-at (ran is k q) m z = clash (sym (m .0 .sound .good) ∙ z)
+
+      pub over-bad : r .bad ≡ true → readGroups p ks c n 0 Nothing 0 ≡ stopped 13 (storedAt p (r .since))
+      over-bad z = sound-next sound ∙ ap (λ (y : Ran). before (a .items) (onward (renamed (storedAt p) y) behind)) (bad-at here ran-to z)
+
+      more-of : (y : Ran) → RanTo x out y fills r out′ → r .bad ≡ false → r .pen .bits ≤ 128 * ((g + 1) * slots p)
+          → readGroups p ks c n 0 Nothing 0 ≡ before (a .items) (onward (renamed (storedAt p) y) behind) → Over ks p c n out₀ (g + 1) r out′
+      more-of (badAt q) m z l e = clash (sym z ∙ m .0)
+      more-of (ran is k q) m z l e = record {
+        items = a .items ++ is;
+        is = e ∙ before-before (a .items) is (behind k (storedAt p q))
+            ∙ ap₂ (λ (k : Held) (q : ℕ). before (a .items ++ is) (behind k (storedAt p q))) (sym (m .1)) (sym (m .2));
+        fill = fill-next ∙ ap (fillsOver p (numbersOn p c (g + 1) (n - (g + 1)))) (sym (m .3));
+        brought = brought-more (a .brought) (m .0);
+        few = l;
+        low = since-low;
+        fill-low = rw (m .3) fill-low;
+      }
+
+      pub over-more : r .bad ≡ false → r .pen .bits ≤ 128 * ((g + 1) * slots p) → Over ks p c n out₀ (g + 1) r out′
+      over-more z l = more-of here ran-to z l (sound-next sound)
 
   group-none : (k : ℕ) (h : Held) (q : ℕ) → k ≡ 0 → readGroups p ks c k n h q ≡ finish h q
   unfolding readGroups
   group-none k h q e = rw e refl
 
-  fill-none : (k : ℕ) (f : Fills) → k ≡ 0 → fillsOver p (groupsOn p c n k) f ≡ f
+  fill-none : (k : ℕ) (f : Fills) → k ≡ 0 → fillsOver p (numbersOn p c n k) f ≡ f
   unfolding fillsOver list
   fill-none k f e = rw e refl
 
@@ -150,11 +181,71 @@ module _ (ks : List Kind) (p : Plan) (c : List ℕ) (n : ℕ) (out₀ : List ℕ
       let z : n - n ≡ 0 = omega arith in
       record {
         items = a .items;
-        is = a .is ∙ ap (before (a .items)) (group-none (n - n) (heldOf (x .held)) (x .since) z);
+        is = a .is ∙ ap (before (a .items)) (group-none (n - n) (heldOf (x .held)) (storedAt p (x .since)) z);
         fill = a .fill ∙ fill-none (n - n) (x .fills) z;
         brought = a .brought;
         few = a .few;
+        low = a .low;
+        fill-low = a .fill-low .1;
       }
 
   pub over-all : (g : ℕ) {x : Pass} {out : List ℕ} → g ≡ n → Over ks p c n out₀ g x out → Through ks p c n out₀ x out
   over-all g e a = through (rw e at a)
+
+-- ---- sizes
+
+module _ (p : Plan) (s : Shape p) where
+  pub dealt-few : dealtCount p ≤ groupWords p
+  dealt-few = let k : rows p ≤ p .words = omega (arith, rows-under p s) in mul-le-mul-left (p .tracks) k
+
+  pub slots-few : slots p ≤ groupWords p
+  unfolding slots
+  slots-few = omega (arith, dealt-few)
+
+  pub dealt-all : lead p + slots p ≡ dealtCount p
+  unfolding slots
+  dealt-all = omega (arith, lead-few p, room p s)
+
+  -- the data words of n groups
+  pub numbers-few : (n size : ℕ) → size ≡ n * (3 * groupWords p) → size ≤ 1048576 → n * slots p ≤ 349525
+  numbers-few n size e l = omega (arith, mul-le-mul-left n slots-few)
+
+  -- the group g of n is within the capture
+  pub group-room : (n g size : ℕ) → size ≡ n * (3 * groupWords p) → g < n → g * (3 * groupWords p) + 3 * groupWords p ≤ size
+  group-room n g size e l = let k : suc g ≤ n = l in omega (arith, mul-le-mul-right (3 * groupWords p) k)
+
+  -- what is lent of the capture for the group g, and of the row that it is dealt to
+  pub part-length : (c : List ℕ) (n g : ℕ) → length c ≡ n * (3 * groupWords p) → g < n
+      → length (take (g * (3 * groupWords p) + 3 * groupWords p - g * (3 * groupWords p)) (drop (g * (3 * groupWords p)) c)) ≡ 3 * groupWords p
+  part-length c n g e l = simp (length-take, length-drop) (omega (arith, group-room n g (length c) e l))
+
+  module _ (c : List ℕ) (g : ℕ) where
+    abbrev pub partOf : List ℕ
+    partOf = take (g * (3 * groupWords p) + 3 * groupWords p - g * (3 * groupWords p)) (drop (g * (3 * groupWords p)) c)
+
+    begins : g * (3 * groupWords p) ≡ 3 * (g * groupWords p)
+    begins = omega arith
+
+    sized : g * (3 * groupWords p) + 3 * groupWords p - g * (3 * groupWords p) ≡ 3 * groupWords p
+    sized = omega arith
+
+    module _ {r : Found} {row₀ row : List ℕ} (d : Deals p partOf row₀ r row) where
+      pub dealt-none : r .number ≡ 0 → groupFault p c (g * groupWords p) ≡ none
+      dealt-none z = answer-none p c (g * groupWords p) (g * (3 * groupWords p)) _ s begins sized (d .fault) z
+
+      pub dealt-found : (r .number ≡ 0 → ⊥) → groupFault p c (g * groupWords p) ≡ found (r .number) (g * groupWords p + r .place)
+      dealt-found z = answer-found p c (g * groupWords p) (g * (3 * groupWords p)) _ s begins sized (d .fault) z
+
+      pub dealt-low : r .place < groupWords p
+      dealt-low = answer-low p c (g * groupWords p) (g * (3 * groupWords p)) _ s begins sized (d .fault)
+
+      pub dealt-words : (first count : ℕ) → r .number ≡ 0 → first ≡ lead p → count ≡ slots p
+          → take (first + count - first) (drop first row) ≡ wordsIn (groupSlots p c (g * groupWords p))
+      dealt-words first count z e f =
+          let k : first + count - first ≡ slots p = omega arith in
+          ap (λ (n : ℕ). take (first + count - first) (drop n row)) e
+          ∙ answer-words p c (g * groupWords p) (g * (3 * groupWords p)) _ s begins sized (drop (dealtCount p) row₀) (first + count - first) k (d .words z)
+
+  -- the words of a group in a row that is as long as a third of the capture
+  pub row-room : (n size : ℕ) → size ≡ n * (3 * groupWords p) → 0 < n → 3 * dealtCount p ≤ size
+  row-room n size e l = let k : 1 ≤ n = l in omega (arith, mul-le-mul-right (3 * groupWords p) k, dealt-few)

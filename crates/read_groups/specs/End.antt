@@ -1,29 +1,31 @@
 -- The end of the walk over the groups: the cut item, and the log closed.
-use Prim.Native.Nat.{ℕ, zero, suc, _+_, _-_, _≤_}
+use Prim.Native.Nat.{ℕ, zero, suc, _+_, _*_, _≤_}
 use native.Mathlib.Omega.{arith}
 use mathlib.Core.Path.{_≡_, refl, ap, ap₂, sym, _∙_}
 use mathlib.Core.List.{List}
 use lib.ListN.{length, take}
-use borrow.Author.Tests.{ne-eqb}
 use Rattle.format.specs.Log.{logOf}
-use Rattle.format.specs.Group.{none, found}
+use Rattle.format.specs.Plan.{slots, storedAt}
 use Rattle.format.specs.Read.{Got, got, stopped, readGroups, misplaced}
 use Rattle.format.specs.declared.Kind.{Kind}
 use Rattle.format.specs.declared.Item.{Item}
 use Rattle.format.specs.declared.Held.the-variants.{Nothing}
 use Rattle.format.specs.declared.Plan.{Plan}
 use Rattle.read_groups.specs.declared.Outcome.{Outcome}
-use Rattle.read_groups.specs.Misplaced.{told}
+use Rattle.read_groups.specs.Misplaced.{noFill, fillsOver, numbersOn, told, placeUp}
 use Rattle.read_groups.specs.Groups.{groupsOn}
 
--- n groups bring items: the length of their log, the log itself if the array has room for it, and the earliest misplaced fill
+-- n groups bring items: the length of their log, the log itself if the array has room for it, and the number of the earliest
+-- misplaced fill, which stands at the definition's place
 pub record Logged (ks : List Kind) (p : Plan) (c : List ℕ) (n : ℕ) (r : Outcome) (out : List ℕ) : Type 0 where
   pub items : List Item
   pub is : readGroups p ks c n 0 Nothing 0 ≡ got items
   pub place : r .place ≡ 0
   pub bytes : r .bytes ≡ length (logOf items)
   pub log : r .bytes + 7 ≤ length out → take (r .bytes) out ≡ logOf items
-  pub fill : told (r .misplaced) ≡ misplaced p (groupsOn p c 0 n)
+  pub number : r .misplaced ≡ fillsOver p (numbersOn p c 0 n) noFill .misplaced
+  pub fill : told (placeUp (storedAt p) (r .misplaced)) ≡ misplaced p (groupsOn p c 0 n)
+  pub low : r .misplaced ≤ n * slots p
 
 -- n groups, or the cut item behind them, are refused
 pub record Refused (ks : List Kind) (p : Plan) (c : List ℕ) (n : ℕ) (r : Outcome) : Type 0 where
@@ -42,21 +44,6 @@ same-outcome : (r r′ : Outcome) → r .number ≡ r′ .number → r .place �
 same-outcome r r′ a b d e =
     ap₂ (λ (x y : ℕ). record { number = x; place = y; bytes = r .bytes; misplaced = r .misplaced }) a b
     ∙ ap₂ (λ (x y : ℕ). record { number = r′ .number; place = r′ .place; bytes = x; misplaced = y }) d e
-
-told-some : (a : ℕ) → told (suc a) ≡ found 14 a
-told-some a = let e : suc a - 1 ≡ a = omega arith in rw (ne-eqb (suc a) 0 (λ z. omega (arith, z)), e)
-
-some-or-none : {A : Type 0} {a : ℕ} → found 14 a ≡ none → A
-some-or-none e = let z : _≡_ {A = ℕ} 0 1 = cc in absurd (omega arith)
-
-same-place : {a b : ℕ} → found 14 a ≡ found 14 b → a ≡ b
-same-place e = cc
-
-told-one : (a b : ℕ) → told a ≡ told b → a ≡ b
-told-one zero zero e = refl
-told-one zero (suc b) e = some-or-none (sym (told-some b) ∙ sym e)
-told-one (suc a) zero e = some-or-none (sym (told-some a) ∙ e)
-told-one (suc a) (suc b) e = ap suc (same-place (sym (told-some a) ∙ e ∙ told-some b))
 
 same-items : {g : Got} {is js : List Item} → g ≡ got is → g ≡ got js → is ≡ js
 same-items e f = cc
@@ -79,7 +66,7 @@ module _ (ks : List Kind) (p : Plan) (c : List ℕ) (n : ℕ) {r r′ : Outcome}
           let x = a .logged e in
           let y = b .logged f in
           same-outcome r r′ (e ∙ sym f) (x .place ∙ sym (y .place)) (x .bytes ∙ ap length (same-log x y) ∙ sym (y .bytes))
-          (told-one (r .misplaced) (r′ .misplaced) (x .fill ∙ sym (y .fill)))
+          (x .number ∙ sym (y .number))
       go zero (suc k) e f = not-both (a .logged e .is) (b .refused (λ z. omega (arith, z, f)) .is)
       go (suc m) zero e f = not-both (b .logged f .is) (a .refused (λ z. omega (arith, z, e)) .is)
       go (suc m) (suc k) e f =

@@ -4,7 +4,7 @@ use mathlib.Core.Bool.{false}
 use mathlib.Core.Path.{_≡_}
 use mathlib.Core.List.{List}
 use Rattle.format.specs.Lists.{list}
-use Rattle.format.specs.Plan.{groupWords}
+use Rattle.format.specs.Plan.{groupWords, slots, storedAt}
 use Rattle.format.specs.Group.{groupSlots}
 use Rattle.format.specs.Reader.{Slot}
 use Rattle.format.specs.Read.{stopped, before, finish, readGroups}
@@ -17,32 +17,36 @@ use Rattle.data_start.specs.Holding.{flat}
 use Rattle.data_word.specs.Holding.{heldOf}
 use Rattle.data_run.specs.declared.Pass.{Pass}
 use Rattle.read_groups.specs.declared.Walk.{Walk}
-use Rattle.read_groups.specs.Misplaced.{noFill, fillsOver}
+use Rattle.read_groups.specs.Misplaced.{noFill, fillsOver, numbersOn}
 use Rattle.data_run.specs.Pass.{Brought}
 
 -- before the first group
 abbrev pub startPass : Pass
 startPass = record { held = flat Nothing; since = 0; pen = start; fills = noFill; bad = false }
 
--- the slots of k groups from the group g on
+-- the slots of k groups from the group g on, each told by its stored place
 abbrev pub groupsOn : Plan → List ℕ → ℕ → ℕ → List (List Slot)
 groupsOn p c g k = list (λ g. groupSlots p c (g * groupWords p)) g k
 
--- g of n groups were passed
+-- g of n groups were passed: what is carried tells words by their numbers, of which there are `count` a group
 pub record Over (ks : List Kind) (p : Plan) (c : List ℕ) (n : ℕ) (out₀ : List ℕ) (g : ℕ) (x : Pass) (out : List ℕ) : Type 0 where
   pub items : List Item
-  pub is : readGroups p ks c n 0 Nothing 0 ≡ before items (readGroups p ks c (n - g) g (heldOf (x .held)) (x .since))
-  pub fill : fillsOver p (groupsOn p c 0 n) noFill ≡ fillsOver p (groupsOn p c g (n - g)) (x .fills)
+  pub is : readGroups p ks c n 0 Nothing 0 ≡ before items (readGroups p ks c (n - g) g (heldOf (x .held)) (storedAt p (x .since)))
+  pub fill : fillsOver p (numbersOn p c 0 n) noFill ≡ fillsOver p (numbersOn p c g (n - g)) (x .fills)
   pub brought : Brought startPass out₀ items x out
-  pub few : x .pen .bits ≤ 128 * (g * groupWords p)
+  pub few : x .pen .bits ≤ 128 * (g * slots p)
+  pub low : x .since ≤ g * slots p
+  pub fill-low : (x .fills .first ≤ g * slots p) × (x .fills .misplaced ≤ g * slots p)
 
 -- all groups were passed
 pub record Through (ks : List Kind) (p : Plan) (c : List ℕ) (n : ℕ) (out₀ : List ℕ) (x : Pass) (out : List ℕ) : Type 0 where
   pub items : List Item
-  pub is : readGroups p ks c n 0 Nothing 0 ≡ before items (finish (heldOf (x .held)) (x .since))
-  pub fill : fillsOver p (groupsOn p c 0 n) noFill ≡ x .fills
+  pub is : readGroups p ks c n 0 Nothing 0 ≡ before items (finish (heldOf (x .held)) (storedAt p (x .since)))
+  pub fill : fillsOver p (numbersOn p c 0 n) noFill ≡ x .fills
   pub brought : Brought startPass out₀ items x out
-  pub few : x .pen .bits ≤ 128 * (n * groupWords p)
+  pub few : x .pen .bits ≤ 128 * (n * slots p)
+  pub low : x .since ≤ n * slots p
+  pub fill-low : x .fills .misplaced ≤ n * slots p
 
 -- number 0: all groups were passed; else the reading stopped
 pub record Walked (ks : List Kind) (p : Plan) (c : List ℕ) (n : ℕ) (out₀ : List ℕ) (r : Walk) (out : List ℕ) : Type 0 where

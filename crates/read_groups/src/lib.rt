@@ -1,17 +1,16 @@
 // A reading's walk over the groups of a capture (document 01, "Groups" and "Answers by number"): the log of their items and the
 // earliest misplaced fill, or the first refusal from 9 to 13.
 ghost use mathlib.Core.Path.{_≡_};
-ghost use mathlib.Core.Bool.{true};
-ghost use Prim.Native.Nat.{_*_, _≤_};
+ghost use Prim.Native.Nat.{_*_, _≤_, _<_, _^_};
 ghost use lib.ListN.{length};
-ghost use Rattle.crc.specs.Running.{entries, farEntries};
-ghost use Rattle.format.specs.Plan.{groupWords, slots};
+ghost use Rattle.format.specs.Plan.{groupWords, slots, storedAt};
 ghost use Rattle.format.specs.Laws.Limits.{Shape};
+ghost use Rattle.group_read.specs.Row.{dealtCount};
 ghost use Rattle.read_groups.specs.End.{Ended};
 ghost use Rattle.read_groups.specs.Groups.{startPass, Walked};
 use data_run::Pass;
 use data_run::fill::Fills;
-use data_run::on_group;
+use data_run::on_row;
 use data_run::put_step;
 use format::Kind;
 use format::Plan;
@@ -25,12 +24,12 @@ struct Walk {
 }
 
 // What the groups bring: a refusal's number and place, or number 0, the length of the log and the earliest misplaced fill,
-// its place one up.
+// told by its number among the data words, one up.
 pub struct Outcome {
     pub number: u32,
     pub place: u64,
     pub bytes: usize,
-    pub misplaced: usize,
+    pub misplaced: u64,
 }
 
 fn start_pass() -> Pass
@@ -48,44 +47,58 @@ fn start_pass() -> Pass
     }
 }
 
-// "group by group": its faults as stored and of its time words, and then its data slots.
+// Where the data word of this number stands in the capture: of its group, which has `count` of them, and there as it is dealt.
+pub fn stored_place(plan: Plan, count: usize, number: u64) -> u64
+    requires { ⌜ Shape plan × (count ≡ slots plan) × (number < 2 ^ 40) ⌝ }
+    ensures { λ r. ⌜ r ≡ storedAt plan number ⌝ }
+{
+    let n = number as usize;
+    let group = n / count;
+    let place = group_read::place_of(plan, group_read::lead(plan) + n % count);
+    (group * (plan.tracks * plan.words) + place) as u64
+}
+
+// "group by group": its faults as stored and of its time words, and then its data words, as they are dealt into the row.
 fn over_groups(
     kinds: [Kind; 16],
     plan: Plan,
     count: usize,
     capture: &[u8],
-    tables: &[u32; 768],
-    far: &[u32; 768],
     groups: usize,
+    row: &mut [u32],
     out: &mut [u8],
 ) -> Walk
-    requires { ⌜ Shape plan × (count ≡ slots plan) × (plan .crc ≡ true → now tables ≡ entries) × (plan .crc ≡ true → now far ≡ farEntries) ⌝ }
+    requires { ⌜ Shape plan × (count ≡ slots plan) × (0 < groups → dealtCount plan ≤ length (now row)) ⌝ }
     requires { ⌜ (length (now capture) ≡ groups * (3 * groupWords plan)) × (length (now capture) ≤ 1048576) ⌝ }
     ensures { λ r. ⌜ Walked kinds plan (now (capture .entry)) groups (now (out .entry)) r (now (out .exit)) ⌝ }
 {
     let size = plan.tracks * plan.words;
+    let first = group_read::lead(plan);
+    let behind = first + count;
     let start = start_pass();
     let mut pass = start;
     let mut g: usize = 0;
-    let mut group: usize = 0;
+    let mut from: u64 = 0;
     while g < groups {
-        let fault = group_read::first_fault(capture, tables, far, plan, group);
+        let begin = g * (3 * size);
+        let end = begin + 3 * size;
+        let fault = group_read::deal(&capture[begin..end], plan, row);
         if fault.number != 0 {
             return Walk {
                 pass: start,
                 number: fault.number,
-                place: fault.place as u64,
+                place: (g * size + fault.place) as u64,
             };
         }
-        pass = on_group(pass, kinds, plan, count, capture, group, out);
+        pass = on_row(pass, kinds, plan.parity, &row[first..behind], from, out);
         if pass.bad {
             return Walk {
                 pass: start,
                 number: 13,
-                place: pass.since,
+                place: stored_place(plan, count, pass.since),
             };
         }
-        group += size;
+        from += count as u64;
         g += 1;
     }
     Walk {
@@ -95,7 +108,7 @@ fn over_groups(
     }
 }
 
-// The tables are made for a plan with CRC only.
+// No large row is cleared for a small capture.
 fn walk_groups(
     kinds: [Kind; 16],
     plan: Plan,
@@ -108,13 +121,16 @@ fn walk_groups(
     requires { ⌜ (length (now capture) ≡ groups * (3 * groupWords plan)) × (length (now capture) ≤ 1048576) ⌝ }
     ensures { λ r. ⌜ Walked kinds plan (now (capture .entry)) groups (now (out .entry)) r (now (out .exit)) ⌝ }
 {
-    if plan.crc {
-        let tables = crc::tables();
-        let far = crc::far_tables();
-        return over_groups(kinds, plan, count, capture, &tables, &far, groups, out);
+    if capture.len() <= 768 {
+        let mut row = [0u32; 256];
+        return over_groups(kinds, plan, count, capture, groups, &mut row, out);
     }
-    let none = [0u32; 768];
-    over_groups(kinds, plan, count, capture, &none, &none, groups, out)
+    if capture.len() <= 1884 {
+        let mut row = [0u32; 628];
+        return over_groups(kinds, plan, count, capture, groups, &mut row, out);
+    }
+    let mut row = [0u32; 2048];
+    over_groups(kinds, plan, count, capture, groups, &mut row, out)
 }
 
 // The groups, then the cut item.
@@ -144,7 +160,7 @@ pub fn read_groups(
     if step.bad {
         return Outcome {
             number: 13,
-            place: pass.since,
+            place: stored_place(plan, count, pass.since),
             bytes: 0,
             misplaced: 0,
         };

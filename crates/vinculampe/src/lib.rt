@@ -126,7 +126,7 @@ fn read_by(
     answer
 }
 
-// No large row is cleared for a small room, or for a small capture: a group has at least 387 bytes, a capture at most 2,709 groups.
+// No large row is cleared for a small room, or for a small capture: a group has at least 384 bytes, a capture at most 2,730 groups.
 fn read_bytes(
     closed: bool,
     plan: Plan,
@@ -141,11 +141,11 @@ fn read_bytes(
         let mut row = [0u64; 64];
         return read_by(closed, plan, kinds, capture, log, times, &mut row);
     }
-    if capture.len() < 25155 {
+    if capture.len() < 24960 {
         let mut row = [0u64; 64];
         return read_by(closed, plan, kinds, capture, log, times, &mut row);
     }
-    let mut row = [0u64; 2709];
+    let mut row = [0u64; 2730];
     read_by(closed, plan, kinds, capture, log, times, &mut row)
 }
 

@@ -1,64 +1,34 @@
-use Prim.Native.Nat.{_+_, _*_, _-_, _≤_, _<_}
-use native.Mathlib.Omega.{arith}
-use mathlib.Core.Path.{_≡_, ap}
-use lib.ListN.{length}
 use borrow.Author.Needs.{needs}
-use Rattle.group_write.specs.Writing.{sentRows, rowWord}
-use Rattle.group_write.proofs.Words.{Written, written-length, written-is}
-use Rattle.group_write.proofs.Runs.{written-rows, written-row, run-in, run-low, run-word}
+use Rattle.crc.proofs.Sums.{summed-true, summed-false}
+use Rattle.group_write.specs.Writing.{sentRows}
 use Rattle.group_write.proofs.put_rows.Statement.{statement}
 use Rattle.group_write.proofs.put_rows.Tie as tie
 
-abbrev Inv-loop : tie.InvT-loop
-Inv-loop out₀ plan words first rows s₀ row₀ out s row =
-    (row ≤ rows) × (s ≡ row * plan .tracks + first) × Written (sentRows plan words first row) row out₀ out
+-- without CRC, the function's entry
+abbrev entry : tie.Else1 → tie.Start
+entry c = c .before .before .before
 
-abbrev μ-loop : tie.MeasureT-loop
-μ-loop out₀ plan words first rows s₀ row₀ out s row = rows - row
+put-summed-requires : tie.Need-put-summed-requires
+put-summed-requires c κs = c .before .before .before .before .pre
 
--- in a turn, the row's word is there
-there : (c : tie.In-loop Inv-loop μ-loop) → c .before .loop .s < length (c .before .before .before .before .args .words .now)
-there c = omega (arith, c .before .loop .inv .1, run-in (c .before .before .before .before .args .plan) (c .before .before .before .before .args .words .now) (c .before .before .before .before .args .first) (c .before .loop .row) (c .before .before .before .before .pre .1) (c .loop-test .taken))
+same-length : tie.Need-same-length
+same-length c = search needs
 
-loop-holds : tie.Need-loop-holds Inv-loop μ-loop
-loop-holds c = (omega arith, omega arith, written-rows (rowWord (c .before .before .args .plan) (c .before .before .args .words .now) (c .before .before .args .first)) (c .before .before .args .out .now))
+returns : tie.Need-returns
+returns c = (summed-true (c .before .before .before .before .if1 .taken) (c .before .before .put-summed .ensures .0), c .before .before .put-summed .ensures .1)
 
-mul-put-row : tie.Need-mul-put-row Inv-loop μ-loop
-mul-put-row c = omega (arith, there (c .before), c .before .before .before .before .before .pre .1 .few)
+put-plain-requires : tie.Need-put-plain-requires
+put-plain-requires c κs = (c .before .before .before .before .pre .0, c .before .before .before .before .pre .1)
 
-shared-slice-read-put-row : tie.Need-shared-slice-read-put-row Inv-loop μ-loop
-shared-slice-read-put-row c = there (c .before .before)
+same-length-2 : tie.Need-same-length-2
+same-length-2 c = search needs
 
-put-row-requires : tie.Need-put-row-requires Inv-loop μ-loop
-put-row-requires c κs = let s = c .before .before .before .before .before .before in
-    let o = c .before .before .before .loop in
-    (omega (arith, s .pre .1 .room, written-length (o .inv .2)), omega (arith, s .pre .1 .short), run-low (s .args .plan) (s .args .words .now) (s .args .first) (o .s) (s .pre .1 .unsent))
-
-add-s : tie.Need-add-s Inv-loop μ-loop
-add-s c = omega (arith, there (c .before .before .before .before .before .before), c .before .before .before .before .before .before .before .before .before .before .pre .1 .few, c .before .before .before .before .before .before .before .before .before .before .pre .0 .tracks-most)
-
-add-row : tie.Need-add-row Inv-loop μ-loop
-add-row c = search needs
-
-loop-less : tie.Need-loop-less Inv-loop μ-loop
-loop-less c = search needs
-
-loop-again : tie.Need-loop-again Inv-loop μ-loop
-loop-again c = let s = c .before .before .before .before .before .before .before .before .before .before in
-    let a = s .args in
-    let o = c .before .before .before .before .before .before .before .loop in
-    let v = c .before .before .before .put-row .result in (
-      omega arith,
-      omega (arith, o .inv .1),
-      written-row (rowWord (a .plan) (a .words .now) (a .first)) (o .row) v (o .inv .2) (run-word (a .plan) (a .words .now) (a .first) (o .row) (o .s) v (there (c .before .before .before .before .before .before)) (o .inv .1) (c .before .before .before .put-row .ensures .0)) (omega (arith, s .pre .1 .room)) (c .before .before .before .put-row .ensures .2),
-    )
-
-same-length : tie.Need-same-length Inv-loop μ-loop
-same-length c = written-length (c .before .loop .inv .2)
-
-returns : tie.Need-returns Inv-loop μ-loop
-returns c = let e : c .before .loop .row ≡ c .before .before .before .before .args .rows = omega arith in
-    written-is (c .before .loop .inv .2) (ap (sentRows (c .before .before .before .before .args .plan) (c .before .before .before .before .args .words .now) (c .before .before .before .before .args .first)) e) e
+returns-2 : tie.Need-returns-2
+returns-2 c =
+    let s = entry (c .before .before .before .before) in
+    (summed-false (sentRows (s .args .plan) (s .args .words .now) (s .args .first) (s .args .rows)) (c .before .before .before .before .if1 .left) (s .pre .2), c .before .before .put-plain .ensures)
 
 pub put-rows-spec : {M : Type 1} → statement M
-put-rows-spec = tie.close (tie.spec Inv-loop μ-loop loop-holds mul-put-row shared-slice-read-put-row put-row-requires add-s add-row loop-less loop-again same-length returns)
+put-rows-spec =
+    tie.close
+    (tie.spec put-summed-requires same-length returns put-plain-requires same-length-2 returns-2)

@@ -1,19 +1,78 @@
-use mathlib.Core.Path.{_≡_}
-use Rattle.read.proofs.Given.{given-refused, some-words, whole-groups, built-of, stops-settled, fill-settled, log-settled}
-use Rattle.format.specs.Log.{logOf}
-use lib.ListN.{length}
+use Prim.Native.Nat.{ℕ, _*_, _/_, _^_, _≤_, _<_}
 use native.Mathlib.Omega.{arith}
 use borrow.Author.Needs.{needs}
+use mathlib.Core.Path.{_≡_, subst, sym}
+use mathlib.Core.List.{List}
+use lib.ListN.{length}
+use Rattle.format.specs.Log.{logOf}
+use Rattle.format.specs.Plan.{groupWords}
+use Rattle.format.specs.Answer.{Given}
+use Rattle.format.specs.Read.{roomed}
+use Rattle.format.specs.Laws.Limits.{Shape}
+use Rattle.format.specs.declared.Plan.{Plan}
+use Rattle.read_groups.specs.End.{Logged, Ended}
+use Rattle.read.proofs.Given.{given-refused, some-words, whole-groups, built-of, stops-settled, fill-settled, fill-few, log-settled}
 use Rattle.read.proofs.read_by.Statement.{statement}
 use Rattle.read.proofs.read_by.Tie as tie
-use Rattle.read.proofs.read_by.Reads as reads
-use Rattle.read.proofs.read_by.Lts as lts
-use Rattle.plan.proofs.group_words.Reads as group-words-reads
-use Rattle.plan.proofs.slots.Reads as slots-reads
-use Rattle.read_groups.proofs.read_groups.Reads as read-groups-reads
-use Rattle.read.proofs.asked.Reads as asked-reads
-use Rattle.read.proofs.give.Reads as give-reads
-use Rattle.read.proofs.refusal.Reads as refusal-reads
+
+-- ---- the places
+
+-- the groups were read, into `built`
+abbrev Read : Type 0
+Read = tie.After-read-groups
+
+abbrev start : Read → tie.Start
+start c = c .before .before .before .before .before .before .before .before
+
+abbrev plan : Read → Plan
+plan c = start c .args .plan
+
+abbrev capture : Read → List ℕ
+capture c = start c .args .capture .now
+
+abbrev log : Read → List ℕ
+log c = start c .args .log .now
+
+abbrev times : Read → List ℕ
+times c = start c .args .times .now
+
+abbrev groups : Read → ℕ
+groups c = length (capture c) / (3 * groupWords (plan c))
+
+abbrev built : Read → List ℕ
+built c = c .read-groups .last .1 .1 .1 .1 .1 .0
+
+words : (c : Read) → c .before .before .before .group-words .result ≡ groupWords (plan c)
+words c = c .before .before .before .group-words .ensures .0
+
+ended : (c : Read) → Ended (start c .args .kinds) (plan c) (capture c) (groups c) (c .read-groups .result) (built c)
+ended c =
+    subst (λ (w : ℕ). Ended (start c .args .kinds) (plan c) (capture c) (length (capture c) / (3 * w)) (c .read-groups .result) (built c)) (words c) (c .read-groups .ensures)
+
+whole : (c : Read) → length (capture c) ≡ groups c * (3 * groupWords (plan c))
+whole c = whole-groups (plan c) (length (capture c)) (start c .pre .0 .2)
+
+-- they brought a log
+abbrev Logged-all : Type 0
+Logged-all = tie.Else1
+
+abbrev read : Logged-all → Read
+read c = c .before .before .before .before
+
+logged : (c : Logged-all) → Logged (start (read c) .args .kinds) (plan (read c)) (capture (read c)) (groups (read c)) (read c .read-groups .result) (built (read c))
+logged c = ended (read c) .logged (c .if1 .left)
+
+-- misplaced fill was asked for
+abbrev Asked : Type 0
+Asked = tie.After-asked
+
+few : (c : Asked) → c .asked .result ≤ 349525
+few c =
+    let r = read (c .before) in
+    fill-few (plan r) (capture r) (groups r) (length (log r)) (length (times r)) (start r .args .closed) (logged (c .before)) (c .asked .result) (c .asked .ensures)
+    (length (capture r)) (whole r) (start r .pre .0 .1) (start r .pre .0 .0)
+
+-- ---- the needs
 
 group-words-requires : tie.Need-group-words-requires
 group-words-requires c κs = search needs
@@ -28,7 +87,12 @@ slots-requires : tie.Need-slots-requires
 slots-requires c κs = search needs
 
 read-groups-requires : tie.Need-read-groups-requires
-read-groups-requires c κs = let e = c .before .before .group-words .ensures .0 in ((c .before .before .before .before .before .before .before .pre .0 .0, c .before .slots .ensures .0), (rw e (whole-groups (c .before .before .before .before .before .before .before .args .plan) (length (c .before .before .before .before .before .before .before .args .capture .now)) (c .before .before .before .before .before .before .before .pre .0 .2)), c .before .before .before .before .before .before .before .pre .0 .1))
+read-groups-requires c κs =
+    let w = c .before .before in
+    let s = w .before .before .before .before .before in (
+      (s .pre .0 .0, c .before .slots .ensures .0),
+      (rw (w .group-words .ensures .0) (whole-groups (s .args .plan) (length (s .args .capture .now)) (s .pre .0 .2)), s .pre .0 .1),
+    )
 
 refusal-requires : tie.Need-refusal-requires
 refusal-requires c κs = search needs
@@ -37,13 +101,23 @@ same-length : tie.Need-same-length
 same-length c = search needs
 
 returns : tie.Need-returns
-returns c = given-refused (c .before .before .before .before .before .before .before .before .before .before .before .before .before .args .log .now) (c .before .before .before .before .before .before .before .before .before .before .before .before .before .args .times .now) (stops-settled _ _ _ (length (c .before .before .before .before .before .before .before .before .before .before .before .before .before .args .log .now)) (length (c .before .before .before .before .before .before .before .before .before .before .before .before .before .args .times .now)) (c .before .before .before .before .before .before .before .before .before .before .before .before .before .args .closed) (rw (c .before .before .before .before .before .before .before .before .group-words .ensures .0) at (c .before .before .before .before .before .read-groups .ensures)) (c .before .if1 .taken)) (c .refusal .ensures)
+returns c =
+    let t = c .before in
+    let r = t .before .before .before .before in
+    given-refused (log r) (times r)
+    (stops-settled (plan r) (capture r) (groups r) (length (log r)) (length (times r)) (start r .args .closed) (ended r) (t .if1 .taken)) (c .refusal .ensures)
 
 asked-requires : tie.Need-asked-requires
 asked-requires c κs = search needs
 
-sub-refusal : tie.Need-sub-refusal
-sub-refusal c = search needs
+sub-stored-place : tie.Need-sub-stored-place
+sub-stored-place c = omega (arith, c .if2 .taken)
+
+stored-place-requires : tie.Need-stored-place-requires
+stored-place-requires c κs =
+    let a = c .before in
+    let r = read (a .before) in
+    (start r .pre .0 .0, r .before .before .slots .ensures .0, omega (arith, few a))
 
 refusal-requires-2 : tie.Need-refusal-requires-2
 refusal-requires-2 c κs = search needs
@@ -52,10 +126,27 @@ same-length-2 : tie.Need-same-length-2
 same-length-2 c = search needs
 
 returns-2 : tie.Need-returns-2
-returns-2 c = let e = rw (c .before .before .before .before .before .before .before .before .before .before .group-words .ensures .0) at (c .before .before .before .before .before .before .before .read-groups .ensures) in given-refused (c .before .before .before .before .before .before .before .before .before .before .before .before .before .before .before .args .log .now) (c .before .before .before .before .before .before .before .before .before .before .before .before .before .before .before .args .times .now) (fill-settled _ _ _ (length (c .before .before .before .before .before .before .before .before .before .before .before .before .before .before .before .args .log .now)) (length (c .before .before .before .before .before .before .before .before .before .before .before .before .before .before .before .args .times .now)) (c .before .before .before .before .before .before .before .before .before .before .before .before .before .before .before .args .closed) (e .logged (c .before .before .before .if1 .left)) (c .before .before .asked .result) (c .before .before .asked .ensures) (c .before .if2 .taken)) (c .refusal2 .ensures)
+returns-2 c =
+    let t = c .before .before in
+    let a = t .before in
+    let r = read (a .before) in
+    given-refused (log r) (times r)
+    (fill-settled (plan r) (capture r) (groups r) (length (log r)) (length (times r)) (start r .args .closed) (logged (a .before)) (a .asked .result) (a .asked .ensures)
+    (t .if2 .taken) (c .before .stored-place .ensures))
+    (c .refusal2 .ensures)
 
 give-requires : tie.Need-give-requires
-give-requires c κs = let r = rw (c .before .before .before .before .before .before .before .before .before .before .before .before .group-words .ensures .0) at (c .before .before .before .before .before .before .before .before .before .read-groups .ensures) in let l = r .logged (c .before .before .before .before .before .if1 .left) in let e = c .before .before .before .before .before .before .before .before .before .before .before .before .group-words .ensures .0 in ((c .before .before .before .before .before .before .before .before .before .before .before .before .before .before .before .before .before .pre .0 .0, rw e (omega (arith, whole-groups (c .before .before .before .before .before .before .before .before .before .before .before .before .before .before .before .before .before .args .plan) (length (c .before .before .before .before .before .before .before .before .before .before .before .before .before .before .before .before .before .args .capture .now)) (c .before .before .before .before .before .before .before .before .before .before .before .before .before .before .before .before .before .pre .0 .2))), c .before .before .before .before .before .before .before .before .before .before .before .before .before .before .before .before .before .pre .0 .1), λ h k. let w = c .before .before .before .before .before .before .before .before .before .before .before .before .before .before .before .before .before .pre .1 .room (l .items) (l .is) (omega (arith, l .bytes, h)) (omega (arith, l .bytes, k)) in let s : length (c .before .before .before .before .before .before .before .before .before .read-groups .last .1 .1 .1 .1 .1 .0) ≡ length (c .before .before .before .before .before .before .before .before .before .before .before .before .before .before .before .before .before .args .built .now) = c .before .before .before .before .before .before .before .before .built .given in omega (arith, w, s, l .bytes))
+give-requires c κs =
+    let l = c .before .before .before .before .before in
+    let r = read l in
+    let s = start r in
+    let g = logged l in (
+      (s .pre .0 .0, rw (words r) (omega (arith, whole r)), s .pre .0 .1),
+      λ h k.
+          let w = s .pre .1 .room (g .items) (g .is) (omega (arith, g .bytes, h)) (omega (arith, g .bytes, k)) in
+          let e : length (built r) ≡ length (s .args .built .now) = l .before .before .before .built .given in
+          omega (arith, w, e, g .bytes),
+    )
 
 same-length-3 : tie.Need-same-length-3
 same-length-3 c = search needs
@@ -67,7 +158,18 @@ same-length-5 : tie.Need-same-length-5
 same-length-5 c = search needs
 
 returns-3 : tie.Need-returns-3
-returns-3 c = let r = rw (c .before .before .before .before .before .before .before .before .before .before .before .before .before .before .before .before .before .group-words .ensures .0) at (c .before .before .before .before .before .before .before .before .before .before .before .before .before .before .read-groups .ensures) in let l = r .logged (c .before .before .before .before .before .before .before .before .before .before .if1 .left) in rw (log-settled _ _ _ (length (c .before .before .before .before .before .before .before .before .before .before .before .before .before .before .before .before .before .before .before .before .before .before .args .log .now)) (length (c .before .before .before .before .before .before .before .before .before .before .before .before .before .before .before .before .before .before .before .before .before .before .args .times .now)) (c .before .before .before .before .before .before .before .before .before .before .before .before .before .before .before .before .before .before .before .before .before .before .args .closed) l (c .before .before .before .before .before .before .before .before .before .asked .result) (c .before .before .before .before .before .before .before .before .before .asked .ensures) (c .before .before .before .before .before .before .before .before .if2 .left)) (rw (c .before .before .before .before .before .before .before .before .before .before .before .before .before .before .before .before .before .group-words .ensures .0) at (c .before .before .before .before .give .ensures (logOf (l .items)) (built-of l)))
+returns-3 c =
+    let given = c .before .before .before .before in
+    let o = given .before .before .before .before in
+    let a = o .before in
+    let l = a .before in
+    let r = read l in
+    rw (log-settled (plan r) (capture r) (groups r) (length (log r)) (length (times r)) (start r .args .closed) (logged l) (a .asked .result) (a .asked .ensures) (o .if2 .left))
+    (subst
+    (λ (w : ℕ).
+    Given (roomed (plan r) (capture r) (length (capture r) / (3 * w)) (length (log r)) (length (times r)) (logOf (logged l .items))) (given .give .result) (log r)
+    (given .give .last .1 .1 .1 .1 .1 .0) (times r) (given .give .last .1 .1 .1 .1 .1 .1 .0))
+    (words r) (given .give .ensures (logOf (logged l .items)) (built-of (logged l))))
 
 pub read-by-spec : {M : Type 1} → statement M
 read-by-spec =
@@ -82,7 +184,8 @@ read-by-spec =
     same-length
     returns
     asked-requires
-    sub-refusal
+    sub-stored-place
+    stored-place-requires
     refusal-requires-2
     same-length-2
     returns-2

@@ -1,73 +1,304 @@
-use Rattle.read_groups.proofs.Groups.{group-room, over-none, over-fault, over-bad, over-more, over-all}
+use Prim.Native.Nat.{ℕ, _+_, _*_, _-_, _^_, _≤_, _<_}
 use native.Mathlib.Nat.{mul-le-mul-right}
-use lib.ListN.{length}
-use Prim.Native.Nat.{_+_, _*_, _-_, _≤_}
-use mathlib.Core.Path.{_≡_, refl, sym, ap, _∙_}
 use native.Mathlib.Omega.{arith}
-use Rattle.format.specs.Plan.{groupWords}
-use Rattle.read_groups.specs.Groups.{Over}
 use borrow.Author.Needs.{needs}
+use mathlib.Core.Path.{_≡_, refl, sym, ap, ap₂, _∙_}
+use mathlib.Core.List.{List}
+use lib.ListN.{length, getD, take, drop}
+use Rattle.format.specs.Plan.{groupWords, slots, lead}
+use Rattle.format.specs.Group.{none, groupFault, groupSlots}
+use Rattle.format.specs.Reader.{counted}
+use Rattle.format.specs.Read.{stopped}
+use Rattle.format.specs.Laws.Limits.{Shape, group-most, mostGroupWords, slots-most, lead-few}
+use Rattle.format.specs.Laws.Reader.Named.{wordsIn}
+use Rattle.format.specs.declared.Plan.{Plan}
+use Rattle.group_read.specs.Row.{dealtCount, Deals}
+use Rattle.group_read.proofs.Answers.{words-length, words-low}
+use Rattle.read_groups.specs.Misplaced.{numbersOf}
+use Rattle.read_groups.specs.Groups.{Over}
+use Rattle.read_groups.proofs.Groups.{over-none, over-fault, over-bad, over-more, over-all, since-low, numbers-few, dealt-all, group-room}
+use Rattle.read_groups.proofs.Groups.{part-length, dealt-none, dealt-found, dealt-low, dealt-words}
 use Rattle.read_groups.proofs.over_groups.Statement.{statement}
 use Rattle.read_groups.proofs.over_groups.Tie as tie
-use Rattle.read_groups.proofs.over_groups.Reads as reads
-use Rattle.read_groups.proofs.over_groups.Lts as lts
-use Rattle.group_read.proofs.first_fault.Reads as first-fault-reads
-use Rattle.data_run.proofs.on_group.Reads as on-group-reads
-use Rattle.read_groups.proofs.start_pass.Reads as start-pass-reads
 
 abbrev Inv-loop : tie.InvT-loop
-Inv-loop kinds plan count capture tables far groups out₀ size start pass₀ g₀ group₀ out pass g group = (g ≤ groups) × (group ≡ g * groupWords plan) × Over kinds plan capture groups out₀ g pass out
+Inv-loop kinds plan count capture groups row₀ out₀ size first behind start pass₀ g₀ from₀ row out pass g from =
+    (g ≤ groups) × (from ≡ g * slots plan) × (length row ≡ length row₀) × Over kinds plan capture groups out₀ g pass out
 
 abbrev μ-loop : tie.MeasureT-loop
-μ-loop kinds plan count capture tables far groups out₀ size start pass₀ g₀ group₀ out pass g group = groups - g
+μ-loop kinds plan count capture groups row₀ out₀ size first behind start pass₀ g₀ from₀ row out pass g from = groups - g
 
-room : (c : tie.In-loop Inv-loop μ-loop) → 3 * (c .before .loop .group + groupWords (c .before .before .before .before .before .before .args .plan)) ≤ length (c .before .before .before .before .before .before .args .capture .now)
-room c = rw (c .before .loop .inv .1) (group-room _ _ _ _ _ _ (c .loop-test .taken) _ _ (c .before .loop .inv .2) (c .before .before .before .before .before .before .pre .1 .0))
+-- ---- the places
+
+-- at a group
+abbrev AtLoop : Type 0
+AtLoop = tie.At-loop Inv-loop μ-loop
+
+abbrev start : AtLoop → tie.Start Inv-loop μ-loop
+start c = c .before .before .before .before .before .before .before
+
+abbrev plan : AtLoop → Plan
+plan c = start c .args .plan
+
+abbrev capture : AtLoop → List ℕ
+capture c = start c .args .capture .now
+
+shape : (c : AtLoop) → Shape (plan c)
+shape c = start c .pre .0 .0
+
+all : (c : AtLoop) → length (capture c) ≡ start c .args .groups * (3 * groupWords (plan c))
+all c = start c .pre .1 .0
+
+-- in a group
+abbrev InLoop : Type 0
+InLoop = tie.In-loop Inv-loop μ-loop
+
+room : (c : InLoop) → c .before .loop .g * (3 * groupWords (plan (c .before))) + 3 * groupWords (plan (c .before)) ≤ length (capture (c .before))
+room c = let l = c .before in group-room (plan l) (shape l) (start l .args .groups) (l .loop .g) (length (capture l)) (all l) (c .loop-test .taken)
+
+bytes : (c : AtLoop) (i : ℕ) → getD (capture c) i 0 < 2 ^ 8
+bytes c i = omega (arith, c .before .before .before .before .before .before .shared-slice-known .given i)
+
+size : (c : AtLoop) → groupWords (plan c) ≤ mostGroupWords
+size c = group-most (plan c) (shape c)
+
+over : (c : AtLoop) → Over (start c .args .kinds) (plan c) (capture c) (start c .args .groups) (start c .args .out .now) (c .loop .g) (c .loop .pass) (c .loop .out)
+over c = c .loop .inv .3
+
+-- it is dealt
+abbrev Dealt : Type 0
+Dealt = tie.After-deal Inv-loop μ-loop
+
+abbrev in-loop : Dealt → InLoop
+in-loop c = c .before .before .before
+
+abbrev loop : Dealt → AtLoop
+loop c = in-loop c .before
+
+abbrev row : Dealt → List ℕ
+row c = c .deal .last .1 .1 .0
+
+low : (c : Dealt) → c .deal .result .place < groupWords (plan (loop c))
+low c = dealt-low (plan (loop c)) (shape (loop c)) (capture (loop c)) (loop c .loop .g) (c .deal .ensures)
+
+-- without a fault
+abbrev Sound-group : Type 0
+Sound-group = tie.Else1 Inv-loop μ-loop
+
+abbrev dealt : Sound-group → Dealt
+dealt c = c .before .before .before .before
+
+abbrev group : Sound-group → AtLoop
+group c = loop (dealt c)
+
+first : (c : Sound-group) → group c .before .before .lead .result ≡ lead (plan (group c))
+first c = group c .before .before .lead .ensures
+
+abbrev words : Sound-group → List ℕ
+words c = wordsIn (groupSlots (plan (group c)) (capture (group c)) (group c .loop .g * groupWords (plan (group c))))
+
+abbrev part : Sound-group → List ℕ
+part c =
+    let n = group c .before .before .lead .result in
+    take (n + start (group c) .args .count - n) (drop n (row (dealt c)))
+
+part-is : (c : Sound-group) → part c ≡ words c
+part-is c =
+    let l = group c in
+    dealt-words (plan l) (shape l) (capture l) (l .loop .g) (dealt c .deal .ensures) (l .before .before .lead .result) (start l .args .count) (c .if1 .left) (first c)
+    (start l .pre .0 .1)
+
+part-length-is : (c : Sound-group) → length (part c) ≡ slots (plan (group c))
+part-length-is c = ap (λ (l : List ℕ). length l) (part-is c) ∙ words-length (plan (group c)) (capture (group c)) (group c .loop .g * groupWords (plan (group c)))
+
+numbers : (c : Sound-group) → (group c .loop .g + 1) * slots (plan (group c)) ≤ 349525
+numbers c =
+    let l = group c in
+    let k : l .loop .g + 1 ≤ start l .args .groups = omega (arith, in-loop (dealt c) .loop-test .taken) in
+    omega (arith, numbers-few (plan l) (shape l) (start l .args .groups) (length (capture l)) (all l) (start l .pre .1 .1), mul-le-mul-right (slots (plan l)) k)
+
+counted-is : (c : Sound-group) → counted (group c .loop .from) (part c) ≡ numbersOf (plan (group c)) (capture (group c)) (group c .loop .g)
+counted-is c = ap₂ counted (group c .loop .inv .1) (part-is c)
+
+sound : (c : Sound-group) → groupFault (plan (group c)) (capture (group c)) (group c .loop .g * groupWords (plan (group c))) ≡ none
+sound c = dealt-none (plan (group c)) (shape (group c)) (capture (group c)) (group c .loop .g) (dealt c .deal .ensures) (c .if1 .left)
+
+-- its row was read
+abbrev Ran-row : Type 0
+Ran-row = tie.After-on-row Inv-loop μ-loop
+
+abbrev of-row : Ran-row → Sound-group
+of-row c = c .before .before .before .before
+
+abbrev out : Ran-row → List ℕ
+out c = c .on-row .last .1 .1 .1 .1 .1 .0
+
+since-few : (c : Ran-row) → c .on-row .result .since < 2 ^ 40
+since-few c =
+    let e = of-row c in
+    let l = group e in
+    omega (
+      arith,
+      since-low (start l .args .kinds) (plan l) (capture l) (start l .args .groups) (start l .args .out .now) (shape l) (l .loop .g) (in-loop (dealt e) .loop-test .taken)
+          (l .loop .pass) (l .loop .out) (over l) (counted (l .loop .from) (part e)) (counted-is e) (sound e) (c .on-row .result) (out c) (c .on-row .ensures .0),
+      numbers e,
+    )
+
+-- ---- the needs
 
 mul-size : tie.Need-mul-size Inv-loop μ-loop
-mul-size c = omega (arith, mul-le-mul-right (c .before .before .before .args .plan .words) (c .before .before .before .pre .0 .0 .tracks-most), c .before .before .before .pre .0 .0 .words-most)
+mul-size c = let s = c .before .before .before .before in omega (arith, group-most (s .args .plan) (s .pre .0 .0))
+
+lead-requires : tie.Need-lead-requires Inv-loop μ-loop
+lead-requires c κs = search needs
+
+add-behind : tie.Need-add-behind Inv-loop μ-loop
+add-behind c =
+    let s = c .before .before .before .before .before in
+    omega (arith, c .lead .ensures, lead-few (s .args .plan), s .pre .0 .1, slots-most (s .args .plan) (s .pre .0 .0))
 
 start-pass-requires : tie.Need-start-pass-requires Inv-loop μ-loop
 start-pass-requires c κs = search needs
 
 loop-holds : tie.Need-loop-holds Inv-loop μ-loop
-loop-holds c = (omega arith, omega arith, over-none _ _ _ _ _ (c .start-pass .ensures))
+loop-holds c = (omega arith, omega arith, refl, over-none _ _ _ _ _ (c .start-pass .ensures))
 
-first-fault-requires : tie.Need-first-fault-requires Inv-loop μ-loop
-first-fault-requires c κs = (c .before .before .before .before .before .before .pre .0 .0, room c, c .before .before .before .before .before .before .pre .1 .1, c .before .before .before .before .before .before .pre .0 .2, c .before .before .before .before .before .before .pre .0 .3)
+mul-begin : tie.Need-mul-begin Inv-loop μ-loop
+mul-begin c = omega (arith, size (c .before))
+
+mul-begin-2 : tie.Need-mul-begin-2 Inv-loop μ-loop
+mul-begin-2 c = omega (arith, room c, start (c .before) .pre .1 .1)
+
+mul-end : tie.Need-mul-end Inv-loop μ-loop
+mul-end c = omega (arith, size (c .before))
+
+add-end : tie.Need-add-end Inv-loop μ-loop
+add-end c = omega (arith, room c, start (c .before) .pre .1 .1)
+
+sub-deal : tie.Need-sub-deal Inv-loop μ-loop
+sub-deal c = search needs
+
+part-deal-start : tie.Need-part-deal-start Inv-loop μ-loop
+part-deal-start c = search needs
+
+part-deal-end : tie.Need-part-deal-end Inv-loop μ-loop
+part-deal-end c = room c
+
+deal-requires : tie.Need-deal-requires Inv-loop μ-loop
+deal-requires c κs =
+    let i = c .before .before in
+    let l = i .before in (
+      shape l,
+      part-length (plan l) (shape l) (capture l) (start l .args .groups) (l .loop .g) (all l) (i .loop-test .taken),
+      omega (arith, l .loop .inv .2, start l .pre .0 .2 (omega (arith, i .loop-test .taken))),
+    )
+
+mul-t25 : tie.Need-mul-t25 Inv-loop μ-loop
+mul-t25 c = let d = c .before .before .before .before in omega (arith, room (in-loop d), start (loop d) .pre .1 .1)
+
+add-t26 : tie.Need-add-t26 Inv-loop μ-loop
+add-t26 c = let d = c .before .before .before .before .before in omega (arith, low d, room (in-loop d), start (loop d) .pre .1 .1)
 
 same-length : tie.Need-same-length Inv-loop μ-loop
 same-length c = search needs
 
-returns : tie.Need-returns Inv-loop μ-loop
-returns c = record { through = λ z. absurd (c .if1 .taken z); stops = λ z. over-fault _ _ _ _ _ _ (c .before .before .before .loop-test .taken) _ _ (c .before .before .before .before .loop .inv .2) (rw (c .before .before .before .before .loop .inv .1) at (c .before .before .first-fault .ensures)) z }
-
-on-group-requires : tie.Need-on-group-requires Inv-loop μ-loop
-on-group-requires c κs = ((c .before .before .before .before .before .loop .inv .2 .brought .sound, rw (c .before .before .before .before .before .loop .inv .1) (c .before .before .before .before .before .loop .inv .2 .few), c .before .before .before .before .before .before .before .before .before .before .pre .0 .0, c .before .before .before .before .before .before .before .before .before .before .pre .0 .1), (room (c .before .before .before .before), c .before .before .before .before .before .before .before .before .before .before .pre .1 .1))
-
 same-length-2 : tie.Need-same-length-2 Inv-loop μ-loop
 same-length-2 c = search needs
 
-returns-2 : tie.Need-returns-2 Inv-loop μ-loop
-returns-2 c = record { through = λ z. absurd (omega arith); stops = λ z. over-bad _ _ _ _ _ _ (c .before .before .before .before .before .before .before .before .loop-test .taken) _ _ (c .before .before .before .before .before .before .before .before .before .loop .inv .2) _ _ _ (rw (c .before .before .before .before .before .before .before .before .before .loop .inv .1) at (c .before .before .before .before .before .before .before .first-fault .ensures)) (c .before .before .before .before .before .if1 .left) (rw (c .before .before .before .before .before .before .before .before .before .loop .inv .1) at (c .before .before .before .on-group .ensures .0)) (c .if2 .taken) }
+returns : tie.Need-returns Inv-loop μ-loop
+returns c =
+    let t = c .before in
+    let d = t .before .before .before .before in
+    let l = loop d in
+    record {
+      through = λ z. absurd (t .if1 .taken z);
+      stops = λ z.
+          over-fault (start l .args .kinds) (plan l) (capture l) (start l .args .groups) (start l .args .out .now) (shape l) (l .loop .g) (in-loop d .loop-test .taken) (l .loop .pass)
+          (l .loop .out) (over l) (dealt-found (plan l) (shape l) (capture l) (l .loop .g) (d .deal .ensures) z);
+    }
 
-add-group : tie.Need-add-group Inv-loop μ-loop
-add-group c = omega (arith, room (c .before .before .before .before .before .before .before .before), c .before .before .before .before .before .before .before .before .before .before .before .before .before .before .pre .1 .1)
+mul-on-row : tie.Need-mul-on-row Inv-loop μ-loop
+mul-on-row c = omega (arith, first c, lead-few (plan (group c)))
 
-add-g : tie.Need-add-g Inv-loop μ-loop
-add-g c = omega (arith, c .before .before .before .before .before .before .before .before .loop-test .taken, c .before .before .before .before .before .before .before .before .before .before .before .before .before .before .fits .groups)
+sub-on-row : tie.Need-sub-on-row Inv-loop μ-loop
+sub-on-row c = search needs
 
-loop-less : tie.Need-loop-less Inv-loop μ-loop
-loop-less c = search needs
+part-on-row-start : tie.Need-part-on-row-start Inv-loop μ-loop
+part-on-row-start c = search needs
 
-loop-again : tie.Need-loop-again Inv-loop μ-loop
-loop-again c = (omega arith, omega (arith, c .before .before .before .before .before .before .before .before .before .loop .inv .1), over-more _ _ _ _ _ _ (c .before .before .before .before .before .before .before .before .loop-test .taken) _ _ (c .before .before .before .before .before .before .before .before .before .loop .inv .2) (rw (c .before .before .before .before .before .before .before .before .before .loop .inv .1) at (c .before .before .before .before .before .before .before .first-fault .ensures)) (c .before .before .before .before .before .if1 .left) (rw (c .before .before .before .before .before .before .before .before .before .loop .inv .1) at (c .before .before .before .on-group .ensures .0)) (c .if2 .left) (rw (c .before .before .before .before .before .before .before .before .before .loop .inv .1) at (c .before .before .before .on-group .ensures .1 (c .if2 .left))))
+part-on-row-end : tie.Need-part-on-row-end Inv-loop μ-loop
+part-on-row-end c =
+    let e = c .before in
+    let l = group e in
+    let r = start l .pre .0 .2 (omega (arith, in-loop (dealt e) .loop-test .taken)) in
+    omega (arith, first e, start l .pre .0 .1, dealt e .deal .ensures .long, l .loop .inv .2, r, dealt-all (plan l) (shape l))
+
+on-row-requires : tie.Need-on-row-requires Inv-loop μ-loop
+on-row-requires c κs =
+    let e = c .before .before .before in
+    let l = group e in (
+      over l .brought .sound,
+      λ i h. rw (part-is e) (words-low (plan l) (capture l) (l .loop .g * groupWords (plan l)) (bytes l) i (rw (part-is e) at h)),
+      rw (l .loop .inv .1) (over l .few),
+      omega (arith, l .loop .inv .1, part-length-is e, numbers e),
+    )
+
+stored-place-requires : tie.Need-stored-place-requires Inv-loop μ-loop
+stored-place-requires c κs = let r = c .before .before .before in let l = group (of-row r) in (shape l, start l .pre .0 .1, since-few r)
 
 same-length-3 : tie.Need-same-length-3 Inv-loop μ-loop
 same-length-3 c = search needs
 
+same-length-4 : tie.Need-same-length-4 Inv-loop μ-loop
+same-length-4 c = c .before .before .before .out .given ∙ over (group (of-row (c .before .before .before .before))) .brought .long
+
+returns-2 : tie.Need-returns-2 Inv-loop μ-loop
+returns-2 c =
+    let t = c .before in
+    let r = t .before .before .before in
+    let e = of-row r in
+    let l = group e in
+    record {
+      through = λ z. absurd (omega arith);
+      stops = λ z.
+          over-bad (start l .args .kinds) (plan l) (capture l) (start l .args .groups) (start l .args .out .now) (shape l) (l .loop .g) (in-loop (dealt e) .loop-test .taken)
+          (l .loop .pass) (l .loop .out) (over l) (counted (l .loop .from) (part e)) (counted-is e) (sound e) (r .on-row .result) (out r) (r .on-row .ensures .0) (t .if2 .taken)
+          ∙ ap (stopped 13) (sym (c .stored-place .ensures));
+    }
+
+add-from : tie.Need-add-from Inv-loop μ-loop
+add-from c = let e = of-row (c .before .before .before) in omega (arith, group e .loop .inv .1, start (group e) .pre .0 .1, numbers e)
+
+add-g : tie.Need-add-g Inv-loop μ-loop
+add-g c = let e = of-row (c .before .before .before) in omega (arith, in-loop (dealt e) .loop-test .taken, start (group e) .fits .groups)
+
+loop-less : tie.Need-loop-less Inv-loop μ-loop
+loop-less c = omega (arith, in-loop (dealt (of-row (c .before .before .before))) .loop-test .taken)
+
+loop-again : tie.Need-loop-again Inv-loop μ-loop
+loop-again c =
+    let r = c .before .before .before in
+    let e = of-row r in
+    let l = group e in (
+      omega (arith, in-loop (dealt e) .loop-test .taken),
+      omega (arith, l .loop .inv .1, start l .pre .0 .1),
+      dealt e .deal .ensures .long ∙ l .loop .inv .2,
+      over-more (start l .args .kinds) (plan l) (capture l) (start l .args .groups) (start l .args .out .now) (shape l) (l .loop .g) (in-loop (dealt e) .loop-test .taken)
+          (l .loop .pass) (l .loop .out) (over l) (counted (l .loop .from) (part e)) (counted-is e) (sound e) (r .on-row .result) (out r) (r .on-row .ensures .0) (c .if2 .left)
+          (omega (arith, r .on-row .ensures .1 (c .if2 .left), l .loop .inv .1, part-length-is e)),
+    )
+
+same-length-5 : tie.Need-same-length-5 Inv-loop μ-loop
+same-length-5 c = search needs
+
+same-length-6 : tie.Need-same-length-6 Inv-loop μ-loop
+same-length-6 c = search needs
+
 returns-3 : tie.Need-returns-3 Inv-loop μ-loop
-returns-3 c = let e : c .before .loop .g ≡ c .before .before .before .before .before .before .args .groups = omega arith in record { through = λ z. over-all _ _ _ _ _ _ e (c .before .loop .inv .2); stops = λ z. absurd (z refl) }
+returns-3 c =
+    let l = c .before in
+    let e : l .loop .g ≡ start l .args .groups = omega (arith, c .loop-test .left, l .loop .inv .0) in
+    record { through = λ z. over-all _ _ _ _ _ _ e (over l); stops = λ z. absurd (z refl) }
 
 pub over-groups-spec : {M : Type 1} → statement M
 over-groups-spec =
@@ -76,17 +307,36 @@ over-groups-spec =
     Inv-loop
     μ-loop
     mul-size
+    lead-requires
+    add-behind
     start-pass-requires
     loop-holds
-    first-fault-requires
+    mul-begin
+    mul-begin-2
+    mul-end
+    add-end
+    sub-deal
+    part-deal-start
+    part-deal-end
+    deal-requires
+    mul-t25
+    add-t26
     same-length
-    returns
-    on-group-requires
     same-length-2
+    returns
+    mul-on-row
+    sub-on-row
+    part-on-row-start
+    part-on-row-end
+    on-row-requires
+    stored-place-requires
+    same-length-3
+    same-length-4
     returns-2
-    add-group
+    add-from
     add-g
     loop-less
     loop-again
-    same-length-3
+    same-length-5
+    same-length-6
     returns-3)
