@@ -71,8 +71,9 @@ fn command_at(tops: u32, row: &[u32], from: Taken, word: u32, top: u32, out: &mu
         if is_tag(tops, row, slot, awaits) {
             let marked = pen.put_in(out, base + 65536, 26);
             let tagged = marked.put_in(out, tag_of(row, slot), 46);
+            let behind = slot + 3;
             return Taken {
-                slot: slot + 3,
+                slot: behind,
                 pen: tagged,
             };
         }
@@ -109,8 +110,9 @@ fn arinc_at(tops: u32, row: &[u32], from: Taken, word: u32, top: u32, out: &mut 
         if is_tag(tops, row, slot, awaits) {
             let marked = pen.put_in(out, base + 4294967296, 43);
             let tagged = marked.put_in(out, tag_of(row, slot), 46);
+            let behind = slot + 3;
             return Taken {
-                slot: slot + 3,
+                slot: behind,
                 pen: tagged,
             };
         }
@@ -149,8 +151,9 @@ fn status_at(tops: u32, row: &[u32], from: Taken, word: u32, top: u32, out: &mut
     }
     let bits = ((32 + top / 16) * 2 + (3 - then % 16 / 4)) * 131072 + 65536 + status % 65536;
     let put = pen.put_in(out, bits as u64 * 16384 + response as u64, 40);
+    let behind = from.slot + 2;
     Taken {
-        slot: from.slot + 2,
+        slot: behind,
         pen: put,
     }
 }
@@ -165,8 +168,9 @@ fn notice_at(tops: u32, row: &[u32], from: Taken, word: u32, top: u32, out: &mut
     if data_start::is_pair(information) {
         let item = data_start::notice(0, 0, top / 16, information);
         let put = pen.put_in(out, item.second, 18);
+        let behind = from.slot + 1;
         return Taken {
-            slot: from.slot + 1,
+            slot: behind,
             pen: put,
         };
     }

@@ -186,9 +186,10 @@ fn on_items(pass: Pass, taken: Taken, from: u64) -> Pass
 {
     let held = pass.held;
     let pen = taken.pen;
+    let since = from + taken.slot as u64 - 1;
     Pass {
         held: held,
-        since: from + taken.slot as u64 - 1,
+        since: since,
         pen: pen,
         fills: on_data(pass.fills),
         bad: false,

@@ -162,8 +162,8 @@ put-in-requires-2 c κs = let r = room-behind ((start-tag-of c) .args .from .pen
     ((before-top-of2 (before-then2 (before-is-tag (before-then3 (before-put-in (before-tag-of c)))))) .syllable .ensures) refl) ((before-tag-of c) .put-in .ensures)
     ((start-tag-of c) .pre .0 .few) ((start-tag-of c) .pre .0 .room) in (r .0, omega arith, rw (c .tag-of .ensures) (tag-fits _ _ _), r .1)
 
-add-t34 : tie.Need-add-t34
-add-t34 c = omega (arith, (start-put-in2 (c .before .before)) .pre .0 .five, (start-put-in2 (c .before .before)) .pre .0 .short)
+add-behind : tie.Need-add-behind
+add-behind c = omega (arith, (start-put-in2 (c .before .before)) .pre .0 .five, (start-put-in2 (c .before .before)) .pre .0 .short)
 
 same-length : tie.Need-same-length
 same-length c = search needs
@@ -239,7 +239,7 @@ arinc-at-spec =
     put-in-requires
     tag-of-requires
     put-in-requires-2
-    add-t34
+    add-behind
     same-length
     returns-2
     returns-3

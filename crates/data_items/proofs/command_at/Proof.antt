@@ -125,8 +125,8 @@ put-in-requires-2 c κs = let r = room-behind ((start-tag-of c) .args .from .pen
     ((before-top-of (before-then1 (before-is-tag (before-then2 (before-put-in (before-tag-of c)))))) .command .ensures)) ((before-tag-of c) .put-in .ensures)
     ((start-tag-of c) .pre .0 .few) ((start-tag-of c) .pre .0 .room) in (r .0, omega arith, rw (c .tag-of .ensures) (tag-fits _ _ _), r .1)
 
-add-t28 : tie.Need-add-t28
-add-t28 c = omega (arith, (start-put-in2 (c .before .before)) .pre .0 .five, (start-put-in2 (c .before .before)) .pre .0 .short)
+add-behind : tie.Need-add-behind
+add-behind c = omega (arith, (start-put-in2 (c .before .before)) .pre .0 .five, (start-put-in2 (c .before .before)) .pre .0 .short)
 
 same-length : tie.Need-same-length
 same-length c = search needs
@@ -187,7 +187,7 @@ command-at-spec =
     put-in-requires
     tag-of-requires
     put-in-requires-2
-    add-t28
+    add-behind
     same-length
     returns
     returns-2

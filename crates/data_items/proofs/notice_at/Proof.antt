@@ -42,8 +42,8 @@ put-in-requires c κs = (
   omega (arith, (start-notice (c .before)) .pre .0 .room),
 )
 
-add-t15 : tie.Need-add-t15
-add-t15 c = omega (arith, (start-put-in (c .before .before .before)) .pre .0 .five, (start-put-in (c .before .before .before)) .pre .0 .short)
+add-behind : tie.Need-add-behind
+add-behind c = omega (arith, (start-put-in (c .before .before .before)) .pre .0 .five, (start-put-in (c .before .before .before)) .pre .0 .short)
 
 same-length : tie.Need-same-length
 same-length c = search needs
@@ -64,7 +64,7 @@ notice-at-spec =
     is-pair-requires
     notice-requires
     put-in-requires
-    add-t15
+    add-behind
     same-length
     returns
     returns-2)

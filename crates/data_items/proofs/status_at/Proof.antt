@@ -105,8 +105,8 @@ put-in-requires c κs = (
   omega (arith, (start-else4 (c .before)) .pre .0 .room),
 )
 
-add-t15 : tie.Need-add-t15
-add-t15 c = omega (arith, (start-put-in (c .before .before .before)) .pre .0 .five)
+add-behind : tie.Need-add-behind
+add-behind c = omega (arith, (start-put-in (c .before .before .before)) .pre .0 .five)
 
 same-length : tie.Need-same-length
 same-length c = search needs
@@ -142,6 +142,6 @@ status-at-spec =
     cast-put-in-2
     add-put-in
     put-in-requires
-    add-t15
+    add-behind
     same-length
     returns-5)
