@@ -1,5 +1,5 @@
 -- A row that is being dealt: the tracks before `t` whole, and of the track `t` the words before the position `j`.
-use Prim.Native.Nat.{ℕ, zero, suc, _+_, _*_, _-_, _/_, _%_, _≤_, _<_}
+use Prim.Native.Nat.{ℕ, _+_, _*_, _-_, _/_, _%_, _≤_, _<_}
 use native.Mathlib.Omega.{arith}
 use native.Mathlib.Nat.{add-mul-div-right, add-mul-mod-self-right, mod-eq-of-lt, div-eq-of-lt, div-add-mod', mod-lt, mul-le-mul-right, div-lt-iff-lt-mul}
 use native.Mathlib.Decide.{decLt}

@@ -1,5 +1,5 @@
 -- Dealt words and the words of a track stand within the group.
-use Prim.Native.Nat.{ℕ, _+_, _*_, _-_, _/_, _%_, _≤_, _<_}
+use Prim.Native.Nat.{ℕ, _+_, _*_, _/_, _%_, _≤_, _<_}
 use native.Mathlib.Omega.{arith}
 use native.Mathlib.Nat.{mod-lt, mul-le-mul-right, div-lt-iff-lt-mul}
 use mathlib.Core.Path.{_≡_}

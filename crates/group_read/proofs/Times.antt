@@ -6,7 +6,7 @@ use mathlib.Core.List.{List}
 use borrow.Author.Tests.{lt-ltb}
 use Rattle.format.specs.Word.{wordAt}
 use Rattle.format.specs.Plan.{placeOf}
-use Rattle.format.specs.Group.{Fault as GroupFault, none, found, orElse, unless, timeWordFault, timeFault}
+use Rattle.format.specs.Group.{Fault as GroupFault, none, orElse, unless, timeWordFault, timeFault}
 use Rattle.format.specs.Laws.Word.Parts.{info-low}
 use Rattle.format.specs.declared.Plan.{Plan}
 use Rattle.group_read.specs.declared.Fault.{Fault}

@@ -10,7 +10,7 @@ ghost use Rattle.format.specs.Plan.{lead, rows, groupWords, placeOf};
 ghost use Rattle.format.specs.Group.{none, unless, timeFault, timeInfo, groupTime};
 ghost use Rattle.format.specs.Laws.Limits.{Shape};
 ghost use Rattle.crc.specs.Sum.{Small, checkOfSum};
-ghost use Rattle.group_read.specs.Faults.{faultOf, earlierFault, isTimeWord, numberUnless, earlierNumber, wordNumber, lastNumber, evenPlace};
+ghost use Rattle.group_read.specs.Faults.{faultOf, earlierFault, isTimeWord, numberUnless, earlierNumber, lastNumber, evenPlace};
 ghost use Rattle.group_read.specs.Row.{dealtCount, Deals};
 use crc::Sum;
 use format::Plan;

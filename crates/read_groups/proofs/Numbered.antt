@@ -1,5 +1,5 @@
 -- Fill told by numbers: the same fill as by its stored places; and how great numbers are.
-use Prim.Native.Nat.{ℕ, zero, suc, _+_, _*_, _≤_, _<_}
+use Prim.Native.Nat.{ℕ, zero, suc, _+_, _≤_, _<_}
 use native.Mathlib.Numerals.{add-one}
 use native.Mathlib.Omega.{arith}
 use mathlib.Core.Bool.{Bool, true, false, cond}
@@ -10,9 +10,8 @@ use lib.Dec.{eqb}
 use borrow.Author.Tests.{ne-eqb}
 use Rattle.format.specs.Lists.{list, All, nil, cons}
 use Rattle.format.specs.Word.{isFill, busOf}
-use Rattle.format.specs.Plan.{slots, groupWords, storedAt}
+use Rattle.format.specs.Plan.{slots, storedAt}
 use Rattle.format.specs.Reader.{Slot, Ran, badAt, ran, counted}
-use Rattle.format.specs.Group.{groupSlots}
 use Rattle.format.specs.Read.{misplaced}
 use Rattle.format.specs.Laws.Lists.{all-map}
 use Rattle.format.specs.Laws.Reader.Named.{named, slots-counted, RanIn}

@@ -1,10 +1,10 @@
 -- The earliest misplaced fill, found from the left without remembering the slots.
-use Prim.Native.Nat.{ℕ, zero, suc, _+_, _*_, _-_}
+use Prim.Native.Nat.{ℕ, zero, suc, _*_, _-_}
 use mathlib.Core.Bool.{cond}
 use mathlib.Core.List.{List, [], _∷_}
 use lib.Dec.{eqb}
 use Rattle.format.specs.Lists.{list}
-use Rattle.format.specs.Plan.{slots, groupWords, storedAt}
+use Rattle.format.specs.Plan.{slots, groupWords}
 use Rattle.format.specs.Reader.{Slot, counted}
 use Rattle.format.specs.Group.{Fault, none, found, groupSlots}
 use Rattle.format.specs.Laws.Reader.Named.{wordsIn}

@@ -5,12 +5,12 @@ use mathlib.Core.Path.{_≡_, refl, sym, ap, _∙_}
 use mathlib.Core.List.{List}
 use mathlib.Core.Logic.{⊎-elim}
 use lib.ListN.{length, set, length-set}
-use Rattle.format.specs.Plan.{rows, groupWords}
+use Rattle.format.specs.Plan.{rows}
 use Rattle.format.specs.Group.{groupFault}
 use Rattle.format.specs.Laws.Limits.{Shape, rows-under, dealt-most, group-most, mostDealt, mostGroupWords}
 use Rattle.format.specs.declared.Plan.{Plan}
 use Rattle.group_read.specs.Faults.{faultOf}
-use Rattle.group_read.specs.Row.{dealtCount, slotOf, Deals}
+use Rattle.group_read.specs.Row.{dealtCount}
 use Rattle.group_read.proofs.Places.{word-room}
 use Rattle.group_read.proofs.Search.{restOfTracks, rest-starts, rest-ends}
 use Rattle.group_read.proofs.Dealing.{Dealing, slot-below, slot-next, deal-start, deal-more, deal-two, deal-track, deal-behind, deal-over}

@@ -1,5 +1,4 @@
 use mathlib.Core.Path.{refl}
-use mathlib.Core.Bool.{cond, true, false}
 use borrow.Author.Needs.{needs}
 use Rattle.group_read.specs.Faults.{wordNumber, lastNumber}
 use Rattle.group_read.proofs.last_number.Statement.{statement}

@@ -1,14 +1,13 @@
-use Prim.Native.Nat.{ℕ, _*_, _/_, _^_, _≤_, _<_}
+use Prim.Native.Nat.{ℕ, _*_, _/_, _≤_}
 use native.Mathlib.Omega.{arith}
 use borrow.Author.Needs.{needs}
-use mathlib.Core.Path.{_≡_, subst, sym}
+use mathlib.Core.Path.{_≡_, subst}
 use mathlib.Core.List.{List}
 use lib.ListN.{length}
 use Rattle.format.specs.Log.{logOf}
 use Rattle.format.specs.Plan.{groupWords}
 use Rattle.format.specs.Answer.{Given}
 use Rattle.format.specs.Read.{roomed}
-use Rattle.format.specs.Laws.Limits.{Shape}
 use Rattle.format.specs.declared.Plan.{Plan}
 use Rattle.read_groups.specs.End.{Logged, Ended}
 use Rattle.read.proofs.Given.{given-refused, some-words, whole-groups, built-of, stops-settled, fill-settled, fill-few, log-settled}

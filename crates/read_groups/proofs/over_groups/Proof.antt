@@ -12,7 +12,6 @@ use Rattle.format.specs.Read.{stopped}
 use Rattle.format.specs.Laws.Limits.{Shape, group-most, mostGroupWords, slots-most, lead-few}
 use Rattle.format.specs.Laws.Reader.Named.{wordsIn}
 use Rattle.format.specs.declared.Plan.{Plan}
-use Rattle.group_read.specs.Row.{dealtCount, Deals}
 use Rattle.group_read.proofs.Answers.{words-length, words-low}
 use Rattle.read_groups.specs.Misplaced.{numbersOf}
 use Rattle.read_groups.specs.Groups.{Over}

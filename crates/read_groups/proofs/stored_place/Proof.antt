@@ -2,7 +2,7 @@ use Prim.Native.Nat.{ℕ, _+_, _*_, _/_, _%_, _^_, _≤_, _<_}
 use native.Mathlib.Nat.{mod-lt, div-le-self, mul-le-mul}
 use native.Mathlib.Omega.{arith}
 use borrow.Author.Needs.{needs}
-use mathlib.Core.Path.{_≡_, sym, ap, ap₂, _∙_}
+use mathlib.Core.Path.{ap, ap₂, _∙_}
 use Rattle.format.specs.Plan.{groupWords, slots, lead, placeOf, storedAt}
 use Rattle.format.specs.Laws.Limits.{free, group-most, lead-few, slots-most, mostGroupWords}
 use Rattle.group_read.specs.Row.{dealtCount}

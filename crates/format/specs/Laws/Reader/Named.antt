@@ -4,15 +4,15 @@ use native.Mathlib.Nat.{mul-add-div-right, mul-add-mod-self-right, div-eq-of-lt,
 use native.Mathlib.Omega.{arith}
 use mathlib.Core.Bool.{Bool, true, false, cond}
 use mathlib.Core.Path.{_≡_, refl, ap, ap₂, sym, _∙_}
-use mathlib.Core.List.{List, [], _∷_, _++_, map}
+use mathlib.Core.List.{List, [], _∷_, map}
 use lib.Dec.{eqb}
 use Rattle.format.specs.Word.{busOf, labelOf, infoOf, isFill, wordAt}
 use Rattle.format.specs.Time.{belowTick}
 use Rattle.format.specs.Plan.{kindOn, lead, slots, groupWords, placeOf, storedAt}
 use Rattle.format.specs.Lists.{list, All, nil, cons}
-use Rattle.format.specs.Group.{Fault, groupFault, groupSlots}
+use Rattle.format.specs.Group.{groupFault, groupSlots}
 use Rattle.format.specs.Reader.{Fed, bad, fed, feed, starts, isHigh, isPair, run, Ran, badAt, ran, since, join, more, Slot, counted}
-use Rattle.format.specs.Read.{Got, got, stopped, finish, onward, before, ifSound, readGroups}
+use Rattle.format.specs.Read.{Got, onward, before, ifSound, readGroups}
 use Rattle.format.specs.declared.Kind.{Kind}
 use Rattle.format.specs.declared.Kind.the-variants.{Unused, Mil1553, Arinc429}
 use Rattle.format.specs.declared.Item.{Item}
