@@ -1,6 +1,6 @@
 use native.Mathlib.Omega.{arith}
 use mathlib.Core.Path.{sym, _∙_}
-use Prim.Native.Nat.{_+_, _-_, _≤_}
+use Prim.Native.Nat.{_-_, _≤_}
 use lib.ListN.{length}
 use Rattle.format.specs.Laws.Tests.{clash}
 use Rattle.data_run.proofs.Rows.{Passed, passed-all, passed-bad, passed-fill, passed-items, passed-more, passed-none, passed-still}

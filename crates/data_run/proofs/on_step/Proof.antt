@@ -2,11 +2,6 @@ use mathlib.Core.Path.{refl}
 use borrow.Author.Needs.{needs}
 use Rattle.data_run.proofs.on_step.Statement.{statement}
 use Rattle.data_run.proofs.on_step.Tie as tie
-use Rattle.data_run.proofs.on_step.Reads as reads
-use Rattle.data_run.proofs.on_step.Lts as lts
-use Rattle.data_word.proofs.since.Reads as since-reads
-use Rattle.data_run.proofs.fill.on_data.Reads as on-data-reads
-use Rattle.data_run.proofs.put_step.Reads as put-step-reads
 
 returns : tie.Need-returns
 returns c = (rw (c .before .before .if1 .taken) refl, rw (c .before .before .if1 .taken) refl)

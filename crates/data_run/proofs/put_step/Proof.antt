@@ -5,9 +5,6 @@ use Rattle.log_write.specs.declared.Pen.{Pen}
 use borrow.Author.Needs.{needs}
 use Rattle.data_run.proofs.put_step.Statement.{statement}
 use Rattle.data_run.proofs.put_step.Tie as tie
-use Rattle.data_run.proofs.put_step.Reads as reads
-use Rattle.data_run.proofs.put_step.Lts as lts
-use Rattle.log_write.proofs.Pen.put.Reads as put-reads
 
 put-requires : tie.Need-put-requires
 put-requires c κs = search needs

@@ -1,10 +1,7 @@
 use borrow.Author.Tests.{eq-eqb, ne-eqb}
 use mathlib.Core.Path.{refl}
-use borrow.Author.Needs.{needs}
 use Rattle.data_run.proofs.fill.is_odd_fill.Statement.{statement}
 use Rattle.data_run.proofs.fill.is_odd_fill.Tie as tie
-use Rattle.data_run.proofs.fill.is_odd_fill.Reads as reads
-use Rattle.data_run.proofs.fill.is_odd_fill.Lts as lts
 
 returns : tie.Need-returns
 returns c = rw (eq-eqb _ 0 (c .if1 .taken)) refl

@@ -2,9 +2,6 @@ use mathlib.Core.Path.{refl}
 use borrow.Author.Needs.{needs}
 use Rattle.data_run.proofs.fill.on_fill.Statement.{statement}
 use Rattle.data_run.proofs.fill.on_fill.Tie as tie
-use Rattle.data_run.proofs.fill.on_fill.Reads as reads
-use Rattle.data_run.proofs.fill.on_fill.Lts as lts
-use Rattle.data_run.proofs.fill.or_place.Reads as or-place-reads
 
 or-place-requires : tie.Need-or-place-requires
 or-place-requires c κs = search needs

@@ -3,8 +3,6 @@ use mathlib.Core.Path.{refl}
 use borrow.Author.Needs.{needs}
 use Rattle.data_run.proofs.fill.or_place.Statement.{statement}
 use Rattle.data_run.proofs.fill.or_place.Tie as tie
-use Rattle.data_run.proofs.fill.or_place.Reads as reads
-use Rattle.data_run.proofs.fill.or_place.Lts as lts
 
 add-result : tie.Need-add-result
 add-result c = search needs
