@@ -15,6 +15,7 @@ ghost use Rattle.group_read.specs.Row.{dealtCount, Deals};
 use crc::Sum;
 use format::Plan;
 use format::Time;
+use narrow;
 
 // Number 0 at place 0: no fault.
 pub struct Fault {
@@ -46,7 +47,7 @@ pub fn place_of(plan: Plan, dealt: usize) -> usize
     requires { ⌜ Shape plan × (dealt < dealtCount plan) ⌝ }
     ensures { λ r. ⌜ (r ≡ placeOf plan dealt) × (r < groupWords plan) ⌝ }
 {
-    dealt % plan.tracks * plan.words + dealt / plan.tracks + 1
+    narrow::remainder(dealt, plan.tracks) * plan.words + narrow::quotient(dealt, plan.tracks) + 1
 }
 
 // The stored word at a place of the group.

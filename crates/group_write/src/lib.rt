@@ -16,6 +16,7 @@ ghost use Rattle.format.specs.Group.{dealtOf};
 ghost use Rattle.group_write.specs.Writing.{Run, Unsent, Timed, front, sentRows, sameRows, rowsWith};
 use crc::Sum;
 use format::Plan;
+use narrow;
 use word;
 
 // The rows that are dealt: all but the sync word and, with CRC, the last.
@@ -53,7 +54,7 @@ fn rows_with(plan: Plan, track: usize, count: usize) -> usize
     requires { ⌜ Shape plan × (track < plan .tracks) × (count ≤ 2048) ⌝ }
     ensures { λ r. ⌜ r ≡ rowsWith plan track count ⌝ }
 {
-    (count + plan.tracks - 1 - track) / plan.tracks
+    narrow::quotient(count + plan.tracks - 1 - track, plan.tracks)
 }
 
 // One word, as it is sent.

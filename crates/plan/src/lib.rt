@@ -11,6 +11,7 @@ ghost use Rattle.format.specs.Laws.Limits.{Shape, leastSlots, mostDealt, mostGr
 use format::Kind;
 use format::Plan;
 use format::is_used;
+use narrow;
 
 fn kind_at(kinds: [Kind; 16], bus: u8) -> Kind
     requires { ⌜ bus < 16 ⌝ }
@@ -118,5 +119,5 @@ pub fn groups_for(plan: Plan, words: usize) -> usize
     ensures { λ r. ⌜ r ≡ groupsFor plan words ⌝ }
 {
     let slots = slots(plan);
-    (words + slots - 1) / slots
+    narrow::quotient(words + slots - 1, slots)
 }

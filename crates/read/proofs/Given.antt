@@ -6,8 +6,8 @@ use mathlib.Core.Bool.{Bool, true, false, cond, _&&_}
 use mathlib.Core.Path.{_≡_, refl, sym, ap, ap₂, subst, _∙_}
 use mathlib.Core.List.{List, _++_}
 use lib.ListN.{length, take, drop}
-use lib.Dec.{leb}
-use borrow.Author.Tests.{le-leb, lt-leb, leb-true, eq-eqb, ne-eqb}
+use lib.Dec.{eqb, leb}
+use borrow.Author.Tests.{le-leb, lt-leb, leb-true, eq-eqb}
 use Rattle.format.specs.Lists.{list}
 use Rattle.format.specs.Log.{logOf}
 use Rattle.format.specs.Plan.{groupWords, legal, timesNeeded, storedAt}
@@ -184,9 +184,9 @@ module _ (closed : Bool) (p : Plan) (ks : List Kind) (c : List ℕ) (logRoom tim
   unfolding reading
   long-refused e h = rw (e, lt-leb (length c) 1048576 h) refl
 
-  pub ragged-refused : legal p ks ≡ true → length c ≤ 1048576 → (length c % (3 * groupWords p) ≡ 0 → ⊥) → reading closed p ks c logRoom timeRoom ≡ refuses 8 (length c)
+  pub ragged-refused : legal p ks ≡ true → length c ≤ 1048576 → eqb (length c % (3 * groupWords p)) 0 ≡ false → reading closed p ks c logRoom timeRoom ≡ refuses 8 (length c)
   unfolding reading
-  ragged-refused e h z = rw (e, le-leb (length c) 1048576 h, ne-eqb (length c % (3 * groupWords p)) 0 z) refl
+  ragged-refused e h z = rw (e, le-leb (length c) 1048576 h, z) refl
 
   pub read-on : legal p ks ≡ true → length c ≤ 1048576 → length c % (3 * groupWords p) ≡ 0
       → reading closed p ks c logRoom timeRoom

@@ -2,6 +2,7 @@
 ghost use mathlib.Core.Path.{_≡_};
 ghost use mathlib.Core.Bool.{cond, false, true};
 ghost use Prim.Native.Nat.{ℕ, _+_, _*_, _/_, _%_, _≤_};
+ghost use lib.Dec.{eqb};
 ghost use lib.ListN.{length, take, drop};
 ghost use mathlib.Core.List.{List, _++_};
 ghost use Rattle.format.specs.Answer.{Given, refusal};
@@ -15,6 +16,7 @@ ghost use Rattle.read.specs.Room.{Built, Enough, earlier, roomNumber, sh
 use format::Answer;
 use format::Kind;
 use format::Plan;
+use narrow;
 use plan::group_words;
 use plan::legal;
 use plan::slots;
@@ -123,6 +125,22 @@ fn give(
     }
 }
 
+// How many whole groups so many bytes have.
+fn groups_in(plan: Plan, length: usize) -> usize
+    requires { ⌜ Shape plan × (length ≤ 1048576) ⌝ }
+    ensures { λ r. ⌜ r ≡ length / (3 * groupWords plan) ⌝ }
+{
+    narrow::quotient(length, 3 * group_words(plan))
+}
+
+// Not "not whole groups" (answer 8).
+fn is_whole(plan: Plan, length: usize) -> bool
+    requires { ⌜ Shape plan × (length ≤ 1048576) ⌝ }
+    ensures { λ r. ⌜ r ≡ eqb (length % (3 * groupWords plan)) 0 ⌝ }
+{
+    narrow::remainder(length, 3 * group_words(plan)) == 0
+}
+
 // The plain reading asks nothing of fill.
 fn asked(closed: bool, misplaced: u64) -> u64
     ensures { λ r. ⌜ r ≡ cond closed misplaced 0 ⌝ }
@@ -144,7 +162,7 @@ fn read_by(
     requires { ⌜ Enough plan kinds (now capture) (length (now built)) (length (now log)) ⌝ }
     ensures { λ r. ⌜ Given (settled plan (now (capture .entry)) (length (now (capture .entry)) / (3 * groupWords plan)) (length (now (log .entry))) (length (now (times .entry))) closed (readGroups plan kinds (now (capture .entry)) (length (now (capture .entry)) / (3 * groupWords plan)) 0 Nothing 0)) r (now (log .entry)) (now (log .exit)) (now (times .entry)) (now (times .exit)) ⌝ }
 {
-    let n = capture.len() / (3 * group_words(plan));
+    let n = groups_in(plan, capture.len());
     let count = slots(plan);
     let end = read_groups(kinds, plan, count, capture, n, built);
     if end.number != 0 {
@@ -207,7 +225,7 @@ fn read_either(
     if 1048576 < length {
         return refusal(8, length as u64);
     }
-    if length % (3 * group_words(plan)) != 0 {
+    if !is_whole(plan, length) {
         return refusal(8, length as u64);
     }
     if length <= 1884 {

@@ -15,6 +15,7 @@ use data_run::put_step;
 use format::Kind;
 use format::Plan;
 use log_write::Pen;
+use narrow;
 
 // A reading over the groups: number 0 and what is carried then, or the number and place of what it stops at.
 struct Walk {
@@ -49,12 +50,12 @@ fn start_pass() -> Pass
 
 // Where the data word of this number stands in the capture: of its group, which has `count` of them, and there as it is dealt.
 pub fn stored_place(plan: Plan, count: usize, number: u64) -> u64
-    requires { ⌜ Shape plan × (count ≡ slots plan) × (number < 2 ^ 40) ⌝ }
+    requires { ⌜ Shape plan × (count ≡ slots plan) × (number < 2 ^ 32) ⌝ }
     ensures { λ r. ⌜ r ≡ storedAt plan number ⌝ }
 {
     let n = number as usize;
-    let group = n / count;
-    let place = group_read::place_of(plan, group_read::lead(plan) + n % count);
+    let group = narrow::quotient(n, count);
+    let place = group_read::place_of(plan, group_read::lead(plan) + narrow::remainder(n, count));
     (group * (plan.tracks * plan.words) + place) as u64
 }
 

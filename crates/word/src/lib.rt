@@ -99,15 +99,20 @@ pub fn put_word(bytes: &mut [u8], at: usize, word: u32)
     bytes[at + 2] = (word % 0x100) as u8;
 }
 
+// A time's two halves of 32 bits: the upper one is below 10000, since 10000 x 2^32 is where times end. Then a long division by 10000 in
+// digits of 16 bits, which divides nothing wider than 32 (document 02, K6).
 pub fn time_parts(time: u64) -> Time
     requires { ⌜ time < timeEnd ⌝ }
     ensures { λ r. ⌜ r ≡ partsOf time ⌝ }
 {
-    let ticks = time / 10000;
+    let upper = (time / 0x100000000) as u32;
+    let lower = (time % 0x100000000) as u32;
+    let first = upper * 0x10000 + lower / 0x10000;
+    let second = first % 10000 * 0x10000 + lower % 0x10000;
     Time {
-        high: (ticks / 0x10000) as u16,
-        low: (ticks % 0x10000) as u16,
-        micro: (time % 10000) as u16,
+        high: (first / 10000) as u16,
+        low: (second / 10000) as u16,
+        micro: (second % 10000) as u16,
     }
 }
 

@@ -41,12 +41,12 @@ groups c = length (capture c) / (3 * groupWords (plan c))
 abbrev built : Read → List ℕ
 built c = c .read-groups .last .1 .1 .1 .1 .1 .0
 
-words : (c : Read) → c .before .before .before .group-words .result ≡ groupWords (plan c)
-words c = c .before .before .before .group-words .ensures .0
+counted : (c : Read) → c .before .before .before .groups-in .result ≡ groups c
+counted c = c .before .before .before .groups-in .ensures
 
 ended : (c : Read) → Ended (start c .args .kinds) (plan c) (capture c) (groups c) (c .read-groups .result) (built c)
 ended c =
-    subst (λ (w : ℕ). Ended (start c .args .kinds) (plan c) (capture c) (length (capture c) / (3 * w)) (c .read-groups .result) (built c)) (words c) (c .read-groups .ensures)
+    subst (λ (n : ℕ). Ended (start c .args .kinds) (plan c) (capture c) n (c .read-groups .result) (built c)) (counted c) (c .read-groups .ensures)
 
 whole : (c : Read) → length (capture c) ≡ groups c * (3 * groupWords (plan c))
 whole c = whole-groups (plan c) (length (capture c)) (start c .pre .0 .2)
@@ -73,14 +73,8 @@ few c =
 
 -- ---- the needs
 
-group-words-requires : tie.Need-group-words-requires
-group-words-requires c κs = search needs
-
-mul-n : tie.Need-mul-n
-mul-n c = search needs
-
-div-n : tie.Need-div-n
-div-n c = omega (arith, c .group-words .ensures .0, some-words _ (c .before .before .before .before .before .pre .0 .0))
+groups-in-requires : tie.Need-groups-in-requires
+groups-in-requires c κs = let s = c .before .before .before .before in (s .pre .0 .0, s .pre .0 .1)
 
 slots-requires : tie.Need-slots-requires
 slots-requires c κs = search needs
@@ -90,7 +84,7 @@ read-groups-requires c κs =
     let w = c .before .before in
     let s = w .before .before .before .before .before in (
       (s .pre .0 .0, c .before .slots .ensures .0),
-      (rw (w .group-words .ensures .0) (whole-groups (s .args .plan) (length (s .args .capture .now)) (s .pre .0 .2)), s .pre .0 .1),
+      (rw (w .groups-in .ensures) (whole-groups (s .args .plan) (length (s .args .capture .now)) (s .pre .0 .2)), s .pre .0 .1),
     )
 
 refusal-requires : tie.Need-refusal-requires
@@ -140,7 +134,7 @@ give-requires c κs =
     let r = read l in
     let s = start r in
     let g = logged l in (
-      (s .pre .0 .0, rw (words r) (omega (arith, whole r)), s .pre .0 .1),
+      (s .pre .0 .0, rw (counted r) (omega (arith, whole r)), s .pre .0 .1),
       λ h k.
           let w = s .pre .1 .room (g .items) (g .is) (omega (arith, g .bytes, h)) (omega (arith, g .bytes, k)) in
           let e : length (built r) ≡ length (s .args .built .now) = l .before .before .before .built .given in
@@ -165,18 +159,16 @@ returns-3 c =
     let r = read l in
     rw (log-settled (plan r) (capture r) (groups r) (length (log r)) (length (times r)) (start r .args .closed) (logged l) (a .asked .result) (a .asked .ensures) (o .if2 .left))
     (subst
-    (λ (w : ℕ).
-    Given (roomed (plan r) (capture r) (length (capture r) / (3 * w)) (length (log r)) (length (times r)) (logOf (logged l .items))) (given .give .result) (log r)
+    (λ (n : ℕ).
+    Given (roomed (plan r) (capture r) n (length (log r)) (length (times r)) (logOf (logged l .items))) (given .give .result) (log r)
     (given .give .last .1 .1 .1 .1 .1 .0) (times r) (given .give .last .1 .1 .1 .1 .1 .1 .0))
-    (words r) (given .give .ensures (logOf (logged l .items)) (built-of (logged l))))
+    (counted r) (given .give .ensures (logOf (logged l .items)) (built-of (logged l))))
 
 pub read-by-spec : {M : Type 1} → statement M
 read-by-spec =
     tie.close
     (tie.spec
-    group-words-requires
-    mul-n
-    div-n
+    groups-in-requires
     slots-requires
     read-groups-requires
     refusal-requires

@@ -1,19 +1,58 @@
-use Rattle.read.proofs.Short.{small-enough, room-enough}
-use Rattle.read.proofs.Given.{given-refused, shape-of, some-words, illegal-refused, long-refused, ragged-refused, read-on}
-use lib.ListN.{length}
+use Prim.Native.Nat.{ℕ, _*_, _/_, _%_, _≤_}
 use native.Mathlib.Omega.{arith}
-use borrow.Author.Tests.{not-true, not-false}
-use mathlib.Core.Path.{sym, _∙_}
 use borrow.Author.Needs.{needs}
+use borrow.Author.Tests.{not-true, not-false, eqb-true}
+use mathlib.Core.Bool.{true}
+use mathlib.Core.List.{List}
+use mathlib.Core.Path.{_≡_, sym, _∙_}
+use lib.ListN.{length}
+use Rattle.format.specs.Plan.{groupWords, legal}
+use Rattle.format.specs.Read.{reading, readGroups, settled}
+use Rattle.format.specs.declared.Held.the-variants.{Nothing}
+use Rattle.format.specs.Laws.Limits.{Shape}
+use Rattle.read.proofs.Short.{small-enough, room-enough}
+use Rattle.read.proofs.Given.{given-refused, shape-of, illegal-refused, long-refused, ragged-refused, read-on}
 use Rattle.read.proofs.read_either.Statement.{statement}
 use Rattle.read.proofs.read_either.Tie as tie
-use Rattle.read.proofs.read_either.Reads as reads
-use Rattle.read.proofs.read_either.Lts as lts
-use Rattle.plan.proofs.group_words.Reads as group-words-reads
-use Rattle.plan.proofs.legal.Reads as legal-reads
-use Rattle.read.proofs.read_large.Reads as read-large-reads
-use Rattle.read.proofs.read_small.Reads as read-small-reads
-use Rattle.read.proofs.refusal.Reads as refusal-reads
+
+-- ---- the places
+
+-- the plan was judged
+abbrev Judged : Type 0
+Judged = tie.After-legal
+
+abbrev start : Judged → tie.Start
+start c = c .before .before .before .before
+
+abbrev capture : Judged → List ℕ
+capture c = start c .args .capture .now
+
+-- it is legal
+abbrev Legal : Type 0
+Legal = tie.Else1
+
+is-legal : (c : Legal) → legal (start (c .before) .args .plan) (start (c .before) .args .kinds) ≡ true
+is-legal c = sym (c .before .legal .ensures) ∙ not-false _ (c .if1 .left)
+
+shape : (c : Legal) → Shape (start (c .before) .args .plan)
+shape c = shape-of _ _ (is-legal c)
+
+-- the capture is whole groups
+abbrev Whole : Type 0
+Whole = tie.Else3
+
+abbrev is-judged : Whole → Judged
+is-judged c = c .before .before .before .before
+
+whole : (c : Whole) → length (capture (is-judged c)) % (3 * groupWords (start (is-judged c) .args .plan)) ≡ 0
+whole c = eqb-true _ _ (sym (c .before .is-whole .ensures) ∙ not-false _ (c .if3 .left))
+
+-- what a reading of one of the two sizes asks
+asked : (c : Whole) → Shape (start (is-judged c) .args .plan) × (length (capture (is-judged c)) ≤ 1048576)
+    × (length (capture (is-judged c)) % (3 * groupWords (start (is-judged c) .args .plan)) ≡ 0)
+asked c = (shape (c .before .before .before), c .before .before .if2 .left, whole c)
+
+-- ---- the needs
 
 legal-requires : tie.Need-legal-requires
 legal-requires c κs = search needs
@@ -22,31 +61,64 @@ refusal-requires : tie.Need-refusal-requires
 refusal-requires c κs = search needs
 
 returns : tie.Need-returns
-returns c = given-refused (c .before .before .before .before .before .before .args .log .now) (c .before .before .before .before .before .before .args .times .now) (illegal-refused (c .before .before .before .before .before .before .args .closed) (c .before .before .before .before .before .before .args .plan) (c .before .before .before .before .before .before .args .kinds) (c .before .before .before .before .before .before .args .capture .now) (length (c .before .before .before .before .before .before .args .log .now)) (length (c .before .before .before .before .before .before .args .times .now)) (sym (c .before .before .legal .ensures) ∙ not-true _ (c .before .if1 .taken))) (c .refusal .ensures)
+returns c =
+    let j = c .before .before in
+    let s = start j in
+    given-refused (s .args .log .now) (s .args .times .now)
+    (illegal-refused (s .args .closed) (s .args .plan) (s .args .kinds) (capture j) _ _ (sym (j .legal .ensures) ∙ not-true _ (c .before .if1 .taken)))
+    (c .refusal .ensures)
 
 refusal-requires-2 : tie.Need-refusal-requires-2
 refusal-requires-2 c κs = search needs
 
 returns-2 : tie.Need-returns-2
-returns-2 c = given-refused (c .before .before .before .before .before .before .before .args .log .now) (c .before .before .before .before .before .before .before .args .times .now) (long-refused (c .before .before .before .before .before .before .before .args .closed) (c .before .before .before .before .before .before .before .args .plan) (c .before .before .before .before .before .before .before .args .kinds) (c .before .before .before .before .before .before .before .args .capture .now) (length (c .before .before .before .before .before .before .before .args .log .now)) (length (c .before .before .before .before .before .before .before .args .times .now)) (sym (c .before .before .before .legal .ensures) ∙ not-false _ (c .before .before .if1 .left)) (c .before .if2 .taken)) (c .refusal2 .ensures)
+returns-2 c =
+    let l = c .before .before in
+    let s = start (l .before) in
+    given-refused (s .args .log .now) (s .args .times .now)
+    (long-refused (s .args .closed) (s .args .plan) (s .args .kinds) (capture (l .before)) _ _ (is-legal l) (c .before .if2 .taken))
+    (c .refusal2 .ensures)
 
-group-words-requires : tie.Need-group-words-requires
-group-words-requires c κs = shape-of _ _ (sym (c .before .before .legal .ensures) ∙ not-false _ (c .before .if1 .left))
-
-mul-if3 : tie.Need-mul-if3
-mul-if3 c = search needs
-
-rem-if3 : tie.Need-rem-if3
-rem-if3 c = omega (arith, c .group-words .ensures .0, some-words _ (shape-of _ _ (sym (c .before .before .before .legal .ensures) ∙ not-false _ (c .before .before .if1 .left))))
+is-whole-requires : tie.Need-is-whole-requires
+is-whole-requires c κs = (shape (c .before), c .if2 .left)
 
 refusal-requires-3 : tie.Need-refusal-requires-3
 refusal-requires-3 c κs = search needs
 
 returns-3 : tie.Need-returns-3
-returns-3 c = given-refused (c .before .before .before .before .before .before .before .before .before .args .log .now) (c .before .before .before .before .before .before .before .before .before .args .times .now) (ragged-refused (c .before .before .before .before .before .before .before .before .before .args .closed) (c .before .before .before .before .before .before .before .before .before .args .plan) (c .before .before .before .before .before .before .before .before .before .args .kinds) (c .before .before .before .before .before .before .before .before .before .args .capture .now) (length (c .before .before .before .before .before .before .before .before .before .args .log .now)) (length (c .before .before .before .before .before .before .before .before .before .args .times .now)) (sym (c .before .before .before .before .before .legal .ensures) ∙ not-false _ (c .before .before .before .before .if1 .left)) (c .before .before .before .if2 .left) (rw (c .before .before .group-words .ensures .0) at (c .before .if3 .taken))) (c .refusal3 .ensures)
+returns-3 c =
+    let w = c .before .before in
+    let l = w .before .before in
+    let s = start (l .before) in
+    given-refused (s .args .log .now) (s .args .times .now)
+    (ragged-refused (s .args .closed) (s .args .plan) (s .args .kinds) (capture (l .before)) _ _ (is-legal l) (w .before .if2 .left)
+    (sym (w .is-whole .ensures) ∙ not-true _ (c .before .if3 .taken)))
+    (c .refusal3 .ensures)
+
+-- the reading is that of the groups
+abbrev groups : Whole → ℕ
+groups c = length (capture (is-judged c)) / (3 * groupWords (start (is-judged c) .args .plan))
+
+read-is : (c : Whole) → (let j = is-judged c in let s = start j in
+    reading (s .args .closed) (s .args .plan) (s .args .kinds) (capture j) (length (s .args .log .now)) (length (s .args .times .now))
+    ≡ settled (s .args .plan) (capture j) (groups c) (length (s .args .log .now)) (length (s .args .times .now)) (s .args .closed)
+    (readGroups (s .args .plan) (s .args .kinds) (capture j) (groups c) 0 Nothing 0))
+read-is c =
+    let j = is-judged c in
+    let s = start j in
+    let l = c .before .before .before in
+    read-on (s .args .closed) (s .args .plan) (s .args .kinds) (capture j) (length (s .args .log .now)) (length (s .args .times .now)) (is-legal l) (c .before .before .if2 .left)
+    (whole c)
 
 read-small-requires : tie.Need-read-small-requires
-read-small-requires c κs = let s = shape-of _ _ (sym (c .before .before .before .before .before .before .before .legal .ensures) ∙ not-false _ (c .before .before .before .before .before .before .if1 .left)) in let z = (rw (c .before .before .before .before .group-words .ensures .0) at (c .before .before .before .if3 .left)) in ((s, c .before .before .before .before .before .if2 .left, z), small-enough (c .before .before .before .before .before .before .before .before .before .before .before .args .plan) (c .before .before .before .before .before .before .before .before .before .before .before .args .capture .now) (λ i. omega (arith, c .before .before .before .before .before .before .before .before .before .before .shared-slice-known .given i)) (c .before .before .before .before .before .before .before .before .before .before .before .args .kinds) (length (c .before .before .before .before .before .before .before .before .before .before .before .args .log .now)) s z (c .before .before .if4 .taken))
+read-small-requires c κs =
+    let w = c .before .before .before in
+    let j = is-judged w in
+    let s = start j in (
+      asked w,
+      small-enough (s .args .plan) (capture j) (λ i. omega (arith, j .before .before .before .shared-slice-known .given i)) (s .args .kinds) (length (s .args .log .now))
+          (shape (w .before .before .before)) (whole w) (c .before .before .if4 .taken),
+    )
 
 same-length : tie.Need-same-length
 same-length c = search needs
@@ -55,10 +127,10 @@ same-length-2 : tie.Need-same-length-2
 same-length-2 c = search needs
 
 returns-4 : tie.Need-returns-4
-returns-4 c = rw (read-on (c .before .before .before .before .before .before .before .before .before .before .before .before .before .before .before .before .args .closed) (c .before .before .before .before .before .before .before .before .before .before .before .before .before .before .before .before .args .plan) (c .before .before .before .before .before .before .before .before .before .before .before .before .before .before .before .before .args .kinds) (c .before .before .before .before .before .before .before .before .before .before .before .before .before .before .before .before .args .capture .now) (length (c .before .before .before .before .before .before .before .before .before .before .before .before .before .before .before .before .args .log .now)) (length (c .before .before .before .before .before .before .before .before .before .before .before .before .before .before .before .before .args .times .now)) (sym (c .before .before .before .before .before .before .before .before .before .before .before .before .legal .ensures) ∙ not-false _ (c .before .before .before .before .before .before .before .before .before .before .before .if1 .left)) (c .before .before .before .before .before .before .before .before .before .before .if2 .left) (rw (c .before .before .before .before .before .before .before .before .before .group-words .ensures .0) at (c .before .before .before .before .before .before .before .before .if3 .left))) (c .before .before .before .before .read-small .ensures)
+returns-4 c = let r = c .before .before .before .before in rw (read-is (r .before .before .before .before)) (r .read-small .ensures)
 
 read-small-requires-2 : tie.Need-read-small-requires-2
-read-small-requires-2 c κs = ((shape-of _ _ (sym (c .before .before .before .before .before .before .before .before .legal .ensures) ∙ not-false _ (c .before .before .before .before .before .before .before .if1 .left)), c .before .before .before .before .before .before .if2 .left, (rw (c .before .before .before .before .before .group-words .ensures .0) at (c .before .before .before .before .if3 .left))), room-enough _ _ _ _ (c .before .before .if5 .taken))
+read-small-requires-2 c κs = (asked (c .before .before .before .before), room-enough _ _ _ _ (c .before .before .if5 .taken))
 
 same-length-3 : tie.Need-same-length-3
 same-length-3 c = search needs
@@ -67,10 +139,10 @@ same-length-4 : tie.Need-same-length-4
 same-length-4 c = search needs
 
 returns-5 : tie.Need-returns-5
-returns-5 c = rw (read-on (c .before .before .before .before .before .before .before .before .before .before .before .before .before .before .before .before .before .args .closed) (c .before .before .before .before .before .before .before .before .before .before .before .before .before .before .before .before .before .args .plan) (c .before .before .before .before .before .before .before .before .before .before .before .before .before .before .before .before .before .args .kinds) (c .before .before .before .before .before .before .before .before .before .before .before .before .before .before .before .before .before .args .capture .now) (length (c .before .before .before .before .before .before .before .before .before .before .before .before .before .before .before .before .before .args .log .now)) (length (c .before .before .before .before .before .before .before .before .before .before .before .before .before .before .before .before .before .args .times .now)) (sym (c .before .before .before .before .before .before .before .before .before .before .before .before .before .legal .ensures) ∙ not-false _ (c .before .before .before .before .before .before .before .before .before .before .before .before .if1 .left)) (c .before .before .before .before .before .before .before .before .before .before .before .if2 .left) (rw (c .before .before .before .before .before .before .before .before .before .before .group-words .ensures .0) at (c .before .before .before .before .before .before .before .before .before .if3 .left))) (c .before .before .before .before .read-small2 .ensures)
+returns-5 c = let r = c .before .before .before .before in rw (read-is (r .before .before .before .before .before)) (r .read-small2 .ensures)
 
 read-large-requires : tie.Need-read-large-requires
-read-large-requires c κs = (shape-of _ _ (sym (c .before .before .before .before .before .before .before .before .legal .ensures) ∙ not-false _ (c .before .before .before .before .before .before .before .if1 .left)), c .before .before .before .before .before .before .if2 .left, (rw (c .before .before .before .before .before .group-words .ensures .0) at (c .before .before .before .before .if3 .left)))
+read-large-requires c κs = asked (c .before .before .before .before)
 
 same-length-5 : tie.Need-same-length-5
 same-length-5 c = search needs
@@ -79,7 +151,7 @@ same-length-6 : tie.Need-same-length-6
 same-length-6 c = search needs
 
 returns-6 : tie.Need-returns-6
-returns-6 c = rw (read-on (c .before .before .before .before .before .before .before .before .before .before .before .before .before .before .before .before .before .args .closed) (c .before .before .before .before .before .before .before .before .before .before .before .before .before .before .before .before .before .args .plan) (c .before .before .before .before .before .before .before .before .before .before .before .before .before .before .before .before .before .args .kinds) (c .before .before .before .before .before .before .before .before .before .before .before .before .before .before .before .before .before .args .capture .now) (length (c .before .before .before .before .before .before .before .before .before .before .before .before .before .before .before .before .before .args .log .now)) (length (c .before .before .before .before .before .before .before .before .before .before .before .before .before .before .before .before .before .args .times .now)) (sym (c .before .before .before .before .before .before .before .before .before .before .before .before .before .legal .ensures) ∙ not-false _ (c .before .before .before .before .before .before .before .before .before .before .before .before .if1 .left)) (c .before .before .before .before .before .before .before .before .before .before .before .if2 .left) (rw (c .before .before .before .before .before .before .before .before .before .before .group-words .ensures .0) at (c .before .before .before .before .before .before .before .before .before .if3 .left))) (c .before .before .before .before .read-large .ensures)
+returns-6 c = let r = c .before .before .before .before in rw (read-is (r .before .before .before .before .before)) (r .read-large .ensures)
 
 pub read-either-spec : {M : Type 1} → statement M
 read-either-spec =
@@ -90,9 +162,7 @@ read-either-spec =
     returns
     refusal-requires-2
     returns-2
-    group-words-requires
-    mul-if3
-    rem-if3
+    is-whole-requires
     refusal-requires-3
     returns-3
     read-small-requires

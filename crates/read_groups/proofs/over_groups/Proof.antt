@@ -132,7 +132,7 @@ of-row c = c .before .before .before .before
 abbrev out : Ran-row → List ℕ
 out c = c .on-row .last .1 .1 .1 .1 .1 .0
 
-since-few : (c : Ran-row) → c .on-row .result .since < 2 ^ 40
+since-few : (c : Ran-row) → c .on-row .result .since < 2 ^ 32
 since-few c =
     let e = of-row c in
     let l = group e in
