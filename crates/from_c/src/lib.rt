@@ -4,8 +4,9 @@ ghost use mathlib.Core.Path.{_≡_};
 ghost use mathlib.Core.List.{_++_, flatMap, map};
 ghost use Prim.Native.Nat.{_+_, _*_, _<_, _≤_};
 ghost use lib.ListN.{drop, length, take};
-ghost use Rattle.format.specs.Answer.{over};
+ghost use Rattle.format.specs.Answer.{over, refusal};
 ghost use Rattle.from_c.specs.Numbers.{areKinds, halfAt, kindOf, named, planFrom, timeAt, timeBytes, timesFrom};
+use format::Answer;
 use format::Kind;
 use format::Plan;
 
@@ -139,5 +140,18 @@ pub fn put_times(row: &[u64], number: usize, bytes: &mut [u8])
         let end = start + 8;
         put_time(row[index], &mut bytes[start..end]);
         index += 1;
+    }
+}
+
+// "A plan number that names no choice or kind is 1."
+pub fn unnamed() -> Answer
+    ensures { λ r. ⌜ r ≡ refusal 1 0 ⌝ }
+{
+    Answer {
+        number: 1,
+        place: 0,
+        second: 0,
+        bytes: 0,
+        times: 0,
     }
 }

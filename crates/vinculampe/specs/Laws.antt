@@ -19,7 +19,8 @@ use Rattle.format.specs.declared.Kind.{Kind}
 use Rattle.format.specs.declared.Plan.{Plan}
 use Rattle.from_c.specs.Numbers.{kindOf, named, planFrom, timesFrom}
 use Rattle.from_c.specs.Laws.{sixteen}
-use Rattle.vinculampe.specs.Interface.{composedBytes, composedFrom, ragged, raggedParsed, readingFrom}
+use Rattle.compose_from_c.specs.Composing.{composedBytes, composedFrom, ragged, raggedParsed}
+use Rattle.read_from_c.specs.Reading.{readingFrom}
 
 no-capture : {A : Type 0} {n q : ℕ} {c : List ℕ} → refused n q ≡ made c → A
 no-capture e = let z : _≡_ {A = ℕ} 0 1 = cc in absurd (omega arith)

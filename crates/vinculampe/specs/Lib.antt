@@ -1,4 +1,3 @@
--- What the C interface answers, from numbers and byte runs.
-pub mod Interface
+-- What is promised of the C functions.
 pub mod Laws
 pub mod Promises

@@ -26,16 +26,17 @@ use Rattle.format.specs.Promises as format
 use Rattle.format.specs.declared.Answer.{Answer}
 use Rattle.from_c.specs.Numbers.{kindOf, named, planFrom, timeBytes, timesFrom}
 use Rattle.from_c.specs.Laws as Times
-use Rattle.vinculampe.specs.Interface.{GivenBytes, composedFrom, readingFrom, timeBytesAfter}
+use Rattle.compose_from_c.specs.Composing.{composedFrom}
+use Rattle.read_from_c.specs.Reading.{GivenBytes, readingFrom, timeBytesAfter}
+use Rattle.read_from_c.specs.Reading as Reading-from
 use Rattle.vinculampe.specs.Laws.{named-sixteen, made-bytes, composed-refused-from, reading-refused-from, made-from, from-made, gives-from, from-gives}
 
 -- ---- A contract has only one answer
 
--- two answers that meet the contract of a reading from C are the same, and leave the same in the lent log and the lent bytes for times
 -- (composing from C has the contract `Made`, as composing: `made-one`)
 pub given-bytes-one : (g : Reading) (r r′ : Answer) (log x x′ times y y′ : List ℕ) → GivenBytes g r log x times y → GivenBytes g r′ log x′ times y′
     → (r ≡ r′) × (x ≡ x′) × (y ≡ y′)
-given-bytes-one g r r′ log x x′ times y y′ a b = (cc, cc, cc)
+given-bytes-one = Reading-from.given-bytes-one
 
 -- ---- Times as numbers and as runs of eight bytes are one thing
 

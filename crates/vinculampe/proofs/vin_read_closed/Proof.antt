@@ -2,8 +2,8 @@ use borrow.Author.Needs.{needs}
 use Rattle.vinculampe.proofs.vin_read_closed.Statement.{statement}
 use Rattle.vinculampe.proofs.vin_read_closed.Tie as tie
 
-read-numbers-requires : tie.Need-read-numbers-requires
-read-numbers-requires c κs = search needs
+read-from-requires : tie.Need-read-from-requires
+read-from-requires c κs = search needs
 
 same-length : tie.Need-same-length
 same-length c = search needs
@@ -12,7 +12,7 @@ same-length-2 : tie.Need-same-length-2
 same-length-2 c = search needs
 
 returns : tie.Need-returns
-returns c = c .before .before .before .before .read-numbers .ensures
+returns c = c .before .before .before .before .read-from .ensures
 
 pub vin-read-closed-spec : {M : Type 1} → statement M
-vin-read-closed-spec = tie.close (tie.spec read-numbers-requires same-length same-length-2 returns)
+vin-read-closed-spec = tie.close (tie.spec read-from-requires same-length same-length-2 returns)

@@ -1,0 +1,30 @@
+-- Composing from C (document 01, "Programs").
+use Prim.Native.Nat.{ℕ, _%_}
+use mathlib.Core.Bool.{cond}
+use mathlib.Core.List.{List, map, flatMap}
+use lib.ListN.{length}
+use lib.Dec.{eqb}
+use Rattle.format.specs.Compose.{Composed, refused, composed, groupsFor}
+use Rattle.format.specs.Item.{itemWords}
+use Rattle.format.specs.Log.{Parsed, items, fault, onPlan, parsed}
+use Rattle.format.specs.Plan.{legal, timesNeeded}
+use Rattle.format.specs.declared.Kind.{Kind}
+use Rattle.format.specs.declared.Plan.{Plan}
+use Rattle.from_c.specs.Numbers.{kindOf, named, planFrom, timesFrom}
+
+-- "Composing refuses a run of times that is not whole eights by 5, its place the number needed": after 2, 3 and 4
+abbrev pub raggedParsed : Plan → Parsed → Composed
+raggedParsed p (items is) = refused 5 (timesNeeded p (groupsFor p (length (flatMap itemWords is))))
+raggedParsed p (fault n q) = refused n q
+
+unfoldable pub ragged : Plan → List Kind → List ℕ → Composed
+ragged p ks log = cond (legal p ks) (raggedParsed p (parsed (onPlan ks) log)) (refused 1 0)
+
+unfoldable pub composedBytes : Plan → List Kind → List ℕ → List ℕ → ℕ → Composed
+composedBytes p ks log times room = cond (eqb (length times % 8) 0) (composed p ks log (timesFrom times) room) (ragged p ks log)
+
+unfoldable pub composedFrom : ℕ → ℕ → ℕ → ℕ → ℕ → List ℕ → List ℕ → List ℕ → ℕ → Composed
+composedFrom words tracks time crc parity kinds log times room =
+    cond (named time crc parity kinds)
+    (composedBytes (planFrom words tracks time crc parity) (map kindOf kinds) log times room)
+    (refused 1 0)

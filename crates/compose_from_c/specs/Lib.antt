@@ -1,0 +1,2 @@
+-- What composing from C answers, from numbers and byte runs.
+pub mod Composing
