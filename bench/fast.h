@@ -1,4 +1,4 @@
-/* The same three functions written for speed: what the library is timed against. */
+/* The same functions written for speed: what the library is timed against. */
 #ifndef FAST_H
 #define FAST_H
 
@@ -13,5 +13,7 @@ vin_answer fast_read(uint32_t words, uint32_t tracks, uint32_t frame_time, uint3
 vin_answer fast_read_closed(uint32_t words, uint32_t tracks, uint32_t frame_time, uint32_t crc, uint32_t parity,
                             const uint8_t *kinds, size_t kinds_len, const uint8_t *capture, size_t capture_len,
                             uint8_t *log, size_t log_len, uint8_t *times, size_t times_len);
+vin_answer fast_pick(const uint8_t *log, size_t log_len, uint16_t buses, uint8_t *out, size_t out_len);
+vin_answer fast_join(const uint8_t *first, size_t first_len, const uint8_t *second, size_t second_len, uint8_t *out, size_t out_len);
 
 #endif

@@ -18,12 +18,20 @@ static uint32_t draw(uint32_t below)
 /* ==== The log ==== */
 
 static size_t bit, words;
+static int items;
 
 static void put(traffic *t, uint32_t width, uint64_t value)
 {
     for (; width > 0; width--, bit++)
         if (value >> (width - 1) & 1)
             t->log[bit / 8] |= (uint8_t)(0x80 >> bit % 8);
+}
+
+/* Kind and bus. */
+static void put_head(traffic *t, uint64_t value)
+{
+    put(t, 8, value);
+    items++;
 }
 
 static void put_tag(traffic *t)
@@ -36,7 +44,7 @@ static void put_tag(traffic *t)
 
 static void command(traffic *t, uint32_t bus, uint32_t b, uint32_t tagged)
 {
-    put(t, 8, 1 << 4 | bus);
+    put_head(t, 1 << 4 | bus);
     put(t, 2, 2 * b + tagged);
     put(t, 16, draw(65536));
     words += 1;
@@ -46,7 +54,7 @@ static void command(traffic *t, uint32_t bus, uint32_t b, uint32_t tagged)
 
 static void status(traffic *t, uint32_t bus, uint32_t b, uint32_t timed)
 {
-    put(t, 8, 2 << 4 | bus);
+    put_head(t, 2 << 4 | bus);
     put(t, 2, 2 * b + timed);
     put(t, 16, draw(65536));
     if (timed)
@@ -56,7 +64,7 @@ static void status(traffic *t, uint32_t bus, uint32_t b, uint32_t timed)
 
 static void data(traffic *t, uint32_t kind, uint32_t bus, uint32_t b)
 {
-    put(t, 8, kind << 4 | bus);
+    put_head(t, kind << 4 | bus);
     put(t, 1, b);
     put(t, 16, draw(65536));
     words += 1;
@@ -64,7 +72,7 @@ static void data(traffic *t, uint32_t kind, uint32_t bus, uint32_t b)
 
 static void arinc(traffic *t, uint32_t bus, uint32_t tagged)
 {
-    put(t, 8, 5 << 4 | bus);
+    put_head(t, 5 << 4 | bus);
     put(t, 3, 2 * draw(4) + tagged);
     put(t, 32, (uint64_t)draw(65536) * 65521);
     words += 2;
@@ -74,14 +82,14 @@ static void arinc(traffic *t, uint32_t bus, uint32_t tagged)
 
 static void notice(traffic *t, uint32_t bus)
 {
-    put(t, 8, 6 << 4 | bus);
+    put_head(t, 6 << 4 | bus);
     put(t, 10, draw(1024));
     words += 1;
 }
 
 static void overflow(traffic *t, uint32_t bus)
 {
-    put(t, 8, 8 << 4 | bus);
+    put_head(t, 8 << 4 | bus);
     put(t, 16, draw(65536));
     words += 1;
 }
@@ -151,6 +159,7 @@ static void make_log(traffic *t, int kind, size_t bytes)
 {
     size_t slots = (size_t)t->tracks * (t->words - 1 - t->crc) - 3 * t->frame_time;
     bit = words = 0;
+    items = 0;
     memset(t->log, 0, sizeof t->log);
     if (bytes == 0) { /* one item, on a bus that every plan of this traffic uses */
         if (kind == 1)
@@ -162,6 +171,7 @@ static void make_log(traffic *t, int kind, size_t bytes)
         traffics[kind].put(t);
     put(t, 4, 0);
     t->log_len = (bit + 7) / 8;
+    t->items = items;
     t->times_len = t->frame_time ? 8 * ((words + slots - 1) / slots) : 0;
     for (size_t n = 0; n < t->times_len; n++)
         t->times[n] = n % 8 < 3 ? 0 : (uint8_t)draw(256);
@@ -176,6 +186,21 @@ static void make_kinds(traffic *t, int kind)
     }
     for (int bus = 0; bus < 8; bus++)
         t->kinds[bus] = bus < 4 ? 1 : 2;
+}
+
+int traffic_log(traffic *t, int n)
+{
+    static const size_t most = 16384 - 120; /* of two that are joined */
+    int kind = n / (COUNT(sizes) + 1), size = n % (COUNT(sizes) + 1);
+    if (kind >= COUNT(traffics))
+        return 0;
+    state = 88172645463325252u + (uint64_t)n;
+    t->words = 512;
+    t->tracks = 1;
+    t->frame_time = t->crc = t->parity = 0;
+    make_log(t, kind, size == COUNT(sizes) ? most : sizes[size].bytes);
+    snprintf(t->name, sizeof t->name, "%s, %s", traffics[kind].name, size == COUNT(sizes) ? "half a log" : sizes[size].name);
+    return 1;
 }
 
 int traffic_row(traffic *t, int n)

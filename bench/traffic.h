@@ -1,4 +1,4 @@
-/* The benchmark's rows: logs of several kinds of traffic, by several plans, of several sizes. */
+/* The benchmark's rows: logs of several kinds of traffic, by several plans, of several sizes; and logs alone. */
 #ifndef TRAFFIC_H
 #define TRAFFIC_H
 
@@ -11,6 +11,7 @@ typedef struct {
     uint8_t kinds[16];
     uint8_t log[32768];
     size_t log_len;
+    int items;
     uint8_t times[8 * 128];
     size_t times_len;
     int then_largest; /* the capture is also read with fill up to the limit behind it */
@@ -18,5 +19,8 @@ typedef struct {
 
 /* Makes row n; 0 if there is none. */
 int traffic_row(traffic *t, int n);
+
+/* Makes row n of the logs alone, without a plan; 0 if there is none. */
+int traffic_log(traffic *t, int n);
 
 #endif

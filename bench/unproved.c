@@ -35,3 +35,22 @@ vin_answer vin_read_closed(PLAN, const uint8_t *kinds, size_t kinds_len, const u
 {
     CALL(vin_read_closed);
 }
+
+void inner_vin_pick(vin_answer *answer, const run *log, uint16_t buses, const run *out);
+void inner_vin_join(vin_answer *answer, const run *first, const run *second, const run *out);
+
+vin_answer vin_pick(const uint8_t *log, size_t log_len, uint16_t buses, uint8_t *out, size_t out_len)
+{
+    vin_answer answer;
+    run l = {log, log_len}, o = {out, out_len};
+    inner_vin_pick(&answer, &l, buses, &o);
+    return answer;
+}
+
+vin_answer vin_join(const uint8_t *first, size_t first_len, const uint8_t *second, size_t second_len, uint8_t *out, size_t out_len)
+{
+    vin_answer answer;
+    run f = {first, first_len}, s = {second, second_len}, o = {out, out_len};
+    inner_vin_join(&answer, &f, &s, &o);
+    return answer;
+}

@@ -2,14 +2,16 @@
  * back.
  *
  * Composing makes a capture (PCM frames) of a house log and frame times. Reading gives log and
- * times back. There are three functions, below: vin_compose, vin_read and vin_read_closed; and over
- * them vin_plan_compose, vin_plan_read and vin_plan_read_closed, which take the plan as a struct
- * and null pointers for runs of length 0. C99 or later, or C++. Link with libvinculampe.a (x86-64,
- * System V calling convention; that of `make NATIVE=yes` is for the machine it was made on).
+ * times back: vin_compose, vin_read and vin_read_closed; and over them vin_plan_compose,
+ * vin_plan_read and vin_plan_read_closed, which take the plan as a struct and null pointers for
+ * runs of length 0. Logs alone, without a plan, are worked on by vin_pick and vin_join; over them
+ * vin_log_pick and vin_log_join take null pointers for runs of length 0. C99 or later, or C++. Link
+ * with libvinculampe.a (x86-64, System V calling convention; that of `make NATIVE=yes` is for the
+ * machine it was made on).
  *
  * What every function promises
  *   - Every input is taken. Either the work is done and the answer's number is 0, or the call is
- *     refused by a number from 1 to 14 with a place, both fixed for each input (enum vin_number).
+ *     refused by a number and a place, both fixed for each input (enum vin_number).
  *     The earliest fault in the stated order is the one returned.
  *   - A refused call has changed no lent byte. A successful call has changed only the lengths it
  *     answers; beyond them the lent buffers keep their old content.
@@ -18,15 +20,17 @@
  *     that is what it returns.
  *
  * What the caller promises
- *   - A pointer is valid for its length. vin_compose, vin_read and vin_read_closed take no null
- *     pointer, not even with length 0; the vin_plan_ functions do.
+ *   - A pointer is valid for its length. Null pointers, with length 0, are taken by the functions
+ *     whose names begin with vin_plan_ or vin_log_, and by no other.
  *   - The runs of one call that are written (out; log and times of a reading) overlap no other run
- *     of that call. Runs that are only read may overlap each other.
+ *     of that call. Runs that are only read may overlap each other: vin_join may be given one log
+ *     twice.
  *
  * Threads: the functions keep nothing between calls and use no heap, no global and no file. They
  * may be called from any number of threads at once, as long as no run that one call writes is used
- * elsewhere meanwhile. A call needs up to VIN_STACK_BYTES of the thread's stack, also for one item:
- * give a thread that calls them a stack of that and what the program itself needs.
+ * elsewhere meanwhile. A call needs up to VIN_STACK_BYTES of the thread's stack, also for one item,
+ * the functions on logs alone up to VIN_LOG_STACK_BYTES: give a thread that calls them a stack of
+ * that and what the program itself needs.
  *
  * An example: a log of one data word, composed and read back.
  *
@@ -117,68 +121,69 @@ typedef struct {
     uint32_t number; /* VIN_DONE, or the refusal's number: enum vin_number */
     uint64_t place;  /* the refusal's place; 0 if done */
     uint64_t second; /* always 0; kept for a second place, so that no caller need be compiled again */
-    uint64_t bytes;  /* composing: bytes of capture written; reading: bytes of log; 0 if refused */
+    uint64_t bytes;  /* bytes written: composing: of capture; all others: of log; 0 if refused */
     uint64_t times;  /* reading: frame times written, of eight bytes each; 0 if refused */
 } vin_answer;
 
-/* C marks a number that composing can answer, R one that the readings can; the order of the checks
- * stands with each function below. A bit's place counts the log's bits from 0; a word's place counts
- * the capture's stored words from 0, so that its bytes begin at 3 x place. */
+/* C marks a number that composing can answer, R one that the readings can, L one that the functions
+ * on logs alone can; the order of the checks stands with each function below. A bit's place counts
+ * the log's bits from 0; a word's place counts the capture's stored words from 0, so that its bytes
+ * begin at 3 x place. */
 enum vin_number {
-    VIN_DONE = 0, /* C R  done */
+    VIN_DONE = 0, /* C R L  done */
 
-    /* C R  The plan is illegal, or a number names no choice or kind. Place 0. */
+    /* C R    The plan is illegal, or a number names no choice or kind. Place 0. */
     VIN_PLAN = 1,
 
-    /* C    The log is too long, cut, has an unknown kind or a bad ending. Place: the first bit of
-     *      that item or end mark; where the log runs out, the bit where the next kind would stand;
-     *      0 if the log is too long. A log of no bytes is cut at 0. */
+    /* C   L  The log is too long, cut, has an unknown kind or a bad ending. Place: the first bit of
+     *        that item or end mark; where the log runs out, the bit where the next kind would stand;
+     *        0 if the log is too long. A log of no bytes is cut at 0. */
     VIN_LOG = 2,
 
-    /* C    An item's bus is unused or of the wrong kind. Place: the item's first bit. */
+    /* C      An item's bus is unused or of the wrong kind. Place: the item's first bit. */
     VIN_BUS = 3,
 
-    /* C    A micro or response of 10000 or more. Place: the item's first bit. */
+    /* C   L  A micro or response of 10000 or more. Place: the item's first bit. */
     VIN_LIMIT = 4,
 
-    /* C    The number of frame times is wrong, or the run is not whole eights: place is the number
-     *      needed (0 if frame time is off). Or a frame time is VIN_TIME_LIMIT or more: place is its
-     *      index. Number before size. */
+    /* C      The number of frame times is wrong, or the run is not whole eights: place is the number
+     *        needed (0 if frame time is off). Or a frame time is VIN_TIME_LIMIT or more: place is its
+     *        index. Number before size. */
     VIN_TIMES = 5,
 
-    /* C R  The room for the output is too short; or, in reading, the log would be above
-     *      VIN_LOG_MAX, whatever the room. Place: the bytes needed. */
+    /* C R L  The room for the output is too short; or, in reading and joining, the log would be above
+     *        VIN_LOG_MAX, whatever the room. Place: the bytes needed. */
     VIN_ROOM = 6,
 
-    /* R    The room for frame times is too short. Place: the frame times needed, of eight bytes
-     *      each. */
+    /*   R    The room for frame times is too short. Place: the frame times needed, of eight bytes
+     *        each. */
     VIN_TIME_ROOM = 7,
 
-    /* R    The capture is above VIN_CAPTURE_MAX bytes or not whole groups. Place: its length in
-     *      bytes. */
+    /*   R    The capture is above VIN_CAPTURE_MAX bytes or not whole groups. Place: its length in
+     *        bytes. */
     VIN_CAPTURE = 8,
 
-    /* R    A frame's first word is not FAF320. Place: that word. */
+    /*   R    A frame's first word is not FAF320. Place: that word. */
     VIN_SYNC = 9,
 
-    /* R    With parity, a word other than a frame's first has an even number of ones. Place: that
-     *      word. */
+    /*   R    With parity, a word other than a frame's first has an even number of ones. Place: that
+     *        word. */
     VIN_PARITY = 10,
 
-    /* R    A CRC word is wrong in any of its 24 bits. Place: that word. */
+    /*   R    A CRC word is wrong in any of its 24 bits. Place: that word. */
     VIN_CRC = 11,
 
-    /* R    A frame time word has a bus other than 0, another label than its own, or a micro of
-     *      10000 or more. Place: that word. */
+    /*   R    A frame time word has a bus other than 0, another label than its own, or a micro of
+     *        10000 or more. Place: that word. */
     VIN_FRAME_TIME = 12,
 
-    /* R    A data word starts or continues no item (also fill without AAAA): place is that word. Or
-     *      the capture ends inside an item: place is that item's first word. */
+    /*   R    A data word starts or continues no item (also fill without AAAA): place is that word. Or
+     *        the capture ends inside an item: place is that item's first word. */
     VIN_DATA_WORD = 13,
 
-    /* R    Closed reading only: misplaced fill. A data word follows it, or neither its group nor a
-     *      later one has a data word, or its bus is not 0. Place: the earliest such word in dealt
-     *      order. */
+    /*   R    Closed reading only: misplaced fill. A data word follows it, or neither its group nor a
+     *        later one has a data word, or its bus is not 0. Place: the earliest such word in dealt
+     *        order. */
     VIN_FILL = 14
 };
 
@@ -223,6 +228,7 @@ static inline const char *vin_text(uint32_t number_)
 #define VIN_READ_GROUPS_MAX 2730     /* groups of a capture that is read: 1,048,576 / (3 x 128) */
 #define VIN_TIME_BYTES 8             /* bytes of a frame time */
 #define VIN_STACK_BYTES 73728        /* stack that a call needs: measured, tests/abi/stack.c */
+#define VIN_LOG_STACK_BYTES 36864    /* the same of a call of a function on logs alone */
 
 /* Times are below this: 10000 x 65536 x 65536 microseconds, 497 days. */
 #define VIN_TIME_LIMIT UINT64_C(42949672960000)
@@ -258,6 +264,19 @@ static inline const char *vin_text(uint32_t number_)
     ((size_t)(capture_len) / VIN_GROUP_BYTES(words, tracks))
 #define VIN_READ_TIMES_BYTES(capture_len, words, tracks, frame_time) \
     ((frame_time) ? VIN_TIME_BYTES * VIN_READ_GROUPS(capture_len, words, tracks) : 0)
+
+/* Picking from a log of log_len bytes, and joining two: bytes of room that always suffice. A log has
+ * at most 8 n - 4 bits of items, and one end mark is saved by joining, so that the joined log has as
+ * many bytes as both, or one less. For the exact number call with out_len 0: logs without faults are
+ * refused by VIN_ROOM at the bytes needed. */
+#define VIN_PICKED_BYTES(log_len) ((size_t)(log_len))
+#define VIN_JOINED_BYTES(first_len, second_len) \
+    ((size_t)(first_len) + (size_t)(second_len) < VIN_LOG_MAX \
+         ? (size_t)(first_len) + (size_t)(second_len) : VIN_LOG_MAX)
+
+/* A set of buses for vin_pick is the sum of these. */
+#define VIN_BUS_BIT(bus) ((uint16_t)(1u << (bus)))
+#define VIN_ALL_BUSES ((uint16_t)0xFFFF)
 
 /* ==== The functions =========================================================================== */
 
@@ -305,6 +324,37 @@ vin_answer vin_read_closed(uint32_t words, uint32_t tracks,
                            const uint8_t *capture, size_t capture_len,
                            uint8_t *log, size_t log_len,
                            uint8_t *times, size_t times_len);
+
+/* ==== The functions on logs alone ================================================================
+ *
+ * They take no plan: one bus may carry 1553 and ARINC items, and no bus is wrong. The log that they
+ * give holds the items as they were, none changed, and is a log of its own, with its end mark. */
+
+/* Picks the items on a set of buses, in the log's order: exactly those.
+ *
+ *   log, log_len   the house log
+ *   buses          the set: bit c for bus code c (VIN_BUS_BIT); every number is a set
+ *   out, out_len   room for the log of the items picked; answer.bytes are written: 1 if none is, and
+ *                  never more than log_len
+ *
+ * Checks, in this order: VIN_LOG for the length; the items in order, picked or not, each for VIN_LOG,
+ * VIN_LIMIT; VIN_ROOM. */
+vin_answer vin_pick(const uint8_t *log, size_t log_len,
+                    uint16_t buses,
+                    uint8_t *out, size_t out_len);
+
+/* Joins two logs: the first one's items, then the second's.
+ *
+ *   first, first_len, second, second_len   the house logs
+ *   out, out_len                           room for the joined log; answer.bytes are written
+ *
+ * Checks, in this order: of the first log VIN_LOG for the length, then the items in order, each for
+ * VIN_LOG, VIN_LIMIT; the same of the second log; VIN_ROOM, also for a joined log above VIN_LOG_MAX,
+ * at its true length. The place of VIN_LOG and VIN_LIMIT is a bit of the log that has the fault; the
+ * answer does not say which of the two that is (vin_pick of the first does). */
+vin_answer vin_join(const uint8_t *first, size_t first_len,
+                    const uint8_t *second, size_t second_len,
+                    uint8_t *out, size_t out_len);
 
 /* ==== The same with the plan in a struct, and null pointers of length 0 ==========================
  *
@@ -369,6 +419,21 @@ static inline vin_answer vin_plan_read_closed(const vin_plan *plan_,
                            vin_run_(capture_), capture_len_,
                            vin_room_(log_), log_len_,
                            vin_room_(times_), times_len_);
+}
+
+static inline vin_answer vin_log_pick(const uint8_t *log_, size_t log_len_,
+                                      uint16_t buses_,
+                                      uint8_t *out_, size_t out_len_)
+{
+    return vin_pick(vin_run_(log_), log_len_, buses_, vin_room_(out_), out_len_);
+}
+
+static inline vin_answer vin_log_join(const uint8_t *first_, size_t first_len_,
+                                      const uint8_t *second_, size_t second_len_,
+                                      uint8_t *out_, size_t out_len_)
+{
+    return vin_join(vin_run_(first_), first_len_, vin_run_(second_), second_len_,
+                    vin_room_(out_), out_len_);
 }
 
 #ifdef __cplusplus

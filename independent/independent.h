@@ -1,11 +1,11 @@
-/* Document 01, the rules of Vinculampe, once more in plain C11.
+/* Document 01, the rules of Vinculampe, and the requests of document 02, once more in plain C11.
  *
- * This implementation was written from document 01 and the decisions of docs/DECISIONS.md alone, without a look at the
+ * This implementation was written from these two and the decisions of docs/DECISIONS.md alone, without a look at the
  * library, and it is written to be read: each rule stands once, under the sentence that states it. It is what the tests
  * compare the library with. It is slow; bench/fast.c is the fast one.
  *
- * The three functions take what vin_compose, vin_read and vin_read_closed of include/vinculampe.h take and answer as they
- * must answer. They use no heap, keep nothing between calls, and take a null pointer for a run of length 0. */
+ * ind_NAME takes what vin_NAME of include/vinculampe.h takes and answers as that must answer. The functions use no heap,
+ * keep nothing between calls, and take a null pointer for a run of length 0. */
 #ifndef INDEPENDENT_H
 #define INDEPENDENT_H
 
@@ -16,7 +16,7 @@ typedef struct {
     uint32_t number; /* 0, or the refusal's number */
     uint64_t place;  /* the refusal's place */
     uint64_t second; /* always 0 */
-    uint64_t bytes;  /* composing: bytes of capture written; reading: bytes of log written */
+    uint64_t bytes;  /* composing: bytes of capture written; reading and the functions on logs: bytes of log written */
     uint64_t times;  /* reading: frame times written */
 } ind_answer;
 
@@ -37,6 +37,10 @@ ind_answer ind_read_closed(uint32_t words, uint32_t tracks, uint32_t frame_time,
                            const uint8_t *capture, size_t capture_len,
                            uint8_t *log, size_t log_len,
                            uint8_t *times, size_t times_len);
+
+/* Document 02, K7: what vin_pick and vin_join must answer. Bit c of `buses` is bus code c. */
+ind_answer ind_pick(const uint8_t *log, size_t log_len, uint16_t buses, uint8_t *out, size_t out_len);
+ind_answer ind_join(const uint8_t *first, size_t first_len, const uint8_t *second, size_t second_len, uint8_t *out, size_t out_len);
 
 /* The lister's text for what it reads from standard input. Returns the text's length and writes as much of it as `room`
  * holds, without a closing zero; IND_TEXT_MAX bytes hold every text. */

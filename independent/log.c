@@ -104,13 +104,37 @@ enum stands log_next(const uint8_t *log, size_t log_len, uint64_t *bit, item *i)
     return STANDS_ITEM;
 }
 
+/* "2, 4 as in composing" (document 02): the length, then the items in order, each for 2, 4. Without a plan there is no 3. */
+ind_answer log_fault(const uint8_t *log, size_t log_len)
+{
+    uint64_t bit = 0;
+    if (log_len > LOG_MAX)
+        return refused(2, 0);
+    for (;;) {
+        item i;
+        uint64_t first_bit = bit;
+        enum stands stands = log_next(log, log_len, &bit, &i);
+        if (stands == STANDS_END)
+            return passed();
+        if (stands == STANDS_FAULT)
+            return refused(2, first_bit);
+        if (!item_within_limits(&i))
+            return refused(4, first_bit);
+    }
+}
+
 /* ---- Writing ---- */
 
 static void put(log_writer *w, uint32_t value, uint32_t width)
 {
-    for (; width > 0; width--, w->bits++)
-        if (w->bits / 8 < LOG_MAX && (value >> (width - 1) & 1))
+    for (; width > 0; width--, w->bits++) {
+        if (w->bits / 8 >= LOG_MAX)
+            continue;
+        if (w->bits % 8 == 0)
+            w->bytes[w->bits / 8] = 0;
+        if (value >> (width - 1) & 1)
             w->bytes[w->bits / 8] |= (uint8_t)(0x80 >> w->bits % 8);
+    }
 }
 
 static void put_time(log_writer *w, time_words t)
@@ -122,7 +146,7 @@ static void put_time(log_writer *w, time_words t)
 
 void log_begin(log_writer *w)
 {
-    memset(w, 0, sizeof *w);
+    w->bits = 0;
 }
 
 void log_put(log_writer *w, const item *i)

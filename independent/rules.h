@@ -105,6 +105,11 @@ enum stands { STANDS_ITEM, STANDS_END, STANDS_FAULT };
 /* What stands at a bit of a log. An item is read and the bit moved behind it; a fault is document 01's number 2. */
 enum stands log_next(const uint8_t *log, size_t log_len, uint64_t *bit, item *i);
 
+/* The first fault 2 or 4 of a whole log, without a plan; number 0 if it has none. */
+ind_answer log_fault(const uint8_t *log, size_t log_len);
+
+#define ITEMS_MAX 14564u /* more than a log can hold: no item has fewer than 18 bits, and the end mark has 4 */
+
 /* A log being written. Bits beyond LOG_MAX bytes are counted and not kept. */
 typedef struct {
     uint8_t bytes[LOG_MAX];

@@ -1,17 +1,7 @@
 /* Document 01's bench cases P1 to P10 and its list "Tempting and wrong", over the independent implementation. */
-#include <stdio.h>
-#include <stdlib.h>
 #include <string.h>
 
-#include "rules.h"
-
-#define CHECK(claim) \
-    do { \
-        if (!(claim)) { \
-            printf("%s:%d: %s\n", __FILE__, __LINE__, #claim); \
-            exit(1); \
-        } \
-    } while (0)
+#include "selftest.h"
 
 /* The plan and the runs of the case at hand. */
 static uint32_t length, tracks, frame_time, crc, parity;
@@ -314,5 +304,7 @@ int main(void)
     crc_by_hand();
     lister_lines();
     puts("selftest: P1 to P10 and the list of tempting and wrong: as document 01 says");
+    selftest_pick_join();
+    puts("selftest: K7: as document 02 says");
     return 0;
 }

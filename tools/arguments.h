@@ -34,7 +34,7 @@ typedef struct {
     const char *about; /* NULL: an old name, which help does not have */
 } option_row;
 
-enum { FILES_MOST = 3 };
+enum { FILES_MOST = 64 };
 
 typedef struct {
     const char *files[FILES_MOST];

@@ -17,7 +17,7 @@ static const struct {
          "limits, several tracks go with other than exactly one used bus, or parity goes with a used\n"
          "bus above 7."},
     [VIN_LOG] =
-        {"compose, list, info", BIT,
+        {"compose, list, info, pick, join", BIT,
          "The log is longer than 32768 bytes (place 0), ends inside an item or without its end mark,\n"
          "has a kind other than 0 to 8, or something follows its end mark. Most often the file was\n"
          "cut, or is no house log."},
@@ -25,16 +25,16 @@ static const struct {
         {"compose", BIT,
          "An item is on a bus that the plan does not use or has as another kind. Mend the plan's bus\n"
          "lines, or compose with the plan that the log was made for."},
-    [VIN_LIMIT] = {"compose, list, info", BIT,
+    [VIN_LIMIT] = {"compose, list, info, pick, join", BIT,
                    "The micro of a time tag, or a response time, is 10000 or more."},
     [VIN_TIMES] =
         {"compose", "the number of times needed; or the index of the time that is too large, counted from 0",
          "A plan with frame time needs one time for each group, a plan without it none; and a time is\n"
          "below 42949672960000 microseconds."},
     [VIN_ROOM] =
-        {"read, check, info", "the bytes that the log would have",
-         "The capture's log would be longer than 32768 bytes. (To a caller in C also: the room lent\n"
-         "for the output is too short. vin lends enough.)"},
+        {"read, check, info, join", "the bytes that the log would have",
+         "The capture's log, or the joined log, would be longer than 32768 bytes. (To a caller in C\n"
+         "also: the room lent for the output is too short. vin lends enough.)"},
     [VIN_TIME_ROOM] = {"callers in C only", "the number of times needed",
                        "The room lent for the frame times is too short. vin lends enough."},
     [VIN_CAPTURE] =

@@ -19,6 +19,7 @@ void drop_call(call *c);
 /* Each says on standard error by which number the call was refused, and where. */
 void say_composing_refused(const call *c, vin_answer a);
 void say_reading_refused(const call *c, vin_answer a);
+/* Of a log that was listed, or worked on without a plan. */
 void say_listing_refused(const char *log_name, const run *log, unsigned number, uint64_t place);
 
 /* A refusal whose place says no more. */

@@ -6,13 +6,13 @@ _vin_options() { # COMMAND
     read) echo "-o --times-out" ;;
     dump) echo "--from --count --group --bus --stored --no-fill --faults -o" ;;
     list) echo "--json --csv --decode -o" ;;
-    pack | info) echo "-o" ;;
+    pack | info | pick | join) echo "-o" ;;
     esac
 }
 
 _vin() {
     local word=${COMP_WORDS[COMP_CWORD]} before=${COMP_WORDS[COMP_CWORD - 1]} command=${COMP_WORDS[1]} n files=0
-    local commands="compose read check dump info list pack plan explain"
+    local commands="compose read check dump info list pack pick join plan explain"
     COMPREPLY=()
     if [ "$COMP_CWORD" -eq 1 ]; then
         mapfile -t COMPREPLY < <(compgen -W "$commands help --help --version" -- "$word")

@@ -76,6 +76,30 @@ static void example(void)
         CHECK(strlen(vin_text(number)) > 0);
 }
 
+/* The functions on logs: what the header says of sizes, sets, null pointers, and one log given twice. */
+static void on_logs(void)
+{
+    static const uint8_t log[] = {0x32, 0x5F, 0x77, 0x80}, twice[] = {0x32, 0x5F, 0x77, 0x99, 0x2F, 0xBB, 0xC0};
+    static uint8_t made[VIN_LOG_MAX];
+    vin_answer a;
+    CHECK(VIN_PICKED_BYTES(13) == 13 && VIN_JOINED_BYTES(4, 4) == 8 && VIN_JOINED_BYTES(20000, 20000) == VIN_LOG_MAX);
+    CHECK(VIN_BUS_BIT(0) == 1 && VIN_BUS_BIT(15) == 0x8000 && VIN_ALL_BUSES == 0xFFFF);
+    a = vin_log_pick(log, sizeof log, VIN_BUS_BIT(2), made, sizeof made);
+    CHECK(a.number == VIN_DONE && a.bytes == sizeof log && memcmp(made, log, sizeof log) == 0);
+    a = vin_log_pick(log, sizeof log, (uint16_t)(VIN_ALL_BUSES - VIN_BUS_BIT(2)), made, sizeof made);
+    CHECK(a.number == VIN_DONE && a.bytes == 1 && made[0] == 0);
+    a = vin_log_pick(log, sizeof log, VIN_ALL_BUSES, NULL, 0);
+    CHECK(a.number == VIN_ROOM && a.place == sizeof log);
+    a = vin_log_pick(NULL, 0, VIN_ALL_BUSES, NULL, 0);
+    CHECK(a.number == VIN_LOG && a.place == 0);
+    a = vin_log_join(log, sizeof log, log, sizeof log, made, sizeof made);
+    CHECK(a.number == VIN_DONE && a.bytes == sizeof twice && memcmp(made, twice, sizeof twice) == 0);
+    a = vin_log_join(log, sizeof log, NULL, 0, NULL, 0);
+    CHECK(a.number == VIN_LOG && a.place == 0);
+    a = vin_log_join(log, sizeof log, log, sizeof log, NULL, 0);
+    CHECK(a.number == VIN_ROOM && a.place == sizeof twice);
+}
+
 /* The limits of a frame's length, for each number of tracks: both are legal in all three functions, one less and one more in none. */
 static void lengths(void)
 {
@@ -142,6 +166,7 @@ int main(void)
     fill_most();
     sizes();
     example();
+    on_logs();
     lengths();
     most_groups();
     puts("header: its sizes, its limits and its example hold");

@@ -1,6 +1,6 @@
 /* The stack that a call needs: each function is called in a thread whose stack is painted, and what lost its paint is measured and
  * held to VIN_STACK_BYTES of include/vinculampe.h. Plans of all tracks and choices; logs from one item to the longest; captures up to
- * the largest; calls that are refused. */
+ * the largest; calls that are refused. The functions on logs are held to VIN_LOG_STACK_BYTES: a line each in `over_logs`. */
 #define _GNU_SOURCE
 #include <pthread.h>
 #include <stdbool.h>
@@ -11,17 +11,38 @@
 
 #include "../../include/vinculampe.h"
 
-enum { STACK = 1 << 18, PAINT = 0x5A, LEAST = 1024 };
+enum { STACK = 1 << 18, PAINT = 0x5A, LEAST = 1024, LEAST_OVER_LOGS = 64 };
 
 static uint8_t log_bytes[VIN_LOG_MAX], times[VIN_READ_GROUPS_MAX * VIN_TIME_BYTES], capture[VIN_CAPTURE_MAX];
 static uint8_t back[VIN_LOG_MAX], back_times[VIN_READ_GROUPS_MAX * VIN_TIME_BYTES];
 
+/* ==== The functions on logs: each over a log of so many bytes, and with so much room ==== */
+
+static void call_pick(size_t length, size_t room)
+{
+    vin_pick(log_bytes, length, 0xAAAC, back, room);
+}
+
+static void call_join(size_t length, size_t room)
+{
+    vin_join(log_bytes, length, log_bytes, length, back, room);
+}
+
+static const struct {
+    const char *name;
+    void (*call)(size_t length, size_t room);
+} over_logs[] = {{"pick", call_pick}, {"join", call_join}};
+enum { OVER_LOGS = sizeof over_logs / sizeof *over_logs };
+
+/* ==== A call in a painted stack ==== */
+
 typedef struct {
-    enum { COMPOSE, READ, READ_CLOSED } function;
+    enum { COMPOSE, READ, READ_CLOSED, OVER_LOG } function;
     vin_plan plan;
     size_t length, times_length, room;
     vin_answer answer;
     uint8_t *above; /* an address in the caller's frame */
+    size_t index;   /* in over_logs */
 } work;
 
 static void *run(void *given)
@@ -29,7 +50,9 @@ static void *run(void *given)
     work *w = given;
     uint8_t here = 0;
     w->above = &here;
-    if (w->function == COMPOSE)
+    if (w->function == OVER_LOG)
+        over_logs[w->index].call(w->length, w->room);
+    else if (w->function == COMPOSE)
         w->answer = vin_plan_compose(&w->plan, log_bytes, w->length, times, w->times_length, capture, w->room);
     else
         w->answer = (w->function == READ ? vin_plan_read : vin_plan_read_closed)(&w->plan, capture, w->length, back, w->room,
@@ -92,20 +115,30 @@ static size_t make_log(size_t most, unsigned kind)
     return (bits + 7) / 8;
 }
 
-static size_t most[3];
+static size_t most[OVER_LOG + OVER_LOGS];
 
 static vin_answer measure(work w, uint8_t *stack)
 {
-    size_t bytes = used(&w, stack);
-    if (bytes > most[w.function])
-        most[w.function] = bytes;
+    size_t bytes = used(&w, stack), *is = &most[w.function + w.index];
+    if (bytes > *is)
+        *is = bytes;
     return w.answer;
+}
+
+/* Each function on logs over a log, with room and without. */
+static void measure_log(size_t length, uint8_t *stack)
+{
+    for (size_t n = 0; n < OVER_LOGS; n++)
+        for (int roomy = 0; roomy < 2; roomy++) {
+            work w = {OVER_LOG, VIN_PLAN_INIT(0, 0), length, 0, roomy ? sizeof back : 0, {0, 0, 0, 0, 0}, NULL, n};
+            measure(w, stack);
+        }
 }
 
 /* A plan's calls: composed, read and read closed, each also without room; then a capture as large as can be. */
 static void measure_plan(vin_plan plan, size_t log_length, uint8_t *stack)
 {
-    work w = {COMPOSE, plan, log_length, 0, sizeof capture, {0, 0, 0, 0, 0}, NULL};
+    work w = {COMPOSE, plan, log_length, 0, sizeof capture, {0, 0, 0, 0, 0}, NULL, 0};
     vin_answer a = measure(w, stack);
     w.times_length = a.number == VIN_TIMES ? (size_t)a.place * VIN_TIME_BYTES : 0;
     a = measure(w, stack);
@@ -115,7 +148,7 @@ static void measure_plan(vin_plan plan, size_t log_length, uint8_t *stack)
     }
     size_t group = VIN_GROUP_BYTES(plan.words, plan.tracks), length = (size_t)a.bytes;
     for (int closed = 0; closed < 2; closed++) {
-        work r = {closed ? READ_CLOSED : READ, plan, length, 0, sizeof back, {0, 0, 0, 0, 0}, NULL};
+        work r = {closed ? READ_CLOSED : READ, plan, length, 0, sizeof back, {0, 0, 0, 0, 0}, NULL, 0};
         if (measure(r, stack).number != VIN_DONE) {
             printf("stack: reading is refused\n");
             exit(2);
@@ -125,7 +158,7 @@ static void measure_plan(vin_plan plan, size_t log_length, uint8_t *stack)
     }
     for (size_t at = length; at + group <= sizeof capture; at += group) /* the last group again and again */
         memcpy(capture + at, capture + length - group, group);
-    work r = {READ, plan, sizeof capture / group * group, 0, sizeof back, {0, 0, 0, 0, 0}, NULL};
+    work r = {READ, plan, sizeof capture / group * group, 0, sizeof back, {0, 0, 0, 0, 0}, NULL, 0};
     measure(r, stack);
     w.room = 0;
     measure(w, stack);
@@ -149,10 +182,22 @@ int main(void)
                     plan.kinds[2] = (uint8_t)kind;
                     measure_plan(plan, make_log(longest ? VIN_LOG_MAX : 12, kind), stack);
                 }
+    for (unsigned kind = VIN_KIND_1553; kind <= VIN_KIND_ARINC; kind++)
+        for (size_t bytes = 12; bytes <= VIN_LOG_MAX; bytes = 2 * bytes < VIN_LOG_MAX || bytes == VIN_LOG_MAX ? 2 * bytes : VIN_LOG_MAX) {
+            size_t length = make_log(bytes, kind);
+            measure_log(length, stack);
+            measure_log(length - 1, stack); /* refused by 2 */
+        }
     bool good = true;
     for (int n = 0; n < 3; n++)
         good = good && most[n] >= LEAST && most[n] <= VIN_STACK_BYTES;
     printf("stack: composing %zu bytes, reading %zu, closed reading %zu; the header says %d\n", most[COMPOSE], most[READ],
            most[READ_CLOSED], VIN_STACK_BYTES);
+    printf("stack, on logs:");
+    for (int n = 0; n < OVER_LOGS; n++) {
+        printf(" %s %zu,", over_logs[n].name, most[OVER_LOG + n]);
+        good = good && most[OVER_LOG + n] >= LEAST_OVER_LOGS && most[OVER_LOG + n] <= VIN_LOG_STACK_BYTES;
+    }
+    printf(" the header says %d\n", VIN_LOG_STACK_BYTES);
     return !good;
 }

@@ -8,6 +8,8 @@
 void module_vin_compose(vin_answer *answer, PLAN, RUN(const, log), RUN(const, times), RUN(, out));
 void module_vin_read(vin_answer *answer, PLAN, RUN(const, capture), RUN(, log), RUN(, times));
 void module_vin_read_closed(vin_answer *answer, PLAN, RUN(const, capture), RUN(, log), RUN(, times));
+void module_vin_pick(vin_answer *answer, RUN(const, log), uint16_t buses, RUN(, out));
+void module_vin_join(vin_answer *answer, RUN(const, first), RUN(const, second), RUN(, out));
 
 #define GIVEN words, tracks, frame_time, crc, parity, kinds, kinds_len
 
@@ -29,5 +31,19 @@ vin_answer vin_read_closed(PLAN, RUN(const, capture), RUN(, log), RUN(, times))
 {
     vin_answer answer;
     module_vin_read_closed(&answer, GIVEN, capture, capture_len, log, log_len, times, times_len);
+    return answer;
+}
+
+vin_answer vin_pick(RUN(const, log), uint16_t buses, RUN(, out))
+{
+    vin_answer answer;
+    module_vin_pick(&answer, log, log_len, buses, out, out_len);
+    return answer;
+}
+
+vin_answer vin_join(RUN(const, first), RUN(const, second), RUN(, out))
+{
+    vin_answer answer;
+    module_vin_join(&answer, first, first_len, second, second_len, out, out_len);
     return answer;
 }

@@ -4,10 +4,13 @@ ghost use mathlib.Core.Bool.{false, true};
 ghost use lib.ListN.{length};
 ghost use Rattle.format.specs.Answer.{Made};
 ghost use Rattle.compose_from_c.specs.Composing.{composedFrom};
+ghost use Rattle.log_rules.specs.Pick.{joined, picked};
 ghost use Rattle.read_from_c.specs.Reading.{GivenBytes, readingFrom};
 pub use compose::compose;
 use compose_from_c::compose_from;
 use format::Answer;
+pub use log_edit::join;
+pub use log_edit::pick;
 pub use read::read;
 pub use read::read_closed;
 use read_from_c::read_from;
@@ -93,4 +96,18 @@ pub extern "C" fn vin_read_closed(
         log,
         times,
     )
+}
+
+#[no_mangle]
+pub extern "C" fn vin_pick(log: &[u8], buses: u16, out: &mut [u8]) -> Answer
+    ensures { λ r. ⌜ Made (picked (now (log .entry)) buses (length (now (out .entry)))) r (now (out .entry)) (now (out .exit)) ⌝ }
+{
+    pick(log, buses, out)
+}
+
+#[no_mangle]
+pub extern "C" fn vin_join(first: &[u8], second: &[u8], out: &mut [u8]) -> Answer
+    ensures { λ r. ⌜ Made (joined (now (first .entry)) (now (second .entry)) (length (now (out .entry)))) r (now (out .entry)) (now (out .exit)) ⌝ }
+{
+    join(first, second, out)
 }

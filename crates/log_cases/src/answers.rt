@@ -1,0 +1,72 @@
+// What is said of a call: its name, its answer, a digest of what was lent for it, and `differs` where it is not as asked for.
+
+use crate::digest::digest_of;
+use crate::fields::number;
+use crate::runs::part;
+use crate::runs::run;
+use format::Answer;
+
+// A line that says nothing is no case: it is told.
+pub(crate) fn say_unknown() {
+    io::write_all(1, b"unknown\n");
+}
+
+fn say_number(number: u64) {
+    io::write_all(1, b" ");
+    io::print_decimal(1, number);
+}
+
+fn say_answer(a: Answer) {
+    say_number(a.number as u64);
+    say_number(a.place);
+    say_number(a.second);
+    say_number(a.bytes);
+    say_number(a.times);
+}
+
+fn say_unless(good: bool) {
+    if good {
+        return;
+    }
+    io::write_all(1, b" differs");
+}
+
+// "On success: number 0, place 0 and the lengths written": so many bytes. "A refusal returns number, place and lengths 0."
+fn is_asked(a: Answer, number: u64, value: u64) -> bool {
+    if a.number == 0 {
+        return number == 0 && a.place == 0 && a.bytes == value;
+    }
+    a.number as u64 == number && a.place == value && a.bytes == 0 && a.times == 0
+}
+
+// Whether the first bytes of `out` are these.
+fn begins(out: &[u8], made: &[u8]) -> bool {
+    let mut at = 0;
+    while at < made.len() {
+        if out.len() <= at {
+            return false;
+        }
+        if out[at] != made[at] {
+            return false;
+        }
+        at += 1;
+    }
+    true
+}
+
+// Whether so many bytes were written, and these.
+fn is_made(bytes: u64, out: &[u8], asked: &[u8]) -> bool {
+    let mut made = [0; 40000];
+    let size = run(asked, 3, &mut made);
+    let end = part(&made, size);
+    bytes == end as u64 && begins(out, &made[..end])
+}
+
+pub(crate) fn say_made(name: &[u8], a: Answer, out: &[u8], asked: &[u8]) {
+    io::write_all(1, name);
+    say_answer(a);
+    say_number(digest_of(out));
+    say_unless(a.second == 0 && is_asked(a, number(asked, 1), number(asked, 2)));
+    say_unless(is_made(a.bytes, out, asked));
+    io::write_all(1, b"\n");
+}

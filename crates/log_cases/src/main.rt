@@ -1,0 +1,53 @@
+// The named cases of the functions on logs, from standard input: a call a line, with the answer that document 02 asks for behind `->`.
+// Each is made, its answer is written with a digest of what was lent for it, and `differs` behind an answer that is another.
+// `independent/log_cases.c`, the same over the independent implementation, must write the same; what the lines mean is said at the top
+// of that text.
+
+mod answers;
+mod digest;
+mod fields;
+mod join;
+mod pick;
+mod runs;
+
+use crate::answers::say_unknown;
+use crate::fields::arrow;
+use crate::fields::line_end;
+use crate::join::join_line;
+use crate::pick::pick_line;
+
+// A call is told by its second letter: pick, join.
+fn call_line(letter: u8, line: &[u8], asked: &[u8]) {
+    match letter {
+        b'i' => pick_line(line, asked),
+        b'o' => join_line(line, asked),
+        _ => say_unknown(),
+    }
+}
+
+// Empty lines and comments are passed over.
+fn one_line(line: &[u8]) {
+    if line.len() < 2 {
+        return;
+    }
+    if line[0] == b'#' {
+        return;
+    }
+    let at = arrow(line);
+    call_line(line[1], line, &line[at..]);
+}
+
+fn all_lines(text: &[u8]) {
+    let mut at = 0;
+    while at < text.len() {
+        let end = line_end(text, at);
+        one_line(&text[at..end]);
+        at = end + 1;
+    }
+}
+
+fn main() {
+    let mut text = [0; 65536];
+    let size = io::read_full(0, &mut text);
+    all_lines(&text[..size]);
+}

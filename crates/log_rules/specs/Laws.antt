@@ -1,0 +1,5 @@
+-- What follows from the definitions.
+pub mod Onward
+pub mod Checking
+pub mod Logs
+pub mod Pick

@@ -1,0 +1,4 @@
+-- What is done with logs alone (document 02); the laws, and the promises.
+pub mod Pick
+pub mod Laws
+pub mod Promises

@@ -1,0 +1,59 @@
+-- What the user is promised of the calls on logs (document 02), as theorems over the definitions. The proofs stand in the modules under
+-- Laws that each names.
+use Prim.Native.Nat.{ℕ, _^_, _≤_, _<_}
+use mathlib.Core.Path.{_≡_}
+use mathlib.Core.List.{List, [], _∷_, _++_}
+use lib.ListN.{length}
+use Rattle.format.specs.Lists.{Bytes, list}
+use Rattle.format.specs.Log.{fault, logOf, onNoPlan, parsed}
+use Rattle.format.specs.Compose.{made, refused}
+use Rattle.log_rules.specs.Pick.{inSet, keep, onBuses, picked, joined}
+use Rattle.log_rules.specs.Laws.Logs.{LogOf}
+use Rattle.log_rules.specs.Laws.Pick as Pick
+use Rattle.format.specs.declared.Item.{Item}
+
+-- ---- K7: pick and join
+
+-- "a set of bus codes": bit c for code c, so that the set of one code has that code of the sixteen, and no other
+pub one-code : list (λ c. keep (inSet (2 ^ c)) (list (λ b. b) 0 16)) 0 16 ≡ list (λ c. c ∷ []) 0 16
+one-code = Pick.one-code
+
+-- "Picking takes a log and a set of bus codes and gives the log of exactly the items on those buses, in order."
+pub picks : (log : List ℕ) (set room : ℕ) (out : List ℕ) → Bytes log → picked log set room ≡ made out
+    → (is : List Item) × LogOf log is × LogOf out (keep (onBuses set) is)
+picks log set room out bytes e =
+    let p = Pick.pick-from log set room out bytes e in
+    (p .0, p .1, Pick.pick-gives set room out (p .1) e)
+
+-- and it does so for every log, in the room of that log
+pub pick-has-room : (log : List ℕ) (is : List Item) (set room : ℕ) → LogOf log is → length log ≤ room → picked log set room ≡ made (logOf (keep (onBuses set) is))
+pick-has-room log is set room = Pick.pick-fits set room
+
+-- "Refusals: 2 and 4 as composing finds them": a log that does not parse refuses picking with its fault
+pub pick-refused : (log : List ℕ) (set room n p : ℕ) → parsed onNoPlan log ≡ fault n p → picked log set room ≡ refused n p
+pick-refused = Pick.pick-refuses
+
+-- "Joining gives the first log's items, then the second's."
+pub joins : (first second : List ℕ) (room : ℕ) (out : List ℕ) → Bytes first → Bytes second → joined first second room ≡ made out
+    → (is : List Item) × (js : List Item) × LogOf first is × LogOf second js × LogOf out (is ++ js)
+joins first second room out a b e =
+    let j = Pick.join-from first second room out a b e in
+    (j .0, j .1, j .2, j .3, Pick.join-gives room out (j .2) (j .3) e)
+
+-- and for all logs that are not too long together, given room
+pub join-has-room : (first second : List ℕ) (is js : List Item) (room : ℕ) → LogOf first is → LogOf second js
+    → length (logOf (is ++ js)) ≤ 32768 → length (logOf (is ++ js)) ≤ room → joined first second room ≡ made (logOf (is ++ js))
+join-has-room first second is js room = Pick.join-fits room
+
+-- "first log before second"
+pub join-refused-first : (first second : List ℕ) (room n p : ℕ) → parsed onNoPlan first ≡ fault n p → joined first second room ≡ refused n p
+join-refused-first = Pick.join-refuses-first
+
+pub join-refused-second : (first second : List ℕ) (is : List Item) (room n p : ℕ) → LogOf first is → parsed onNoPlan second ≡ fault n p
+    → joined first second room ≡ refused n p
+join-refused-second first second is room n p = Pick.join-refuses-second second room n p
+
+-- "then 6": "output too short, or a log above 32,768", at the true length
+pub join-refused-long : (first second : List ℕ) (is js : List Item) (room : ℕ) → LogOf first is → LogOf second js → 32768 < length (logOf (is ++ js))
+    → joined first second room ≡ refused 6 (length (logOf (is ++ js)))
+join-refused-long first second is js room = Pick.join-refuses-long room

@@ -1,0 +1,4 @@
+pub mod Fields
+pub mod Shapes
+pub mod Ends
+pub mod Items

@@ -1,0 +1,32 @@
+/* What the files of the program `log_cases` share. A call is a file log_cases_NAME.c, and a line in `calls` of log_cases.c. */
+#ifndef LOG_CASES_H
+#define LOG_CASES_H
+
+#include <inttypes.h>
+#include <stdbool.h>
+#include <stdio.h>
+
+#include "independent.h"
+
+#define RUN_ROOM 40000 /* more than a log can have */
+
+/* A run of bytes that a line names; of a room, what it holds. */
+typedef struct {
+    uint8_t bytes[RUN_ROOM];
+    size_t length;
+} run;
+
+/* The field behind so many spaces: a number, decimal or hexadecimal behind an x; a run of bytes; a room of so many bytes, all A5. */
+uint64_t number_field(const char *line, int spaces);
+void run_field(const char *line, int spaces, run *r);
+void room_field(const char *line, int spaces, run *r);
+
+/* Writes an answer and the room's digest behind the call's name, and `differs` if `asked`, what stands from `->` on, asks for another
+ * answer or other bytes. */
+void say_made(const char *name, ind_answer a, const run *out, const char *asked);
+
+/* Each makes the call of a line. */
+void pick_line(const char *line, const char *asked);
+void join_line(const char *line, const char *asked);
+
+#endif
