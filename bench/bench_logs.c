@@ -46,13 +46,29 @@ static vin_answer call_join(enum who who, uint8_t *to)
     return (who == FAST ? fast_join : vin_join)(t.log, t.log_len, t.log, t.log_len, to, VIN_LOG_MAX);
 }
 
+/* A log that passes; nothing is written. */
+static vin_answer call_profile(enum who who, uint8_t *to)
+{
+    (void)to;
+    if (who == INDEPENDENT)
+        return as_vin(ind_profile(t.log, t.log_len));
+    return (who == FAST ? fast_profile : vin_profile)(t.log, t.log_len);
+}
+
 static const struct {
     const char *name;
     vin_answer (*call)(enum who who, uint8_t *to);
     size_t log_most; /* longer logs are left out */
     int logs;        /* that are lent */
-} functions[] = {{"pick", call_pick, VIN_LOG_MAX, 1}, {"join", call_join, VIN_LOG_MAX / 2, 2}};
+    int judges;      /* logs that it refuses are left out, too */
+} functions[] = {{"pick", call_pick, VIN_LOG_MAX, 1, 0}, {"join", call_join, VIN_LOG_MAX / 2, 2, 0}, {"profile", call_profile, VIN_LOG_MAX, 1, 1}};
 enum { FUNCTIONS = sizeof functions / sizeof *functions };
+
+/* Whether the row is timed. */
+static int takes(int f)
+{
+    return t.log_len <= functions[f].log_most && !(functions[f].judges && functions[f].call(INDEPENDENT, expected).number != 0);
+}
 
 /* ==== Agreement ==== */
 
@@ -131,7 +147,7 @@ int main(int argc, char **argv)
             continue;
         printf("%-52s %7d", t.name, t.items);
         for (int f = 0; f < FUNCTIONS; f++) {
-            if (t.log_len > functions[f].log_most) {
+            if (!takes(f)) {
                 printf(" | %7s %7s %6s", "", "", "");
                 continue;
             }

@@ -15,5 +15,6 @@ vin_answer fast_read_closed(uint32_t words, uint32_t tracks, uint32_t frame_time
                             uint8_t *log, size_t log_len, uint8_t *times, size_t times_len);
 vin_answer fast_pick(const uint8_t *log, size_t log_len, uint16_t buses, uint8_t *out, size_t out_len);
 vin_answer fast_join(const uint8_t *first, size_t first_len, const uint8_t *second, size_t second_len, uint8_t *out, size_t out_len);
+vin_answer fast_profile(const uint8_t *log, size_t log_len);
 
 #endif

@@ -52,6 +52,16 @@ static void command(traffic *t, uint32_t bus, uint32_t b, uint32_t tagged)
         put_tag(t);
 }
 
+static void command_at(traffic *t, uint32_t bus, uint32_t b, uint64_t time)
+{
+    put_head(t, 1 << 4 | bus);
+    put(t, 2, 2 * b + 1);
+    put(t, 16, draw(65536));
+    put(t, 32, time / 10000);
+    put(t, 14, time % 10000);
+    words += 4;
+}
+
 static void status(traffic *t, uint32_t bus, uint32_t b, uint32_t timed)
 {
     put_head(t, 2 << 4 | bus);
@@ -134,13 +144,31 @@ static void traffic_mixed(traffic *t)
     }
 }
 
+/* Messages on one bus whose tags rise, now and then with a second command that has none: they keep the one-bus test profile. */
+static void traffic_one_bus(traffic *t)
+{
+    static uint64_t time;
+    uint32_t b = draw(2), n = 1 + draw(32);
+    time = bit == 0 ? 36000000000 : time + draw(2000);
+    command_at(t, 2, b, time);
+    if (draw(8) == 0)
+        command(t, 2, b, 0);
+    while (n-- > 0)
+        data(t, 3, 2, b);
+    status(t, 2, b, 1);
+}
+
 /* ==== Rows ==== */
 
 static const struct {
     const char *name;
     void (*put)(traffic *);
-    int many_buses;
-} traffics[] = {{"1553", traffic_1553, 0}, {"ARINC", traffic_arinc, 0}, {"single words", traffic_single, 0}, {"mixed", traffic_mixed, 1}};
+    int many_buses, log_only; /* for one track; for logs alone */
+} traffics[] = {{"1553", traffic_1553, 0, 0},
+                {"ARINC", traffic_arinc, 0, 0},
+                {"single words", traffic_single, 0, 0},
+                {"mixed", traffic_mixed, 1, 0},
+                {"one bus", traffic_one_bus, 0, 1}};
 
 static const struct {
     uint32_t words, tracks, frame_time, crc, parity;
@@ -208,7 +236,7 @@ int traffic_row(traffic *t, int n)
     int seen = 0;
     for (int kind = 0; kind < COUNT(traffics); kind++)
         for (int plan = 0; plan < COUNT(plans); plan++) {
-            if (traffics[kind].many_buses && plans[plan].tracks > 1)
+            if (traffics[kind].log_only || (traffics[kind].many_buses && plans[plan].tracks > 1))
                 continue;
             for (int size = 0; size < COUNT(sizes); size++, seen++) {
                 if (seen != n)

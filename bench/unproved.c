@@ -54,3 +54,13 @@ vin_answer vin_join(const uint8_t *first, size_t first_len, const uint8_t *secon
     inner_vin_join(&answer, &f, &s, &o);
     return answer;
 }
+
+void inner_vin_profile(vin_answer *answer, const run *log);
+
+vin_answer vin_profile(const uint8_t *log, size_t log_len)
+{
+    vin_answer answer;
+    run l = {log, log_len};
+    inner_vin_profile(&answer, &l);
+    return answer;
+}

@@ -4,10 +4,10 @@
  * Composing makes a capture (PCM frames) of a house log and frame times. Reading gives log and
  * times back: vin_compose, vin_read and vin_read_closed; and over them vin_plan_compose,
  * vin_plan_read and vin_plan_read_closed, which take the plan as a struct and null pointers for
- * runs of length 0. Logs alone, without a plan, are worked on by vin_pick and vin_join; over them
- * vin_log_pick and vin_log_join take null pointers for runs of length 0. C99 or later, or C++. Link
- * with libvinculampe.a (x86-64, System V calling convention; that of `make NATIVE=yes` is for the
- * machine it was made on).
+ * runs of length 0. Logs alone, without a plan, are worked on by vin_pick, vin_join and vin_profile;
+ * over them vin_log_pick, vin_log_join and vin_log_profile take null pointers for runs of length 0.
+ * C99 or later, or C++. Link with libvinculampe.a (x86-64, System V calling convention; that of
+ * `make NATIVE=yes` is for the machine it was made on).
  *
  * What every function promises
  *   - Every input is taken. Either the work is done and the answer's number is 0, or the call is
@@ -184,7 +184,11 @@ enum vin_number {
     /*   R    Closed reading only: misplaced fill. A data word follows it, or neither its group nor a
      *        later one has a data word, or its bus is not 0. Place: the earliest such word in dealt
      *        order. */
-    VIN_FILL = 14
+    VIN_FILL = 14,
+
+    /*     L  vin_profile only: an item breaks a rule of the one-bus test profile. Place: the first
+     *        bit of the earliest item that does. */
+    VIN_PROFILE = 18
 };
 
 /* A few English words for an answer's number; never null. */
@@ -206,6 +210,7 @@ static inline const char *vin_text(uint32_t number_)
     case VIN_FRAME_TIME: return "a frame time word is wrong";
     case VIN_DATA_WORD: return "a data word starts or continues no item, or an item is cut";
     case VIN_FILL: return "misplaced fill";
+    case VIN_PROFILE: return "an item breaks a rule of the one-bus test profile";
     default: return "no such number";
     }
 }
@@ -356,6 +361,25 @@ vin_answer vin_join(const uint8_t *first, size_t first_len,
                     const uint8_t *second, size_t second_len,
                     uint8_t *out, size_t out_len);
 
+/* Says whether a log keeps the one-bus test profile of acceptance flights. VIN_DONE is a yes, given
+ * exactly when every item keeps every rule; nothing is written, and the answer's lengths are 0. An
+ * item is judged with those before it:
+ *
+ *   - it is on the first item's bus, and is neither an ARINC word nor a notice
+ *   - a command is tagged, unless the item just before it, whatever its kind, is a tagged command on
+ *     the same side, A or B
+ *   - a status has its response time
+ *   - a tag is no earlier than the tag before it, on either side; it may be the same
+ *   - it is no user word
+ *
+ * Data words, bus errors and overflow marks are free. The empty log passes.
+ *
+ *   log, log_len   the house log
+ *
+ * Checks, in this order: VIN_LOG for the length; the items in order, each for VIN_LOG, VIN_LIMIT;
+ * VIN_PROFILE, so that a fault at the log's end comes before a rule broken at its start. */
+vin_answer vin_profile(const uint8_t *log, size_t log_len);
+
 /* ==== The same with the plan in a struct, and null pointers of length 0 ==========================
  *
  * A null pointer with length 0 becomes a pointer to a byte that is never read nor written. A null
@@ -434,6 +458,11 @@ static inline vin_answer vin_log_join(const uint8_t *first_, size_t first_len_,
 {
     return vin_join(vin_run_(first_), first_len_, vin_run_(second_), second_len_,
                     vin_room_(out_), out_len_);
+}
+
+static inline vin_answer vin_log_profile(const uint8_t *log_, size_t log_len_)
+{
+    return vin_profile(vin_run_(log_), log_len_);
 }
 
 #ifdef __cplusplus

@@ -42,6 +42,9 @@ ind_answer ind_read_closed(uint32_t words, uint32_t tracks, uint32_t frame_time,
 ind_answer ind_pick(const uint8_t *log, size_t log_len, uint16_t buses, uint8_t *out, size_t out_len);
 ind_answer ind_join(const uint8_t *first, size_t first_len, const uint8_t *second, size_t second_len, uint8_t *out, size_t out_len);
 
+/* Document 02, K11: what vin_profile must answer. */
+ind_answer ind_profile(const uint8_t *log, size_t log_len);
+
 /* The lister's text for what it reads from standard input. Returns the text's length and writes as much of it as `room`
  * holds, without a closing zero; IND_TEXT_MAX bytes hold every text. */
 size_t ind_list(const uint8_t *log, size_t log_len, char *text, size_t room);

@@ -99,7 +99,7 @@ void say_made(const char *name, ind_answer a, const run *out, const char *asked)
 static const struct {
     const char *name;
     void (*line)(const char *line, const char *asked);
-} calls[] = {{"pick ", pick_line}, {"join ", join_line}};
+} calls[] = {{"pick ", pick_line}, {"join ", join_line}, {"profile ", profile_line}};
 
 static void step(const char *line)
 {

@@ -28,5 +28,6 @@ void say_made(const char *name, ind_answer a, const run *out, const char *asked)
 /* Each makes the call of a line. */
 void pick_line(const char *line, const char *asked);
 void join_line(const char *line, const char *asked);
+void profile_line(const char *line, const char *asked);
 
 #endif

@@ -305,6 +305,7 @@ int main(void)
     lister_lines();
     puts("selftest: P1 to P10 and the list of tempting and wrong: as document 01 says");
     selftest_pick_join();
-    puts("selftest: K7: as document 02 says");
+    selftest_profile();
+    puts("selftest: K7, K11: as document 02 says");
     return 0;
 }

@@ -5,7 +5,7 @@
 #define BIT "the bit of the log where the item or end mark begins, counted from 0"
 #define WORD "the word's number in the capture, counted from 0; its bytes begin at three times that"
 
-/* By number: who gives it, what its place counts, and what it means to a person. The short text is the
+/* By number, some of which no refusal has: who gives it, what its place counts, and what it means to a person. The short text is the
  * header's. */
 static const struct {
     const char *given_by, *place, *meaning;
@@ -17,7 +17,7 @@ static const struct {
          "limits, several tracks go with other than exactly one used bus, or parity goes with a used\n"
          "bus above 7."},
     [VIN_LOG] =
-        {"compose, list, info, pick, join", BIT,
+        {"compose, list, info, pick, join, profile", BIT,
          "The log is longer than 32768 bytes (place 0), ends inside an item or without its end mark,\n"
          "has a kind other than 0 to 8, or something follows its end mark. Most often the file was\n"
          "cut, or is no house log."},
@@ -25,7 +25,7 @@ static const struct {
         {"compose", BIT,
          "An item is on a bus that the plan does not use or has as another kind. Mend the plan's bus\n"
          "lines, or compose with the plan that the log was made for."},
-    [VIN_LIMIT] = {"compose, list, info, pick, join", BIT,
+    [VIN_LIMIT] = {"compose, list, info, pick, join, profile", BIT,
                    "The micro of a time tag, or a response time, is 10000 or more."},
     [VIN_TIMES] =
         {"compose", "the number of times needed; or the index of the time that is too large, counted from 0",
@@ -69,12 +69,19 @@ static const struct {
          "Fill stands where composing puts none: before a data word, in a group after the last data\n"
          "word's group, or on another bus than 0; vin says which. The plain reading, vin read, passes\n"
          "over such fill."},
+    [VIN_PROFILE] =
+        {"profile", BIT,
+         "This item breaks a rule of the one-bus test profile, and no item before it does: it is on\n"
+         "another bus than the first item; it is an ARINC word or a notice; it is a command without its\n"
+         "time tag, and the item just before it is no tagged command on the same side; it is a status\n"
+         "without its response time; its time tag is earlier than the tag before it; or it is a user\n"
+         "word. vin says which."},
 };
 enum { NUMBERS = sizeof numbers / sizeof *numbers };
 
 bool explain(FILE *to, unsigned long number)
 {
-    if (number >= NUMBERS)
+    if (number >= NUMBERS || !numbers[number].meaning)
         return false;
     fprintf(to, "%lu: %s\n\n%s\n\nGiven by: %s\nPlace:    %s\n", number, vin_text((uint32_t)number),
             numbers[number].meaning, numbers[number].given_by, numbers[number].place);
@@ -84,5 +91,6 @@ bool explain(FILE *to, unsigned long number)
 void explain_all(FILE *to)
 {
     for (uint32_t n = 0; n < NUMBERS; n++)
-        fprintf(to, "%2u  %s\n", n, vin_text(n));
+        if (numbers[n].meaning)
+            fprintf(to, "%2u  %s\n", n, vin_text(n));
 }

@@ -1,5 +1,6 @@
 #include "listing.h"
 
+#include <inttypes.h>
 #include <stdio.h>
 #include <stdlib.h>
 #include <string.h>
@@ -125,6 +126,19 @@ bool item_of_line(const lines *at, char *line, item *i)
         }
     return wrong(&l,
                  "unknown kind; the kinds are cmd, sta, dat, err, arn, are, usr, ovf, and end at the end");
+}
+
+item_line line_of_item(const item *i)
+{
+    item_line l;
+    char part[4] = "", time[24] = "";
+    if (*forms[i->kind].parts)
+        snprintf(part, sizeof part, "%c ", forms[i->kind].parts[i->part]);
+    if (i->timed)
+        snprintf(time, sizeof time, " %s %" PRIu64, forms[i->kind].time, i->time);
+    snprintf(l.text, sizeof l.text, "%s %u %s%0*" PRIX32 "%s", kind_code(i->kind), i->bus, part,
+             (int)forms[i->kind].digits, i->word, time);
+    return l;
 }
 
 decoded decode_command(uint32_t word)

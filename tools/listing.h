@@ -9,6 +9,13 @@
  * the line. */
 bool item_of_line(const lines *at, char *line, item *i);
 
+/* The item's line, as the lister writes it. */
+typedef struct {
+    char text[48];
+} item_line;
+
+item_line line_of_item(const item *i);
+
 /* "05-T-01-24": terminal, transmit or receive, subaddress and count of a command word; of a mode command,
  * whose subaddress is 0 or 31, the code and " mode". */
 typedef struct {

@@ -66,6 +66,13 @@ static void bad_limit(spot s, char *text)
              s.kind == STATUS ? "response" : "micro", s.fine);
 }
 
+void say_at_item(const char *log_name, const run *log, unsigned number, uint64_t bit, const char *why)
+{
+    complain("%s: refused by %u at bit %" PRIu64 " (byte %" PRIu64 ", bit %u, item %zu): %s",
+             input_name(log_name).text, number, bit, bit / 8, (unsigned)(bit % 8),
+             spot_at(log->bytes, log->length, bit).number, why);
+}
+
 static void say_log_refused(const char *name, const run *log, const vin_plan *plan, unsigned number,
                             uint64_t bit)
 {
@@ -84,8 +91,7 @@ static void say_log_refused(const char *name, const run *log, const vin_plan *pl
         bad_limit(s, text);
     else
         snprintf(text, TEXT, "%s", vin_text(number));
-    complain("%s: refused by %u at bit %" PRIu64 " (byte %" PRIu64 ", bit %u, item %zu): %s",
-             input_name(name).text, number, bit, bit / 8, (unsigned)(bit % 8), s.number, text);
+    say_at_item(name, log, number, bit, text);
 }
 
 void say_listing_refused(const char *log_name, const run *log, unsigned number, uint64_t place)

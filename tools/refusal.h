@@ -22,6 +22,9 @@ void say_reading_refused(const call *c, vin_answer a);
 /* Of a log that was listed, or worked on without a plan. */
 void say_listing_refused(const char *log_name, const run *log, unsigned number, uint64_t place);
 
+/* A refusal at a log's item that is whole, and why. */
+void say_at_item(const char *log_name, const run *log, unsigned number, uint64_t bit, const char *why);
+
 /* A refusal whose place says no more. */
 void say_plainly(const char *name, vin_answer a);
 

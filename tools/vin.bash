@@ -12,7 +12,7 @@ _vin_options() { # COMMAND
 
 _vin() {
     local word=${COMP_WORDS[COMP_CWORD]} before=${COMP_WORDS[COMP_CWORD - 1]} command=${COMP_WORDS[1]} n files=0
-    local commands="compose read check dump info list pack pick join plan explain"
+    local commands="compose read check dump info list pack pick join profile plan explain"
     COMPREPLY=()
     if [ "$COMP_CWORD" -eq 1 ]; then
         mapfile -t COMPREPLY < <(compgen -W "$commands help --help --version" -- "$word")
@@ -25,7 +25,7 @@ _vin() {
     esac
     case $command in
     help) mapfile -t COMPREPLY < <(compgen -W "$commands" -- "$word"); return ;;
-    explain) mapfile -t COMPREPLY < <(compgen -W "$(echo {0..14})" -- "$word"); return ;;
+    explain) mapfile -t COMPREPLY < <(compgen -W "$(echo {0..14} 18)" -- "$word"); return ;;
     esac
     if [[ $word == -* ]]; then
         mapfile -t COMPREPLY < <(compgen -W "$(_vin_options "$command") --help" -- "$word")

@@ -98,6 +98,10 @@ static void on_logs(void)
     CHECK(a.number == VIN_LOG && a.place == 0);
     a = vin_log_join(log, sizeof log, log, sizeof log, NULL, 0);
     CHECK(a.number == VIN_ROOM && a.place == sizeof twice);
+    a = vin_log_profile(log, sizeof log);
+    CHECK(a.number == VIN_DONE && a.place == 0 && a.bytes == 0);
+    a = vin_log_profile(NULL, 0);
+    CHECK(a.number == VIN_LOG && a.place == 0);
 }
 
 /* The limits of a frame's length, for each number of tracks: both are legal in all three functions, one less and one more in none. */

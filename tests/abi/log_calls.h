@@ -5,7 +5,7 @@
 
 #include "draw.h"
 
-#define EVERY_FUNCTION(one) one(pick) one(join)
+#define EVERY_FUNCTION(one) one(pick) one(join) one(profile)
 
 /* ==== A call ==== */
 

@@ -28,10 +28,16 @@ static void call_join(size_t length, size_t room)
     vin_join(log_bytes, length, log_bytes, length, back, room);
 }
 
+static void call_profile(size_t length, size_t room)
+{
+    (void)room;
+    vin_profile(log_bytes, length);
+}
+
 static const struct {
     const char *name;
     void (*call)(size_t length, size_t room);
-} over_logs[] = {{"pick", call_pick}, {"join", call_join}};
+} over_logs[] = {{"pick", call_pick}, {"join", call_join}, {"profile", call_profile}};
 enum { OVER_LOGS = sizeof over_logs / sizeof *over_logs };
 
 /* ==== A call in a painted stack ==== */

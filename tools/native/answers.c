@@ -10,6 +10,7 @@ void module_vin_read(vin_answer *answer, PLAN, RUN(const, capture), RUN(, log), 
 void module_vin_read_closed(vin_answer *answer, PLAN, RUN(const, capture), RUN(, log), RUN(, times));
 void module_vin_pick(vin_answer *answer, RUN(const, log), uint16_t buses, RUN(, out));
 void module_vin_join(vin_answer *answer, RUN(const, first), RUN(const, second), RUN(, out));
+void module_vin_profile(vin_answer *answer, RUN(const, log));
 
 #define GIVEN words, tracks, frame_time, crc, parity, kinds, kinds_len
 
@@ -45,5 +46,12 @@ vin_answer vin_join(RUN(const, first), RUN(const, second), RUN(, out))
 {
     vin_answer answer;
     module_vin_join(&answer, first, first_len, second, second_len, out, out_len);
+    return answer;
+}
+
+vin_answer vin_profile(RUN(const, log))
+{
+    vin_answer answer;
+    module_vin_profile(&answer, log, log_len);
     return answer;
 }

@@ -8,6 +8,7 @@ mod digest;
 mod fields;
 mod join;
 mod pick;
+mod profile;
 mod runs;
 
 use crate::answers::say_unknown;
@@ -15,12 +16,14 @@ use crate::fields::arrow;
 use crate::fields::line_end;
 use crate::join::join_line;
 use crate::pick::pick_line;
+use crate::profile::profile_line;
 
-// A call is told by its second letter: pick, join.
+// A call is told by its second letter: pick, join, profile.
 fn call_line(letter: u8, line: &[u8], asked: &[u8]) {
     match letter {
         b'i' => pick_line(line, asked),
         b'o' => join_line(line, asked),
+        b'r' => profile_line(line, asked),
         _ => say_unknown(),
     }
 }

@@ -3,3 +3,6 @@ pub mod Onward
 pub mod Checking
 pub mod Logs
 pub mod Pick
+pub mod Ahead
+pub mod Faults
+pub mod Profile

@@ -1,16 +1,20 @@
 -- What the user is promised of the calls on logs (document 02), as theorems over the definitions. The proofs stand in the modules under
 -- Laws that each names.
 use Prim.Native.Nat.{ℕ, _^_, _≤_, _<_}
-use mathlib.Core.Path.{_≡_}
+use mathlib.Core.Path.{_≡_, sym, _∙_}
 use mathlib.Core.List.{List, [], _∷_, _++_}
 use lib.ListN.{length}
 use Rattle.format.specs.Lists.{Bytes, list}
-use Rattle.format.specs.Log.{fault, logOf, onNoPlan, parsed}
+use Rattle.format.specs.Log.{fault, logOf, onNoPlan, parsed, items}
 use Rattle.format.specs.Compose.{made, refused}
 use Rattle.log_rules.specs.Pick.{inSet, keep, onBuses, picked, joined}
 use Rattle.log_rules.specs.Laws.Logs.{LogOf}
 use Rattle.log_rules.specs.Laws.Pick as Pick
 use Rattle.format.specs.declared.Item.{Item}
+use mathlib.Core.Logic.{_↔_}
+use Rattle.format.specs.declared.Answer.{Answer}
+use Rattle.log_rules.specs.Profile.{Judged, Rules, BreaksAt}
+use Rattle.log_rules.specs.Laws.Profile.Exactly as Profile
 
 -- ---- K7: pick and join
 
@@ -57,3 +61,23 @@ join-refused-second first second is room n p = Pick.join-refuses-second second r
 pub join-refused-long : (first second : List ℕ) (is js : List Item) (room : ℕ) → LogOf first is → LogOf second js → 32768 < length (logOf (is ++ js))
     → joined first second room ≡ refused 6 (length (logOf (is ++ js)))
 join-refused-long first second is js room = Pick.join-refuses-long room
+
+-- ---- K11: the one-bus test profile
+
+-- the contract has one answer
+pub judged-one : (log : List ℕ) (r r′ : Answer) → Judged log r → Judged log r′ → r ≡ r′
+judged-one log r r′ j j′ = j ∙ sym j′
+
+-- "The yes is given exactly then": number 0 where the log has no fault of its own and its items keep each of the rules (`Rules`)
+pub yes-exactly : (log : List ℕ) (r : Answer) → Judged log r → (r .number ≡ 0) ↔ ((is : List Item) × (parsed onNoPlan log ≡ items is) × Rules is)
+yes-exactly log r j = (λ e. Profile.yes-exactly log .0 (Profile.number-yes log r j .0 e), λ z. Profile.number-yes log r j .1 (Profile.yes-exactly log .1 z))
+
+-- "the empty log passes"
+pub empty-keeps : Rules []
+empty-keeps = Profile.empty-keeps
+
+-- "then 18 at the first bit of the earliest item that breaks a rule": those before it keep the rules, with it they do not (`BreaksAt`)
+pub breaks-exactly : (log : List ℕ) (r : Answer) (q : ℕ) → Judged log r
+    → ((r .number ≡ 18) × (r .place ≡ q)) ↔ ((is : List Item) × (parsed onNoPlan log ≡ items is) × BreaksAt is q)
+breaks-exactly log r q j =
+    (λ e. Profile.breaks-exactly log q .0 (Profile.number-18 log r q j .0 e), λ z. Profile.number-18 log r q j .1 (Profile.breaks-exactly log q .1 z))

@@ -1,1 +1,1 @@
-// The rules of what is done with logs alone: definitions and laws, no code.
+// The rules of what is done with logs alone: definitions, laws and promises, no code.

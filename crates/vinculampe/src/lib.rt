@@ -1,14 +1,17 @@
-// Vinculampe's entry points: composing and both readings, from Rattle and from C (document 01, "Programs").
+// Vinculampe's entry points, from Rattle and from C (document 01, "Programs"): composing and both readings, and what is done with
+// logs alone (document 02).
 
 ghost use mathlib.Core.Bool.{false, true};
 ghost use lib.ListN.{length};
 ghost use Rattle.format.specs.Answer.{Made};
 ghost use Rattle.compose_from_c.specs.Composing.{composedFrom};
 ghost use Rattle.log_rules.specs.Pick.{joined, picked};
+ghost use Rattle.log_rules.specs.Profile.{Judged};
 ghost use Rattle.read_from_c.specs.Reading.{GivenBytes, readingFrom};
 pub use compose::compose;
 use compose_from_c::compose_from;
 use format::Answer;
+pub use log_check::profile;
 pub use log_edit::join;
 pub use log_edit::pick;
 pub use read::read;
@@ -110,4 +113,11 @@ pub extern "C" fn vin_join(first: &[u8], second: &[u8], out: &mut [u8]) -> Answe
     ensures { λ r. ⌜ Made (joined (now (first .entry)) (now (second .entry)) (length (now (out .entry)))) r (now (out .entry)) (now (out .exit)) ⌝ }
 {
     join(first, second, out)
+}
+
+#[no_mangle]
+pub extern "C" fn vin_profile(log: &[u8]) -> Answer
+    ensures { λ r. ⌜ Judged (now (log .entry)) r ⌝ }
+{
+    profile(log)
 }

@@ -1,0 +1,3 @@
+-- The laws of the profile.
+pub mod Carried
+pub mod Judging
