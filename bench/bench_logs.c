@@ -55,13 +55,38 @@ static vin_answer call_profile(enum who who, uint8_t *to)
     return (who == FAST ? fast_profile : vin_profile)(t.log, t.log_len);
 }
 
+/* All items arrive, and a group of 60 words leaves after each 32: messages of data words fit into 128, tagged ARINC words do not. The three
+ * counts stand in the answer as one. */
+static uint8_t events[VIN_EVENTS_MAX];
+static size_t events_len;
+
+static void make_events(void)
+{
+    events_len = 0;
+    for (int n = 0; n < t.items; n++) {
+        events[events_len++] = VIN_ITEM_ARRIVES;
+        if (n % 32 == 31)
+            events[events_len++] = VIN_GROUP_LEAVES;
+    }
+}
+
+static vin_answer call_replay(enum who who, uint8_t *to)
+{
+    if (who == INDEPENDENT) {
+        ind_replayed a = ind_replay(t.log, t.log_len, events, events_len, 128, 60, to, VIN_LOG_MAX);
+        return (vin_answer){a.number, a.place, a.second, a.bytes, a.sent << 32 | a.lost << 16 | a.held};
+    }
+    vin_replayed a = (who == FAST ? fast_replay : vin_replay)(t.log, t.log_len, events, events_len, 128, 60, to, VIN_LOG_MAX);
+    return (vin_answer){a.number, a.place, a.second, a.bytes, a.sent << 32 | a.lost << 16 | a.held};
+}
+
 static const struct {
     const char *name;
     vin_answer (*call)(enum who who, uint8_t *to);
     size_t log_most; /* longer logs are left out */
     int logs;        /* that are lent */
     int judges;      /* logs that it refuses are left out, too */
-} functions[] = {{"pick", call_pick, VIN_LOG_MAX, 1, 0}, {"join", call_join, VIN_LOG_MAX / 2, 2, 0}, {"profile", call_profile, VIN_LOG_MAX, 1, 1}};
+} functions[] = {{"pick", call_pick, VIN_LOG_MAX, 1, 0}, {"join", call_join, VIN_LOG_MAX / 2, 2, 0}, {"profile", call_profile, VIN_LOG_MAX, 1, 1}, {"replay", call_replay, VIN_LOG_MAX, 1, 1}};
 enum { FUNCTIONS = sizeof functions / sizeof *functions };
 
 /* Whether the row is timed. */
@@ -79,7 +104,7 @@ static void agree(int f)
         vin_answer v;
         memset(out, 0xFF, sizeof out);
         v = functions[f].call(who, out);
-        if (asked.number == 0 && v.number == 0 && v.bytes == asked.bytes && memcmp(out, expected, v.bytes) == 0)
+        if (asked.number == 0 && v.number == 0 && v.bytes == asked.bytes && v.times == asked.times && memcmp(out, expected, v.bytes) == 0)
             continue;
         printf("%s: %s disagrees with the independent implementation on %s\n", t.name, who == FAST ? "bench/fast" : "the library",
                functions[f].name);
@@ -145,6 +170,7 @@ int main(int argc, char **argv)
     for (int n = 0; traffic_log(&t, n); n++) {
         if (strstr(t.name, rows) == NULL)
             continue;
+        make_events();
         printf("%-52s %7d", t.name, t.items);
         for (int f = 0; f < FUNCTIONS; f++) {
             if (!takes(f)) {

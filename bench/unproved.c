@@ -64,3 +64,14 @@ vin_answer vin_profile(const uint8_t *log, size_t log_len)
     inner_vin_profile(&answer, &l);
     return answer;
 }
+
+void inner_vin_replay(vin_replayed *answer, const run *log, const run *events, uint32_t capacity, uint32_t slots, const run *out);
+
+vin_replayed vin_replay(const uint8_t *log, size_t log_len, const uint8_t *events, size_t events_len, uint32_t capacity, uint32_t slots,
+                        uint8_t *out, size_t out_len)
+{
+    vin_replayed answer;
+    run l = {log, log_len}, e = {events, events_len}, o = {out, out_len};
+    inner_vin_replay(&answer, &l, &e, capacity, slots, &o);
+    return answer;
+}

@@ -4,9 +4,9 @@
  * Composing makes a capture (PCM frames) of a house log and frame times. Reading gives log and
  * times back: vin_compose, vin_read and vin_read_closed; and over them vin_plan_compose,
  * vin_plan_read and vin_plan_read_closed, which take the plan as a struct and null pointers for
- * runs of length 0. Logs alone, without a plan, are worked on by vin_pick, vin_join and vin_profile;
- * over them vin_log_pick, vin_log_join and vin_log_profile take null pointers for runs of length 0.
- * C99 or later, or C++. Link with libvinculampe.a (x86-64, System V calling convention; that of
+ * runs of length 0. Logs alone, without a plan, are worked on by vin_pick, vin_join, vin_profile and
+ * vin_replay; over them functions of the same names with vin_log_ in front, as vin_log_pick, take
+ * null pointers for runs of length 0. C99 or later, or C++. Link with libvinculampe.a (x86-64, System V calling convention; that of
  * `make NATIVE=yes` is for the machine it was made on).
  *
  * What every function promises
@@ -188,7 +188,12 @@ enum vin_number {
 
     /*     L  vin_profile only: an item breaks a rule of the one-bus test profile. Place: the first
      *        bit of the earliest item that does. */
-    VIN_PROFILE = 18
+    VIN_PROFILE = 18,
+
+    /*     L  vin_replay only: an overflow mark stands in the log: place is its first bit. Or a limit
+     *        is broken, an event is of neither kind, or more items arrive than the log has: place
+     *        0. */
+    VIN_REPLAY = 19
 };
 
 /* A few English words for an answer's number; never null. */
@@ -211,6 +216,7 @@ static inline const char *vin_text(uint32_t number_)
     case VIN_DATA_WORD: return "a data word starts or continues no item, or an item is cut";
     case VIN_FILL: return "misplaced fill";
     case VIN_PROFILE: return "an item breaks a rule of the one-bus test profile";
+    case VIN_REPLAY: return "a mark in the log, a limit broken, or events that are wrong";
     default: return "no such number";
     }
 }
@@ -282,6 +288,20 @@ static inline const char *vin_text(uint32_t number_)
 /* A set of buses for vin_pick is the sum of these. */
 #define VIN_BUS_BIT(bus) ((uint16_t)(1u << (bus)))
 #define VIN_ALL_BUSES ((uint16_t)0xFFFF)
+
+/* Replaying: the limits of a buffer, in words, of the slots of a group, and of the events. */
+#define VIN_BUFFER_LEAST 8
+#define VIN_BUFFER_MOST 4096
+#define VIN_SLOTS_MOST 2048
+#define VIN_EVENTS_MAX 65535
+
+/* Replaying a log of log_len bytes: bytes of room that always suffice. A lost item may give way to a
+ * mark, and a mark has more bits, 24, than a notice, 18; but an item is stored behind each mark, so
+ * that 36 bits become at most 42. For the exact number call with out_len 0: refused by VIN_ROOM at
+ * the bytes needed. */
+#define VIN_REPLAYED_BYTES(log_len) \
+    ((size_t)(log_len) + (size_t)(log_len) / 6 + 1 < VIN_LOG_MAX \
+         ? (size_t)(log_len) + (size_t)(log_len) / 6 + 1 : VIN_LOG_MAX)
 
 /* ==== The functions =========================================================================== */
 
@@ -380,6 +400,47 @@ vin_answer vin_join(const uint8_t *first, size_t first_len,
  * VIN_PROFILE, so that a fault at the log's end comes before a rule broken at its start. */
 vin_answer vin_profile(const uint8_t *log, size_t log_len);
 
+/* What happens to a front-end buffer, and what vin_replay answers. */
+enum vin_event { VIN_ITEM_ARRIVES = 0, VIN_GROUP_LEAVES = 1 };
+
+typedef struct {
+    uint32_t number; /* VIN_DONE, or the refusal's number: enum vin_number */
+    uint64_t place;  /* the refusal's place; 0 if done */
+    uint64_t second; /* always 0, as in vin_answer */
+    uint64_t bytes;  /* bytes of log written; this and the following are 0 if refused */
+    uint64_t sent;   /* words that left in groups */
+    uint64_t lost;   /* items lost */
+    uint64_t held;   /* words that are in the buffer at the end */
+} vin_replayed;
+
+/* Replays a front-end buffer, to see before a flight whether it is large enough. The log's items
+ * arrive one by one, and groups leave, as the events say. An item that arrives needs as much of the
+ * buffer as it has words (vin_compose makes so many of it), and one word more for a mark if items
+ * were lost since the last mark. If that fits in the free room, the mark, an overflow mark on the
+ * bus of the first item lost since then with the number lost, and behind it the item are stored;
+ * otherwise the item is lost whole. A group that leaves takes the oldest words, as many as there are
+ * up to its slots, and their room is free again. Items lost behind the last stored one have no mark.
+ *
+ *   log, log_len         the house log, without overflow marks
+ *   events, events_len   an event a byte, in order: VIN_ITEM_ARRIVES, the log's next item;
+ *                        VIN_GROUP_LEAVES. At most VIN_EVENTS_MAX; items may be left over
+ *   capacity             words of the buffer: VIN_BUFFER_LEAST to VIN_BUFFER_MOST
+ *   slots                data slots of a group: 1 to VIN_SLOTS_MOST; VIN_GROUP_SLOTS of a plan
+ *   out, out_len         room for the log of what was stored, marks and all; answer.bytes are
+ *                        written: VIN_REPLAYED_BYTES at most. It may be longer than the log
+ *
+ * Always: items that arrived are those stored, marks not counted, and those lost; the marks' numbers
+ * and the losses not yet marked are all losses; the words of the log that is written are those sent
+ * and those held; and no more is held than the capacity.
+ *
+ * Checks, in this order: VIN_LOG for the length; the items in order, also those that never arrive,
+ * each for VIN_LOG, VIN_LIMIT; VIN_REPLAY for the earliest mark, then for the rest, before anything
+ * is replayed; VIN_ROOM, also for a result above VIN_LOG_MAX, at its true length. */
+vin_replayed vin_replay(const uint8_t *log, size_t log_len,
+                        const uint8_t *events, size_t events_len,
+                        uint32_t capacity, uint32_t slots,
+                        uint8_t *out, size_t out_len);
+
 /* ==== The same with the plan in a struct, and null pointers of length 0 ==========================
  *
  * A null pointer with length 0 becomes a pointer to a byte that is never read nor written. A null
@@ -463,6 +524,15 @@ static inline vin_answer vin_log_join(const uint8_t *first_, size_t first_len_,
 static inline vin_answer vin_log_profile(const uint8_t *log_, size_t log_len_)
 {
     return vin_profile(vin_run_(log_), log_len_);
+}
+
+static inline vin_replayed vin_log_replay(const uint8_t *log_, size_t log_len_,
+                                          const uint8_t *events_, size_t events_len_,
+                                          uint32_t capacity_, uint32_t slots_,
+                                          uint8_t *out_, size_t out_len_)
+{
+    return vin_replay(vin_run_(log_), log_len_, vin_run_(events_), events_len_, capacity_, slots_,
+                      vin_room_(out_), out_len_);
 }
 
 #ifdef __cplusplus

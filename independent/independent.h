@@ -45,6 +45,17 @@ ind_answer ind_join(const uint8_t *first, size_t first_len, const uint8_t *secon
 /* Document 02, K11: what vin_profile must answer. */
 ind_answer ind_profile(const uint8_t *log, size_t log_len);
 
+/* Document 02, K13: what vin_replay must answer. An event is a byte: 0, the next item arrives; 1, a group leaves. */
+typedef struct {
+    uint32_t number;           /* 0, or the refusal's number */
+    uint64_t place, second;    /* the refusal's place; always 0 */
+    uint64_t bytes;            /* of log written */
+    uint64_t sent, lost, held; /* words sent, items lost, words held */
+} ind_replayed;
+
+ind_replayed ind_replay(const uint8_t *log, size_t log_len, const uint8_t *events, size_t events_len, uint32_t capacity, uint32_t slots,
+                        uint8_t *out, size_t out_len);
+
 /* The lister's text for what it reads from standard input. Returns the text's length and writes as much of it as `room`
  * holds, without a closing zero; IND_TEXT_MAX bytes hold every text. */
 size_t ind_list(const uint8_t *log, size_t log_len, char *text, size_t room);

@@ -63,7 +63,7 @@ void room_field(const char *line, int spaces, run *r)
 /* ==== What is said ==== */
 
 /* Below 4294967291, so that no sum wraps. */
-static uint64_t digest_of(const run *r)
+uint64_t digest_of(const run *r)
 {
     uint64_t digest = 0;
     for (size_t n = 0; n < r->length; n++)
@@ -99,7 +99,7 @@ void say_made(const char *name, ind_answer a, const run *out, const char *asked)
 static const struct {
     const char *name;
     void (*line)(const char *line, const char *asked);
-} calls[] = {{"pick ", pick_line}, {"join ", join_line}, {"profile ", profile_line}};
+} calls[] = {{"pick ", pick_line}, {"join ", join_line}, {"profile ", profile_line}, {"replay ", replay_line}};
 
 static void step(const char *line)
 {

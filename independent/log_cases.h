@@ -8,7 +8,7 @@
 
 #include "independent.h"
 
-#define RUN_ROOM 40000 /* more than a log can have */
+#define RUN_ROOM 70000 /* more than a log, or a row of events, can have */
 
 /* A run of bytes that a line names; of a room, what it holds. */
 typedef struct {
@@ -21,6 +21,9 @@ uint64_t number_field(const char *line, int spaces);
 void run_field(const char *line, int spaces, run *r);
 void room_field(const char *line, int spaces, run *r);
 
+/* A number for what a room holds, over its lent length. */
+uint64_t digest_of(const run *r);
+
 /* Writes an answer and the room's digest behind the call's name, and `differs` if `asked`, what stands from `->` on, asks for another
  * answer or other bytes. */
 void say_made(const char *name, ind_answer a, const run *out, const char *asked);
@@ -29,5 +32,6 @@ void say_made(const char *name, ind_answer a, const run *out, const char *asked)
 void pick_line(const char *line, const char *asked);
 void join_line(const char *line, const char *asked);
 void profile_line(const char *line, const char *asked);
+void replay_line(const char *line, const char *asked);
 
 #endif

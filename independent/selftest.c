@@ -306,6 +306,7 @@ int main(void)
     puts("selftest: P1 to P10 and the list of tempting and wrong: as document 01 says");
     selftest_pick_join();
     selftest_profile();
-    puts("selftest: K7, K11: as document 02 says");
+    selftest_replay();
+    puts("selftest: K7, K11, K13: as document 02 says");
     return 0;
 }

@@ -30,6 +30,12 @@ static const struct option long_options[] = {
     ROW("--bus", OPT_BUS, required_argument),
     ROW("--no-fill", OPT_NO_FILL, no_argument),
     ROW("--faults", OPT_FAULTS, no_argument),
+    ROW("--capacity", OPT_CAPACITY, required_argument),
+    ROW("--least", OPT_LEAST, no_argument),
+    ROW("--events", OPT_EVENTS, required_argument),
+    ROW("--every", OPT_EVERY, required_argument),
+    ROW("--slots", OPT_SLOTS, required_argument),
+    ROW("--plan", OPT_PLAN, required_argument),
     {"help", no_argument, NULL, 'h'},
     {NULL, 0, NULL, 0},
 };

@@ -21,6 +21,12 @@ enum option_id {
     OPT_BUS,
     OPT_NO_FILL,
     OPT_FAULTS,
+    OPT_CAPACITY,
+    OPT_LEAST,
+    OPT_EVENTS,
+    OPT_EVERY,
+    OPT_SLOTS,
+    OPT_PLAN,
     OPTIONS
 };
 

@@ -5,8 +5,8 @@
 #define BIT "the bit of the log where the item or end mark begins, counted from 0"
 #define WORD "the word's number in the capture, counted from 0; its bytes begin at three times that"
 
-/* By number, some of which no refusal has: who gives it, what its place counts, and what it means to a person. The short text is the
- * header's. */
+/* By number, some of which no refusal has: who gives it, what its place counts, and what it means to a
+ * person. The short text is the header's. */
 static const struct {
     const char *given_by, *place, *meaning;
 } numbers[] = {
@@ -17,7 +17,7 @@ static const struct {
          "limits, several tracks go with other than exactly one used bus, or parity goes with a used\n"
          "bus above 7."},
     [VIN_LOG] =
-        {"compose, list, info, pick, join, profile", BIT,
+        {"compose, list, info, pick, join, profile, replay", BIT,
          "The log is longer than 32768 bytes (place 0), ends inside an item or without its end mark,\n"
          "has a kind other than 0 to 8, or something follows its end mark. Most often the file was\n"
          "cut, or is no house log."},
@@ -25,14 +25,14 @@ static const struct {
         {"compose", BIT,
          "An item is on a bus that the plan does not use or has as another kind. Mend the plan's bus\n"
          "lines, or compose with the plan that the log was made for."},
-    [VIN_LIMIT] = {"compose, list, info, pick, join, profile", BIT,
+    [VIN_LIMIT] = {"compose, list, info, pick, join, profile, replay", BIT,
                    "The micro of a time tag, or a response time, is 10000 or more."},
     [VIN_TIMES] =
         {"compose", "the number of times needed; or the index of the time that is too large, counted from 0",
          "A plan with frame time needs one time for each group, a plan without it none; and a time is\n"
          "below 42949672960000 microseconds."},
     [VIN_ROOM] =
-        {"read, check, info, join", "the bytes that the log would have",
+        {"read, check, info, join, replay", "the bytes that the log would have",
          "The capture's log, or the joined log, would be longer than 32768 bytes. (To a caller in C\n"
          "also: the room lent for the output is too short. vin lends enough.)"},
     [VIN_TIME_ROOM] = {"callers in C only", "the number of times needed",
@@ -76,6 +76,12 @@ static const struct {
          "time tag, and the item just before it is no tagged command on the same side; it is a status\n"
          "without its response time; its time tag is earlier than the tag before it; or it is a user\n"
          "word. vin says which."},
+    [VIN_REPLAY] =
+        {"replay", "the bit of the log where its first overflow mark begins, counted from 0; or 0",
+         "A log that is replayed has no overflow marks. Or a limit is broken: a buffer has 8 to 4096\n"
+         "words, a group 1 to 2048 slots, and there are at most 65535 events; or an event is neither an\n"
+         "item that arrives nor a group that leaves; or more items arrive than the log has. vin says\n"
+         "which."},
 };
 enum { NUMBERS = sizeof numbers / sizeof *numbers };
 

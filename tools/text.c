@@ -17,8 +17,11 @@ static void pass_over_mark(run *text)
 
 bool read_text(const char *name, size_t most, const char *what, run *text)
 {
-    if (!read_file(name, most, text))
-        return false;
+    return read_file(name, most, text) && as_text(name, most, what, text);
+}
+
+bool as_text(const char *name, size_t most, const char *what, run *text)
+{
     if (text->length > most || memchr(text->bytes, 0, text->length)) {
         complain("%s: %s", input_name(name).text, what);
         free(text->bytes);

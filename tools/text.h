@@ -8,6 +8,9 @@
  * over. What is longer or has zeros in it is told as "NAME: WHAT", and then nothing is to be freed. */
 bool read_text(const char *name, size_t most, const char *what, run *text);
 
+/* The same of bytes that were read; they are freed if they are no text. */
+bool as_text(const char *name, size_t most, const char *what, run *text);
+
 /* Where the text stands, for messages. */
 typedef struct {
     shown_name file;

@@ -7,12 +7,18 @@ _vin_options() { # COMMAND
     dump) echo "--from --count --group --bus --stored --no-fill --faults -o" ;;
     list) echo "--json --csv --decode -o" ;;
     pack | info | pick | join) echo "-o" ;;
+    replay) echo "--capacity --least --events --every --slots --plan -o" ;;
     esac
+}
+
+_vin_plans() { # WORD: files that look like a plan, if any does
+    mapfile -t COMPREPLY < <(compgen -f -X '!*.plan' -- "$1"; compgen -d -S / -- "$1")
+    [ ${#COMPREPLY[@]} -gt 0 ] || mapfile -t COMPREPLY < <(compgen -f -- "$1")
 }
 
 _vin() {
     local word=${COMP_WORDS[COMP_CWORD]} before=${COMP_WORDS[COMP_CWORD - 1]} command=${COMP_WORDS[1]} n files=0
-    local commands="compose read check dump info list pack pick join profile plan explain"
+    local commands="compose read check dump info list pack pick join profile replay plan explain"
     COMPREPLY=()
     if [ "$COMP_CWORD" -eq 1 ]; then
         mapfile -t COMPREPLY < <(compgen -W "$commands help --help --version" -- "$word")
@@ -20,12 +26,13 @@ _vin() {
     fi
     case $before in
     --bus) mapfile -t COMPREPLY < <(compgen -W "$(echo {0..15})" -- "$word"); return ;;
-    --from | --count | --group) return ;;
-    -o | --times | --times-out) mapfile -t COMPREPLY < <(compgen -f -- "$word"); return ;;
+    --from | --count | --group | --capacity | --every | --slots) return ;;
+    --plan) _vin_plans "$word"; return ;;
+    -o | --times | --times-out | --events) mapfile -t COMPREPLY < <(compgen -f -- "$word"); return ;;
     esac
     case $command in
     help) mapfile -t COMPREPLY < <(compgen -W "$commands" -- "$word"); return ;;
-    explain) mapfile -t COMPREPLY < <(compgen -W "$(echo {0..14} 18)" -- "$word"); return ;;
+    explain) mapfile -t COMPREPLY < <(compgen -W "$(echo {0..14} 18 19)" -- "$word"); return ;;
     esac
     if [[ $word == -* ]]; then
         mapfile -t COMPREPLY < <(compgen -W "$(_vin_options "$command") --help" -- "$word")
@@ -33,19 +40,15 @@ _vin() {
     fi
     for ((n = 2; n < COMP_CWORD; n++)); do
         case ${COMP_WORDS[n]} in
-        -o | --times | --times-out | --from | --count | --group | --bus) n=$((n + 1)) ;;
+        -o | --times | --times-out | --from | --count | --group | --bus | --capacity | --events | --every | --slots | --plan) n=$((n + 1)) ;;
         -) files=$((files + 1)) ;;
         -*) ;;
         *) files=$((files + 1)) ;;
         esac
     done
-    mapfile -t COMPREPLY < <(compgen -f -- "$word")
-    case $command:$files in # the first file of these is a plan: those that look like one, if any does
-    compose:0 | read:0 | check:0 | dump:0 | plan:0)
-        local plans
-        mapfile -t plans < <(compgen -f -X '!*.plan' -- "$word"; compgen -d -S / -- "$word")
-        [ ${#plans[@]} -eq 0 ] || COMPREPLY=("${plans[@]}")
-        ;;
+    case $command:$files in # the first file of these is a plan
+    compose:0 | read:0 | check:0 | dump:0 | plan:0) _vin_plans "$word" ;;
+    *) mapfile -t COMPREPLY < <(compgen -f -- "$word") ;;
     esac
 }
 

@@ -11,10 +11,11 @@
 #include "help.h"
 #include "say.h"
 
-/* Makes up what is left out: of a filter the output is standard output, unless that is a terminal. */
+/* Makes up what is left out: of a filter the output is standard output, unless that is a terminal; a number
+ * is printed there, too. */
 static bool has_output(const command *c, arguments *a)
 {
-    if (c->output != FILTERS || a->values[OPT_OUT])
+    if (c->output != FILTERS || a->values[OPT_OUT] || a->values[OPT_LEAST])
         return true;
     if (!isatty(STDOUT_FILENO))
         return true;

@@ -104,6 +104,37 @@ static void on_logs(void)
     CHECK(a.number == VIN_LOG && a.place == 0);
 }
 
+/* Replaying: the limits, null pointers, and that the room suffices, also where every other item is lost and each mark is longer. */
+static void replaying(void)
+{
+    static const uint8_t log[] = {0x32, 0x5F, 0x77, 0x80}, events[] = {VIN_ITEM_ARRIVES, VIN_GROUP_LEAVES, VIN_GROUP_LEAVES};
+    static uint8_t made[VIN_LOG_MAX], groups[VIN_EVENTS_MAX + 1];
+    vin_replayed r = vin_log_replay(log, sizeof log, events, 1, VIN_BUFFER_LEAST, VIN_SLOTS_MOST, made, sizeof made);
+    CHECK(r.number == VIN_DONE && r.bytes == sizeof log && r.sent == 0 && r.lost == 0 && r.held == 1);
+    CHECK(memcmp(made, log, sizeof log) == 0);
+    r = vin_log_replay(log, sizeof log, events, sizeof events, VIN_BUFFER_MOST, 1, made, sizeof made);
+    CHECK(r.number == VIN_DONE && r.sent == 1 && r.held == 0);
+    r = vin_log_replay(log, sizeof log, NULL, 0, VIN_BUFFER_LEAST, 1, NULL, 0);
+    CHECK(r.number == VIN_ROOM && r.place == 1);
+    r = vin_log_replay(NULL, 0, NULL, 0, VIN_BUFFER_LEAST, 1, NULL, 0);
+    CHECK(r.number == VIN_LOG && r.place == 0);
+    r = vin_log_replay(log, sizeof log, events, 1, VIN_BUFFER_LEAST - 1, 1, made, sizeof made);
+    CHECK(r.number == VIN_REPLAY && r.place == 0);
+    r = vin_log_replay(log, sizeof log, events, 1, VIN_BUFFER_MOST + 1, 1, made, sizeof made);
+    CHECK(r.number == VIN_REPLAY);
+    r = vin_log_replay(log, sizeof log, events, 1, VIN_BUFFER_LEAST, VIN_SLOTS_MOST + 1, made, sizeof made);
+    CHECK(r.number == VIN_REPLAY);
+    memset(groups, VIN_GROUP_LEAVES, sizeof groups);
+    r = vin_log_replay(log, sizeof log, groups, VIN_EVENTS_MAX, VIN_BUFFER_LEAST, 1, made, sizeof made);
+    CHECK(r.number == VIN_DONE);
+    r = vin_log_replay(log, sizeof log, groups, VIN_EVENTS_MAX + 1, VIN_BUFFER_LEAST, 1, made, sizeof made);
+    CHECK(r.number == VIN_REPLAY);
+    for (size_t bytes = 1; bytes <= VIN_LOG_MAX; bytes++) {
+        size_t bits = 8 * bytes - 4, longer = (bits / 36 * 42 + bits % 36 + 4 + 7) / 8;
+        CHECK((longer < VIN_LOG_MAX ? longer : VIN_LOG_MAX) <= VIN_REPLAYED_BYTES(bytes));
+    }
+}
+
 /* The limits of a frame's length, for each number of tracks: both are legal in all three functions, one less and one more in none. */
 static void lengths(void)
 {
@@ -171,6 +202,7 @@ int main(void)
     sizes();
     example();
     on_logs();
+    replaying();
     lengths();
     most_groups();
     puts("header: its sizes, its limits and its example hold");

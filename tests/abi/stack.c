@@ -34,10 +34,20 @@ static void call_profile(size_t length, size_t room)
     vin_profile(log_bytes, length);
 }
 
+/* Two items arrive, a group of one word leaves: the buffer runs full. */
+static void call_replay(size_t length, size_t room)
+{
+    static uint8_t events[VIN_EVENTS_MAX];
+    size_t count = length < 4000 ? length / 10 : 400;
+    for (size_t n = 0; n < count; n++)
+        events[n] = n % 3 == 2 ? VIN_GROUP_LEAVES : VIN_ITEM_ARRIVES;
+    vin_replay(log_bytes, length, events, count, 8, 1, back, room);
+}
+
 static const struct {
     const char *name;
     void (*call)(size_t length, size_t room);
-} over_logs[] = {{"pick", call_pick}, {"join", call_join}, {"profile", call_profile}};
+} over_logs[] = {{"pick", call_pick}, {"join", call_join}, {"profile", call_profile}, {"replay", call_replay}};
 enum { OVER_LOGS = sizeof over_logs / sizeof *over_logs };
 
 /* ==== A call in a painted stack ==== */

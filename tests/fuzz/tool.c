@@ -2,7 +2,7 @@
  * makes. The library is asked too, and what the tool says of a word must be what the library answers.
  *
  * The input: a byte that says what is done with the rest: 0 a plan, 1 times, 2 a listing, 3 a log, 4 a capture, 5 data words dealt into
- * a capture, 6 as 5 with a byte changed. For 4 to 6 seven bytes make a plan, one says whether a group of fill is behind, or which byte is
+ * a capture, 6 as 5 with a byte changed, 7 events. For 4 to 6 seven bytes make a plan, one says whether a group of fill is behind, or which byte is
  * changed, and one how; where that one is a multiple of eight, the commands are run as well. */
 #define _GNU_SOURCE
 #include <stdio.h>
@@ -13,6 +13,7 @@
 
 #include "../../include/vinculampe.h"
 #include "../../tools/commands.h"
+#include "../../tools/events.h"
 #include "../../tools/hints.h"
 #include "../../tools/lister.h"
 #include "../../tools/listing.h"
@@ -139,6 +140,25 @@ static void try_listing(const uint8_t *rest, size_t size)
     close(m.file);
 }
 
+/* The line that a message has of an item is the listing's. */
+static void same_line(void *with, const item *i, size_t number, size_t bit)
+{
+    const char **line = with;
+    item_line l = line_of_item(i);
+    (void)number;
+    (void)bit;
+    must(strncmp(*line, l.text, strlen(l.text)) == 0 && (*line)[strlen(l.text)] == '\n');
+    *line += strlen(l.text) + 1;
+}
+
+static void same_lines(run *text)
+{
+    char *whole = strdup((const char *)text->bytes);
+    const char *line = whole;
+    must(whole != NULL && each_item(text, same_line, &line) && strncmp(line, "end ", 4) == 0);
+    free(whole);
+}
+
 static void try_log(const uint8_t *rest, size_t size)
 {
     static const command *const commands_of_logs[] = {&list_command, &info_command};
@@ -146,14 +166,43 @@ static void try_log(const uint8_t *rest, size_t size)
     memory m = file_of(rest, size);
     int status = list_log("log", &log, &text);
     if (status == DONE) {
+        same_lines(&text);
         free(text.bytes);
         packs_to_itself(&log);
     }
+    must((run_files(&profile_command, &m, NULL, &text) == DONE) == (vin_log_profile(log.bytes, log.length).number == VIN_DONE));
+    free(text.bytes);
     for (int n = 0; n < 2; n++) {
         must(run_files(commands_of_logs[n], &m, NULL, &text) == status);
         free(text.bytes);
     }
     close(m.file);
+}
+
+/* Events that are read are no more than the library may be given, and the command ends as the library answers. */
+static void try_events(const uint8_t *rest, size_t size)
+{
+    static const uint8_t log[] = {0x12, 0x42, 0x10, 0xC0, 0, 0, 0, 0x40, 0x05, 0x32, 0x5F, 0x77, 0x80};
+    static uint8_t stored[VIN_LOG_MAX];
+    events e;
+    memory m = file_of(rest, size), l = file_of(log, sizeof log), out = file_of(NULL, 0);
+    arguments a = {{l.name}, 1, {NULL}, {0}};
+    int status = MISUSE;
+    if (read_events(m.name, &e)) {
+        must(e.count > VIN_EVENTS_MAX ? e.row.length == VIN_EVENTS_MAX + 1 : e.row.length == e.count);
+        vin_replayed r = vin_log_replay(log, sizeof log, e.row.bytes, e.row.length, 8, 1, stored, sizeof stored);
+        status = r.number == VIN_DONE ? DONE : REFUSED;
+    }
+    drop_events(&e);
+    a.values[OPT_OUT] = out.name;
+    a.values[OPT_EVENTS] = m.name;
+    a.values[OPT_CAPACITY] = a.values[OPT_SLOTS] = "";
+    a.numbers[OPT_CAPACITY] = 8;
+    a.numbers[OPT_SLOTS] = 1;
+    must(replay_command.run(&a) == status);
+    close(m.file);
+    close(l.file);
+    close(out.file);
 }
 
 /* ==== Captures ==== */
@@ -248,12 +297,13 @@ int LLVMFuzzerTestOneInput(const uint8_t *data, size_t size)
 {
     if (size < 1)
         return 0;
-    int what = data[0] % 7;
+    int what = data[0] % 8;
     switch (what) {
     case 0: try_plan(data + 1, size - 1); break;
     case 1: try_times(data + 1, size - 1); break;
     case 2: try_listing(data + 1, size - 1); break;
     case 3: try_log(data + 1, size - 1); break;
+    case 7: try_events(data + 1, size - 1); break;
     default: try_capture(data + 1, size - 1, what);
     }
     return 0;

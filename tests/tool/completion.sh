@@ -27,6 +27,9 @@ same "completion: then the capture" want have
 completes explain "" | wc -l >have
 "${vin[@]}" explain | wc -l >want
 same "completion: the refusals" want have
+completes replay --plan four-t >have
+echo four-track.plan >want
+same "completion: the plan of replay" want have
 completes dump p c --bus 1 >have
 printf '%s\n' 1 10 11 12 13 14 15 >want
 same "completion: buses" want have

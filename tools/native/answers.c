@@ -11,6 +11,7 @@ void module_vin_read_closed(vin_answer *answer, PLAN, RUN(const, capture), RUN(,
 void module_vin_pick(vin_answer *answer, RUN(const, log), uint16_t buses, RUN(, out));
 void module_vin_join(vin_answer *answer, RUN(const, first), RUN(const, second), RUN(, out));
 void module_vin_profile(vin_answer *answer, RUN(const, log));
+void module_vin_replay(vin_replayed *answer, RUN(const, log), RUN(const, events), uint32_t capacity, uint32_t slots, RUN(, out));
 
 #define GIVEN words, tracks, frame_time, crc, parity, kinds, kinds_len
 
@@ -53,5 +54,12 @@ vin_answer vin_profile(RUN(const, log))
 {
     vin_answer answer;
     module_vin_profile(&answer, log, log_len);
+    return answer;
+}
+
+vin_replayed vin_replay(RUN(const, log), RUN(const, events), uint32_t capacity, uint32_t slots, RUN(, out))
+{
+    vin_replayed answer;
+    module_vin_replay(&answer, log, log_len, events, events_len, capacity, slots, out, out_len);
     return answer;
 }

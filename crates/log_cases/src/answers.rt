@@ -11,7 +11,7 @@ pub(crate) fn say_unknown() {
     io::write_all(1, b"unknown\n");
 }
 
-fn say_number(number: u64) {
+pub(crate) fn say_number(number: u64) {
     io::write_all(1, b" ");
     io::print_decimal(1, number);
 }
@@ -24,7 +24,7 @@ fn say_answer(a: Answer) {
     say_number(a.times);
 }
 
-fn say_unless(good: bool) {
+pub(crate) fn say_unless(good: bool) {
     if good {
         return;
     }
@@ -55,7 +55,7 @@ fn begins(out: &[u8], made: &[u8]) -> bool {
 }
 
 // Whether so many bytes were written, and these.
-fn is_made(bytes: u64, out: &[u8], asked: &[u8]) -> bool {
+pub(crate) fn is_made(bytes: u64, out: &[u8], asked: &[u8]) -> bool {
     let mut made = [0; 40000];
     let size = run(asked, 3, &mut made);
     let end = part(&made, size);

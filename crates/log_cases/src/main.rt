@@ -9,6 +9,7 @@ mod fields;
 mod join;
 mod pick;
 mod profile;
+mod replay;
 mod runs;
 
 use crate::answers::say_unknown;
@@ -17,13 +18,15 @@ use crate::fields::line_end;
 use crate::join::join_line;
 use crate::pick::pick_line;
 use crate::profile::profile_line;
+use crate::replay::replay_line;
 
-// A call is told by its second letter: pick, join, profile.
+// A call is told by its second letter: pick, join, profile, replay.
 fn call_line(letter: u8, line: &[u8], asked: &[u8]) {
     match letter {
         b'i' => pick_line(line, asked),
         b'o' => join_line(line, asked),
         b'r' => profile_line(line, asked),
+        b'e' => replay_line(line, asked),
         _ => say_unknown(),
     }
 }

@@ -1,7 +1,7 @@
 -- The items judged one by one, and the call.
 use Prim.Native.Nat.{ℕ, _+_, _*_, _≤_}
 use native.Mathlib.Omega.{arith}
-use mathlib.Core.Bool.{Bool, true, false, cond, not}
+use mathlib.Core.Bool.{Bool, true, false, cond}
 use mathlib.Core.Path.{_≡_, refl, ap, sym, _∙_}
 use mathlib.Core.List.{List, [], _∷_}
 use lib.ListN.{length}
@@ -9,7 +9,6 @@ use Rattle.format.specs.Bits.{bytesBits}
 use Rattle.format.specs.Item.{itemBits}
 use Rattle.format.specs.Log.{nextAt, ends, wrong, Parsed, parsed, items, fault, onNoPlan}
 use Rattle.format.specs.Group.{none, found}
-use Rattle.format.specs.Laws.Tests.{clash}
 use Rattle.format.specs.declared.Item.{Item}
 use Rattle.log_rules.specs.Items.{itemsOf}
 use Rattle.log_rules.specs.Profile.{inProfile, firstBreak, profileParsed, profiled}
@@ -21,14 +20,6 @@ use Rattle.log_read.proofs.Parsing.{Follows}
 use Rattle.log_check.specs.Role.{afterBy, nothingSeen, passesBy, roleOf}
 use Rattle.log_check.specs.declared.Seen.{Seen}
 use Rattle.log_check.proofs.Carried.{Tie, passes-tie, tie-next, tie-none}
-
-pub not-true : (b : Bool) → not b ≡ true → b ≡ false
-not-true true e = clash e
-not-true false e = refl
-
-pub not-false : (b : Bool) → not b ≡ false → b ≡ true
-not-false true e = refl
-not-false false e = clash (sym e)
 
 -- ---- the loop
 

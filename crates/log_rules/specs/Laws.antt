@@ -1,4 +1,5 @@
 -- What follows from the definitions.
+pub mod Tests
 pub mod Onward
 pub mod Checking
 pub mod Logs
@@ -6,3 +7,4 @@ pub mod Pick
 pub mod Ahead
 pub mod Faults
 pub mod Profile
+pub mod Replay

@@ -2,5 +2,6 @@
 pub mod Pick
 pub mod Items
 pub mod Profile
+pub mod Replay
 pub mod Laws
 pub mod Promises

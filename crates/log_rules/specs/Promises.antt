@@ -3,18 +3,21 @@
 use Prim.Native.Nat.{ℕ, _^_, _≤_, _<_}
 use mathlib.Core.Path.{_≡_, sym, _∙_}
 use mathlib.Core.List.{List, [], _∷_, _++_}
-use lib.ListN.{length}
+use lib.ListN.{length, take}
 use Rattle.format.specs.Lists.{Bytes, list}
 use Rattle.format.specs.Log.{fault, logOf, onNoPlan, parsed, items}
 use Rattle.format.specs.Compose.{made, refused}
 use Rattle.log_rules.specs.Pick.{inSet, keep, onBuses, picked, joined}
 use Rattle.log_rules.specs.Laws.Logs.{LogOf}
 use Rattle.log_rules.specs.Laws.Pick as Pick
-use Rattle.format.specs.declared.Item.{Item}
 use mathlib.Core.Logic.{_↔_}
 use Rattle.format.specs.declared.Answer.{Answer}
+use Rattle.format.specs.declared.Item.{Item}
 use Rattle.log_rules.specs.Profile.{Judged, Rules, BreaksAt}
+use Rattle.log_rules.specs.Replay.{Replay, ReplayOf, Replays, replayed}
 use Rattle.log_rules.specs.Laws.Profile.Exactly as Profile
+use Rattle.log_rules.specs.Laws.Replay.Accounts as Replaying
+use Rattle.log_rules.specs.declared.Replayed.{Replayed}
 
 -- ---- K7: pick and join
 
@@ -81,3 +84,22 @@ pub breaks-exactly : (log : List ℕ) (r : Answer) (q : ℕ) → Judged log r
     → ((r .number ≡ 18) × (r .place ≡ q)) ↔ ((is : List Item) × (parsed onNoPlan log ≡ items is) × BreaksAt is q)
 breaks-exactly log r q j =
     (λ e. Profile.breaks-exactly log q .0 (Profile.number-18 log r q j .0 e), λ z. Profile.number-18 log r q j .1 (Profile.breaks-exactly log q .1 z))
+
+-- ---- K13: replay the front-end buffer
+
+-- the contract has one answer, and one content of the lent output
+pub replays-one : (m : Replay) (r r′ : Replayed) (out x y : List ℕ) → Replays m r out x → Replays m r′ out y → (r ≡ r′) × (x ≡ y)
+replays-one m r r′ out x y a b = (a .0 ∙ sym (b .0), a .1 ∙ sym (b .1))
+
+-- a refusal writes nothing
+pub replay-refused : (log events : List ℕ) (capacity slots : ℕ) (r : Replayed) (out out′ : List ℕ)
+    → Replays (replayed log events capacity slots (length out)) r out out′ → (r .number ≡ 0 → ⊥) → out′ ≡ out
+replay-refused = Replaying.refused-writes-nothing
+
+-- "The result is a log of what was stored, marks included, and words sent, items lost, words held. Proved: items that arrived are those
+-- stored plus those lost; the marks' numbers plus the losses not yet marked are all losses; words stored are those sent and those held."
+-- (`ReplayOf`: all-items, all-losses, all-words; and room, that no more is held than the capacity)
+pub replay-accounts : (log events : List ℕ) (capacity slots : ℕ) (r : Replayed) (out out′ : List ℕ) → Bytes log
+    → Replays (replayed log events capacity slots (length out)) r out out′ → r .number ≡ 0
+    → ReplayOf log events capacity slots (take (r .bytes) out′) (r .sent) (r .lost) (r .held)
+replay-accounts = Replaying.number-accounts

@@ -7,6 +7,7 @@ ghost use Rattle.format.specs.Answer.{Made};
 ghost use Rattle.compose_from_c.specs.Composing.{composedFrom};
 ghost use Rattle.log_rules.specs.Pick.{joined, picked};
 ghost use Rattle.log_rules.specs.Profile.{Judged};
+ghost use Rattle.log_rules.specs.Replay.{Replays, replayed};
 ghost use Rattle.read_from_c.specs.Reading.{GivenBytes, readingFrom};
 pub use compose::compose;
 use compose_from_c::compose_from;
@@ -14,6 +15,8 @@ use format::Answer;
 pub use log_check::profile;
 pub use log_edit::join;
 pub use log_edit::pick;
+pub use log_replay::replay;
+use log_rules::Replayed;
 pub use read::read;
 pub use read::read_closed;
 use read_from_c::read_from;
@@ -120,4 +123,17 @@ pub extern "C" fn vin_profile(log: &[u8]) -> Answer
     ensures { λ r. ⌜ Judged (now (log .entry)) r ⌝ }
 {
     profile(log)
+}
+
+#[no_mangle]
+pub extern "C" fn vin_replay(
+    log: &[u8],
+    events: &[u8],
+    capacity: u32,
+    slots: u32,
+    out: &mut [u8],
+) -> Replayed
+    ensures { λ r. ⌜ Replays (replayed (now (log .entry)) (now (events .entry)) capacity slots (length (now (out .entry)))) r (now (out .entry)) (now (out .exit)) ⌝ }
+{
+    replay(log, events, capacity, slots, out)
 }

@@ -9,8 +9,9 @@ use Rattle.format.specs.Bits.{bytesBits}
 use Rattle.format.specs.Log.{Next, nextAt}
 use Rattle.format.specs.declared.Item.{Item}
 use Rattle.log_read.proofs.Parsing.{Follows, follows, found-end, found-wrong}
+use Rattle.log_rules.specs.Laws.Tests.{not-true, not-false}
 use Rattle.log_check.specs.Role.{passesBy, roleOf}
-use Rattle.log_check.proofs.Judging.{Judging, judging-start, judging-more, judging-breaks, judging-over, judging-never, not-true, not-false}
+use Rattle.log_check.proofs.Judging.{Judging, judging-start, judging-more, judging-breaks, judging-over, judging-never}
 use Rattle.log_check.proofs.judge.Statement.{statement}
 use Rattle.log_check.proofs.judge.Tie as tie
 

@@ -10,11 +10,19 @@ use borrow.Author.Tests.{ltb-false, eqb-false}
 use Rattle.format.specs.Bits.{bytesBits}
 use Rattle.format.specs.Item.{inTime}
 use Rattle.format.specs.Log.{Next, ends, has, wrong, nextAt, Parsed, items, fault, consed, onNoPlan, parseNext, parseFrom, parsed}
-use Rattle.format.specs.Group.{Fault, none, found}
+use Rattle.format.specs.Group.{Fault, none, found, orElse, unless}
 use Rattle.format.specs.declared.Item.{Item}
 
 pub not-none : {A : Type 0} {n q : ℕ} → found n q ≡ none → A
 not-none z = let y : _≡_ {A = ℕ} 0 1 = cc in absurd (omega arith)
+
+pub or-none : (f g : Fault) → orElse f g ≡ none → (f ≡ none) × (g ≡ none)
+or-none none g e = (refl, e)
+or-none (found n q) g e = not-none e
+
+pub unless-none : (b : Bool) (n q : ℕ) → unless b n q ≡ none → b ≡ true
+unless-none true n q e = refl
+unless-none false n q e = not-none e
 
 -- ---- without a plan only 2 and 4
 

@@ -1,0 +1,3 @@
+-- The laws of what refuses a replay.
+pub mod EventRow
+pub mod Marks

@@ -1,0 +1,3 @@
+-- The laws of the replay.
+pub mod Running
+pub mod Giving

@@ -1,0 +1,13 @@
+use mathlib.Core.Path.{refl}
+use borrow.Author.Needs.{needs}
+use Rattle.log_replay.proofs.start.Statement.{statement}
+use Rattle.log_replay.proofs.start.Tie as tie
+
+start-requires : tie.Need-start-requires
+start-requires c κs = search needs
+
+returns : tie.Need-returns
+returns c = rw (c .start .ensures) refl
+
+pub start-spec : {M : Type 1} → statement M
+start-spec = tie.close (tie.spec start-requires returns)

@@ -1,0 +1,3 @@
+-- Replay the front-end buffer (K13).
+pub mod Conserved
+pub mod Accounts

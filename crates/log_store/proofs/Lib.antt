@@ -1,0 +1,3 @@
+-- The laws of one event.
+pub mod Putting
+pub mod Turning
