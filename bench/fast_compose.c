@@ -63,6 +63,7 @@ __attribute__((constructor)) static void fill_tables(void)
 
 typedef struct {
     size_t bit, count;
+    notices notes;
     int end; /* the kind at `bit` is no item that may stand there: the end mark, or a fault */
 } parsed;
 
@@ -72,6 +73,7 @@ static inline parsed parse(const fast_plan *p, const uint8_t *log, parsed at, si
     const uint32_t either = p->used_1553 | p->used_arinc;
     const uint32_t allowed[16] = {0, p->used_1553, p->used_1553, p->used_1553, p->used_1553, p->used_arinc, p->used_arinc, either, either};
     size_t bit = at.bit, count = at.count;
+    notices notes = at.notes;
     while (bit < stop) {
         uint64_t v = load64(log + (bit >> 3)) << (bit & 7), t;
         uint32_t kind = (uint32_t)(v >> 60), bus = v >> 56 & 15;
@@ -80,7 +82,7 @@ static inline parsed parse(const fast_plan *p, const uint8_t *log, parsed at, si
         uint32_t first, micro;
         size_t tag;
         if (UNLIKELY(!(allowed[kind] >> bus & 1)))
-            return (parsed){bit, count, 1};
+            return (parsed){bit, count, notes, 1};
         bus <<= 20;
         if (kind == 3) { /* runs of data words: the next one's bit does not wait for this one's kind */
             w[0] = bus | (13 - (v >> 53 & 4)) << 16 | (v >> 39 & 0xFFFF);
@@ -93,7 +95,8 @@ static inline parsed parse(const fast_plan *p, const uint8_t *log, parsed at, si
             t = load64(log + ((bit + 43) >> 3)) << ((bit + 43) & 7);
             micro = t >> 18 & 0x3FFF;
             if (UNLIKELY(tagged & (micro >= 10000)))
-                return (parsed){bit, count, 1};
+                return (parsed){bit, count, notes, 1};
+            on_word(&notes, bus >> 20, v >> 54 & 3);
             w[0] = bus | label << 16 | (v >> 37 & 0xFFFF);
             w[1] = bus | (label - 1) << 16 | (v >> 21 & 0xFFFF);
             w[2] = bus | 7 << 16 | (uint32_t)(t >> 48);
@@ -109,7 +112,9 @@ static inline parsed parse(const fast_plan *p, const uint8_t *log, parsed at, si
         first = (uint32_t)(v >> s->shift_0) & s->mask_0;
         micro = t >> 18 & 0x3FFF;
         if (UNLIKELY((s->timed & (first >= 10000)) | (s->tagged & (micro >= 10000))))
-            return (parsed){bit, count, 1};
+            return (parsed){bit, count, notes, 1};
+        if (kind == 6)
+            on_notice(&notes, bus >> 20, v >> 54 & 3);
         w[0] = bus | s->base_0 | first;
         w[1] = bus | s->base_1 | ((uint32_t)(v >> s->shift_1) & 0xFFFF);
         w += s->words;
@@ -119,14 +124,14 @@ static inline parsed parse(const fast_plan *p, const uint8_t *log, parsed at, si
         bit += s->whole;
         count += s->all;
     }
-    return (parsed){bit, count, 0};
+    return (parsed){bit, count, notes, 0};
 }
 
-/* The whole log. The last bytes are read from a copy with room behind it. False if there is a fault. */
+/* The whole log. The last bytes are read from a copy with room behind it. False if there is a fault or an open notice. */
 static int parse_log(const fast_plan *p, const uint8_t *log, size_t log_len, uint32_t *words, size_t *count)
 {
     uint8_t tail[64] = {0};
-    parsed at = {0, 0, 0};
+    parsed at = {0, 0, {0, 0}, 0};
     size_t first, bits;
     if (log_len > 24)
         at = parse(p, log, at, 8 * (log_len - 24), words);
@@ -140,7 +145,7 @@ static int parse_log(const fast_plan *p, const uint8_t *log, size_t log_len, uin
     at.bit &= 7;
     at = parse(p, tail, at, bits, words);
     *count = at.count;
-    if (!at.end || at.bit + 4 > bits || bits - at.bit - 4 >= 8)
+    if (!at.end || at.bit + 4 > bits || bits - at.bit - 4 >= 8 || (at.notes.waiting | at.notes.open) != 0)
         return 0;
     return load64(tail + (at.bit >> 3)) << (at.bit & 7) >> 48 == 0; /* the end mark, the filling, and the zero bytes behind */
 }

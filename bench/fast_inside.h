@@ -24,6 +24,23 @@ typedef struct {
 #define SYNC_REMAINDER 0x2684u
 #define GROUP_SLOTS_MAX 2040 /* 4 x 510 */
 
+/* Notices that wait for their word (K2), a bit for each bus and channel, and whether one was shown open by a second. */
+typedef struct {
+    uint64_t waiting, open;
+} notices;
+
+static inline void on_notice(notices *n, uint32_t bus, uint32_t channel)
+{
+    uint64_t bit = UINT64_C(1) << (4 * bus + channel);
+    n->open |= n->waiting & bit;
+    n->waiting |= bit;
+}
+
+static inline void on_word(notices *n, uint32_t bus, uint32_t channel)
+{
+    n->waiting &= ~(UINT64_C(1) << (4 * bus + channel));
+}
+
 extern uint16_t crc_tables[6][256]; /* [n]: a byte with n bytes behind it */
 
 static inline vin_answer refused(uint32_t number, uint64_t place)

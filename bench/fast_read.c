@@ -53,9 +53,10 @@ static inline uint64_t tag(const uint32_t *w, uint32_t bus_7)
 }
 
 /* Takes the items that begin before `stop`. Returns how many words they had, or 0 - 1 if a word is wrong. */
-static inline size_t take_items(const uint8_t *kinds, const uint32_t *data, size_t stop, writer *to)
+static inline size_t take_items(const uint8_t *kinds, const uint32_t *data, size_t stop, writer *to, notices *seen)
 {
     writer w = *to;
+    notices notes = *seen;
     size_t n = 0;
     while (n < stop) {
         uint32_t word = data[n], bus = word >> 20, information = word & 0xFFFF;
@@ -69,6 +70,7 @@ static inline size_t take_items(const uint8_t *kinds, const uint32_t *data, size
                 if (pair != 0x98 + 0x22 * channel)
                     return (size_t)-1;
                 value |= channel << 8;
+                on_notice(&notes, bus, channel);
             }
             put(&w, value, s->bits);
             n += 1;
@@ -89,6 +91,7 @@ static inline size_t take_items(const uint8_t *kinds, const uint32_t *data, size
             if (UNLIKELY(low >> 16 != (word >> 16) - 1))
                 return (size_t)-1;
             value = (uint64_t)(5 << 4 | bus) << 35 | (uint64_t)(word >> 17 & 3) << 33 | (uint64_t)information << 16 | (low & 0xFFFF);
+            on_word(&notes, bus, word >> 17 & 3);
             n += 2;
             if (data[n] >> 16 == bus_7) {
                 uint64_t t = tag(data + n, bus_7);
@@ -113,6 +116,7 @@ static inline size_t take_items(const uint8_t *kinds, const uint32_t *data, size
         }
     }
     *to = w;
+    *seen = notes;
     return n;
 }
 
@@ -188,12 +192,13 @@ static int frame_time_of(const uint32_t *dealt, uint64_t *time)
     return 1;
 }
 
-/* Reads all groups; false if anything is wrong, the log too long included. */
+/* Reads all groups; false if anything is wrong, an open notice and the log too long included. */
 static inline __attribute__((always_inline)) int read_groups(const fast_plan *p, const uint8_t *capture, size_t groups, int closed,
                                                              writer *log, uint64_t *times, const int crc, const int parity)
 {
     uint32_t dealt[GROUP_SLOTS_MAX + 4], data[4 + GROUP_SLOTS_MAX + 8];
     size_t held = 0; /* words of the groups before */
+    notices notes = {0, 0};
     for (size_t group = 0; group < groups; group++) {
         int last = group + 1 == groups;
         size_t count, taken, stop;
@@ -209,13 +214,13 @@ static inline __attribute__((always_inline)) int read_groups(const fast_plan *p,
         stop = last ? count : count < 4 ? 0 : count - 4;
         if (last)
             data[count] = data[count + 1] = data[count + 2] = data[count + 3] = NO_WORD;
-        taken = take_items(p->kinds, data, stop, log);
+        taken = take_items(p->kinds, data, stop, log, &notes);
         if (taken == (size_t)-1 || log->bits > LOG_BITS_MAX - 4)
             return 0;
         held = count - taken;
         memmove(data, data + taken, held * sizeof *data);
     }
-    return 1;
+    return (notes.waiting | notes.open) == 0;
 }
 
 static vin_answer reading(int closed, uint32_t words, uint32_t tracks, uint32_t frame_time, uint32_t crc, uint32_t parity,

@@ -13,6 +13,41 @@ static uint64_t bits_at(const uint8_t *log, size_t bit, uint32_t width)
     return value;
 }
 
+/* K2: the first bit of the earliest open notice, of a log that has no other fault. An item that is no notice and no ARINC word has the
+ * channel 4. */
+typedef struct {
+    size_t bit, behind;
+    uint32_t kind, key;
+} stands;
+
+static stands item_at(const uint8_t *log, size_t bit)
+{
+    static const uint8_t shortest[16] = {4, 26, 26, 25, 25, 43, 18, 25, 24, 0};
+    uint32_t kind = (uint32_t)bits_at(log, bit, 4), flag;
+    stands s = {bit, bit, kind, 0};
+    if (kind == 0)
+        return s;
+    flag = kind <= 2 ? (uint32_t)bits_at(log, bit + 9, 1) : kind == 5 ? (uint32_t)bits_at(log, bit + 10, 1) : 0;
+    s.behind = bit + shortest[kind] + (!flag ? 0u : kind == 2 ? 14u : 46u);
+    s.key = kind == 5 || kind == 6 ? (uint32_t)bits_at(log, bit + 4, 6) : 64;
+    return s;
+}
+
+static vin_answer open_in_log(const uint8_t *log)
+{
+    for (stands s = item_at(log, 0); s.kind != 0; s = item_at(log, s.behind)) {
+        stands t = s;
+        if (s.kind != 6)
+            continue;
+        do
+            t = item_at(log, t.behind);
+        while (t.kind != 0 && t.key != s.key);
+        if (t.kind != 5)
+            return refused(15, s.bit);
+    }
+    abort(); /* the quick way refused what has no fault */
+}
+
 vin_answer refuse_log(const fast_plan *p, const uint8_t *log, size_t log_len)
 {
     static const uint8_t shortest[16] = {4, 26, 26, 25, 25, 43, 18, 25, 24, 0};
@@ -23,6 +58,8 @@ vin_answer refuse_log(const fast_plan *p, const uint8_t *log, size_t log_len)
         if (end - bit < 4)
             return refused(2, bit);
         kind = (uint32_t)bits_at(log, bit, 4);
+        if (kind == 0 && end - bit < 12 && bits_at(log, bit, (uint32_t)(end - bit)) == 0)
+            return open_in_log(log);
         if (kind == 0 || kind > 8 || end - bit < shortest[kind])
             return refused(2, bit);
         bus = (uint32_t)bits_at(log, bit + 4, 4);
@@ -154,6 +191,35 @@ static vin_answer misplaced_fill(const fast_plan *p, const uint8_t *capture, siz
     return refused(0, 0);
 }
 
+/* K2: bus, channel and whether it is a notice, of the data word n of a capture that reads as items; 0 if it begins neither. */
+static uint32_t begins(const fast_plan *p, const uint8_t *capture, size_t n, size_t *place)
+{
+    uint32_t w, label;
+    *place = place_of(p, n / p->slots, p->furniture + n % p->slots);
+    w = load24(capture + 3 * *place) & (p->parity ? 0x7FFFFF : 0xFFFFFF);
+    label = w >> 16 & 15;
+    if ((w & 0xFFFFF) == FILL || p->kinds[w >> 20] != 2)
+        return 0;
+    if (label == 4)
+        return 256 | 128 | w >> 20 << 2 | (w >> 13 & 3);
+    return label >= 9 && (label & 1) ? 256 | w >> 20 << 2 | (label >> 1 & 3) : 0;
+}
+
+static vin_answer open_in_capture(const fast_plan *p, const uint8_t *capture, size_t groups)
+{
+    for (size_t n = 0; n < groups * p->slots; n++) {
+        size_t place, other, m = n;
+        uint32_t notice = begins(p, capture, n, &place), then = 0;
+        if (!(notice & 128))
+            continue;
+        while (++m < groups * p->slots && ((then = begins(p, capture, m, &other)) | 128) != notice)
+            ;
+        if (m == groups * p->slots || then == notice)
+            return refused(15, place);
+    }
+    return refused(0, 0);
+}
+
 vin_answer refuse_capture(const fast_plan *p, const uint8_t *capture, size_t capture_len, int closed)
 {
     walker k = {FREE, 0, FREE, 0, 0};
@@ -168,6 +234,9 @@ vin_answer refuse_capture(const fast_plan *p, const uint8_t *capture, size_t cap
     }
     if (k.next != FREE)
         return refused(13, k.first);
+    a = open_in_capture(p, capture, groups);
+    if (a.number != 0)
+        return a;
     if (closed) {
         a = misplaced_fill(p, capture, groups);
         if (a.number != 0)

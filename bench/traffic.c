@@ -80,21 +80,29 @@ static void data(traffic *t, uint32_t kind, uint32_t bus, uint32_t b)
     words += 1;
 }
 
-static void arinc(traffic *t, uint32_t bus, uint32_t tagged)
+static void arinc_of(traffic *t, uint32_t bus, uint32_t channel, uint32_t tagged)
 {
     put_head(t, 5 << 4 | bus);
-    put(t, 3, 2 * draw(4) + tagged);
+    put(t, 3, 2 * channel + tagged);
     put(t, 32, (uint64_t)draw(65536) * 65521);
     words += 2;
     if (tagged)
         put_tag(t);
 }
 
-static void notice(traffic *t, uint32_t bus)
+static void arinc(traffic *t, uint32_t bus, uint32_t tagged)
 {
+    arinc_of(t, bus, draw(4), tagged);
+}
+
+/* A notice, and the word that it tells of. */
+static void notice(traffic *t, uint32_t bus, uint32_t tagged)
+{
+    uint32_t information = draw(1024);
     put_head(t, 6 << 4 | bus);
-    put(t, 10, draw(1024));
+    put(t, 10, information);
     words += 1;
+    arinc_of(t, bus, information >> 8, tagged);
 }
 
 static void overflow(traffic *t, uint32_t bus)
@@ -122,6 +130,16 @@ static void traffic_arinc(traffic *t)
     arinc(t, t->tracks == 1 ? 4 + draw(4) : 2, draw(2));
 }
 
+/* The same with a notice before every eighth word. */
+static void traffic_noticed(traffic *t)
+{
+    uint32_t bus = t->tracks == 1 ? 4 + draw(4) : 2, tagged = draw(2);
+    if (draw(8) == 0)
+        notice(t, bus, tagged);
+    else
+        arinc(t, bus, tagged);
+}
+
 /* Data words, one item each, of channels A and B in no order. */
 static void traffic_single(traffic *t)
 {
@@ -138,7 +156,7 @@ static void traffic_mixed(traffic *t)
     case 2: data(t, 3, bus, b); break;
     case 3: data(t, 4, bus, b); break;
     case 4: case 5: arinc(t, 4 + bus, flag); break;
-    case 6: notice(t, 4 + bus); break;
+    case 6: notice(t, 4 + bus, flag); break;
     case 7: data(t, 7, bus, b); break;
     default: overflow(t, 4 + bus); break;
     }
@@ -168,6 +186,7 @@ static const struct {
                 {"ARINC", traffic_arinc, 0, 0},
                 {"single words", traffic_single, 0, 0},
                 {"mixed", traffic_mixed, 1, 0},
+                {"notices", traffic_noticed, 0, 0},
                 {"one bus", traffic_one_bus, 0, 1}};
 
 static const struct {
@@ -190,7 +209,7 @@ static void make_log(traffic *t, int kind, size_t bytes)
     items = 0;
     memset(t->log, 0, sizeof t->log);
     if (bytes == 0) { /* one item, on a bus that every plan of this traffic uses */
-        if (kind == 1)
+        if (kind == 1 || kind == 4)
             arinc(t, t->tracks == 1 ? 4 : 2, 1);
         else
             data(t, 3, 2, 0);
@@ -209,7 +228,7 @@ static void make_kinds(traffic *t, int kind)
 {
     memset(t->kinds, 0, sizeof t->kinds);
     if (t->tracks > 1) {
-        t->kinds[2] = kind == 1 ? 2 : 1;
+        t->kinds[2] = kind == 1 || kind == 4 ? 2 : 1;
         return;
     }
     for (int bus = 0; bus < 8; bus++)

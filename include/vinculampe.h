@@ -186,6 +186,12 @@ enum vin_number {
      *        order. */
     VIN_FILL = 14,
 
+    /* C R    An error notice is open: no ARINC word of its bus and channel stands between it and their
+     *        next notice, or the end. Place: of the earliest open one the item's first bit; in reading
+     *        its word, the earliest in dealt order. Composing tests it after 2, 3 and 4 over the whole
+     *        log and before 5; reading after the cut item and before 14. */
+    VIN_NOTICE = 15,
+
     /*     L  vin_profile only: an item breaks a rule of the one-bus test profile. Place: the first
      *        bit of the earliest item that does. */
     VIN_PROFILE = 18,
@@ -215,6 +221,7 @@ static inline const char *vin_text(uint32_t number_)
     case VIN_FRAME_TIME: return "a frame time word is wrong";
     case VIN_DATA_WORD: return "a data word starts or continues no item, or an item is cut";
     case VIN_FILL: return "misplaced fill";
+    case VIN_NOTICE: return "an error notice has no ARINC word behind it";
     case VIN_PROFILE: return "an item breaks a rule of the one-bus test profile";
     case VIN_REPLAY: return "a mark in the log, a limit broken, or events that are wrong";
     default: return "no such number";

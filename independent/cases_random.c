@@ -104,6 +104,18 @@ static uint32_t tail_width(uint32_t kind, uint32_t flag)
     return kind == 1 || kind == 5 ? 46 : kind == 2 ? 14 : 0;
 }
 
+/* K2: an error notice wants its word. Mostly one stands right behind it. */
+static uint32_t draw_answer(uint32_t bit, uint32_t bus, uint32_t channel)
+{
+    uint64_t fields;
+    if (one_in(16))
+        return bit;
+    fields = 2 * channel;
+    fields = 65536 * fields + draw(65536);
+    fields = 65536 * fields + draw(65536);
+    return put(put(put(bit, 4, 5), 4, bus), 35, fields);
+}
+
 /* An item of the bus's kind; with faults, now and then of another. The flag says "tagged" or "timed"; it stands before a word of 16
  * bits, and before one of 32. A tag's last 14 bits are a response. */
 static uint32_t draw_item(uint32_t bit, uint32_t bus, uint32_t bus_kind, uint32_t faults)
@@ -128,7 +140,8 @@ static uint32_t draw_item(uint32_t bit, uint32_t bus, uint32_t bus_kind, uint32_
     tail = 16384 * tail + (faulty(faults, 100) ? draw(16384) : draw(10000));
     bit = put(put(bit, 4, kind), 4, bus);
     bit = put(bit, fields_width(kind), fields);
-    return put(bit, tail_width(kind, flag), tail);
+    bit = put(bit, tail_width(kind, flag), tail);
+    return kind == 6 ? draw_answer(bit, bus, (uint32_t)(fields >> 8 & 3)) : bit;
 }
 
 /* A byte less, a byte more, or a byte changed. */

@@ -1,4 +1,4 @@
-/* Document 01: composing. */
+/* Document 01: composing; document 02, K2: open notices. */
 #include "rules.h"
 
 /* The words of a log's items, in order. */
@@ -31,6 +31,30 @@ static ind_answer gather(const plan *p, const uint8_t *log, size_t log_len, word
             return refused(4, first_bit);
         list->count += item_words(&i, list->words + list->count);
     }
+}
+
+/* K2: "Call a notice open if no ARINC word of its bus and channel stands between it and their next notice, or the end." Of the
+ * items behind a notice, from a bit on, in a log that has no fault. */
+static bool notice_open(const uint8_t *log, size_t log_len, uint64_t bit, const item *notice)
+{
+    item i;
+    while (log_next(log, log_len, &bit, &i) == STANDS_ITEM)
+        if ((i.kind == ARINC_WORD || i.kind == NOTICE) && i.bus == notice->bus && i.channel == notice->channel)
+            return i.kind == NOTICE;
+    return true;
+}
+
+/* "15, at the earliest open notice (its first bit ..); composing tests it after 2 to 4 over the whole log and before 5" */
+static ind_answer check_notices(const uint8_t *log, size_t log_len)
+{
+    uint64_t bit = 0, first_bit = 0;
+    item i;
+    while (log_next(log, log_len, &bit, &i) == STANDS_ITEM) {
+        if (i.kind == NOTICE && notice_open(log, log_len, bit, &i))
+            return refused(15, first_bit);
+        first_bit = bit;
+    }
+    return passed();
 }
 
 /* The group's dealt word: its time words, then data, "and fill after the last". */
@@ -87,6 +111,8 @@ ind_answer ind_compose(uint32_t words, uint32_t tracks, uint32_t frame_time, uin
     if (!plan_of(&p, words, tracks, frame_time, crc, parity, kinds, kinds_len))
         return refused(1, 0);
     answer = gather(&p, log, log_len, &list);
+    if (answer.number == 0)
+        answer = check_notices(log, log_len);
     if (answer.number != 0)
         return answer;
 

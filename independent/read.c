@@ -1,4 +1,4 @@
-/* Document 01: the plain and the closed reading. */
+/* Document 01: the plain and the closed reading; document 02, K2: open notices. */
 #include <string.h>
 
 #include "rules.h"
@@ -90,6 +90,46 @@ static ind_answer read_groups(const capture *c, log_writer *log)
     return reader_end(&h, log) ? passed() : refused(13, h.first);
 }
 
+/* The notice, or the ARINC word, that the data word at a slot begins, the slots of all groups counted: its kind and channel; END if
+ * it begins neither. A notice's information begins with its channel's high label, an ARINC word with its high syllable. */
+static uint32_t begins(const capture *c, uint64_t slot, word *w, uint32_t *channel)
+{
+    uint32_t label;
+    *w = word_at(c, slot_place(c, slot / group_slots(c->p), slot % group_slots(c->p)));
+    if (is_fill(*w) || c->p->kinds[w->bus] != BUS_ARINC)
+        return END;
+    label = w->label == LABEL_NOTICE ? w->information >> 12 : w->label;
+    for (*channel = 0; *channel < 4; ++*channel)
+        if (label == high_label(*channel))
+            return w->label == LABEL_NOTICE ? NOTICE : ARINC_WORD;
+    return END;
+}
+
+/* K2: "Call a notice open if no ARINC word of its bus and channel stands between it and their next notice, or the end." Of the data
+ * words behind a notice's slot. */
+static bool notice_open(const capture *c, uint64_t slot, uint32_t bus, uint32_t channel)
+{
+    while (++slot < c->groups * group_slots(c->p)) {
+        word w;
+        uint32_t of, kind = begins(c, slot, &w, &of);
+        if (kind != END && w.bus == bus && of == channel)
+            return kind == NOTICE;
+    }
+    return true;
+}
+
+/* "15, at the earliest open notice (.. its word)", of a capture that reads as items: "after the cut item and before 14" */
+static ind_answer check_notices(const capture *c)
+{
+    for (uint64_t slot = 0; slot < c->groups * group_slots(c->p); slot++) {
+        word w;
+        uint32_t channel;
+        if (begins(c, slot, &w, &channel) == NOTICE && notice_open(c, slot, w.bus, channel))
+            return refused(15, slot_place(c, slot / group_slots(c->p), slot % group_slots(c->p)));
+    }
+    return passed();
+}
+
 /* "Fill is misplaced if a data word follows it, if neither its group nor a later one has a data word, or if its bus is not
  * 0." "14: earliest such word, dealt order" */
 static ind_answer check_fill(const capture *c)
@@ -129,6 +169,8 @@ static ind_answer reading(bool closed, uint32_t words, uint32_t tracks, uint32_t
 
     log_begin(&made);
     answer = read_groups(&c, &made);
+    if (answer.number == 0)
+        answer = check_notices(&c);
     if (answer.number == 0 && closed)
         answer = check_fill(&c);
     if (answer.number != 0)

@@ -114,9 +114,11 @@ static void p3(void)
 static void p5(void)
 {
     item notice = {.kind = NOTICE, .bus = 5, .channel = 2};
+    item both[2] = {notice, {.kind = ARINC_WORD, .bus = 5, .channel = 2}};
     plan_is(129, 1, 0, 0, 0);
     kinds[5] = BUS_ARINC;
-    CHECK(composed(log_of(&notice, 1), 0).number == 0);
+    CHECK(answers(composed(log_of(&notice, 1), 0), 15, 0, 0, 0)); /* K2: no word behind it */
+    CHECK(composed(log_of(both, 2), 0).number == 0);
     CHECK(stored(capture, 1) == 0x54DC00);
 }
 

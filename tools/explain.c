@@ -69,6 +69,12 @@ static const struct {
          "Fill stands where composing puts none: before a data word, in a group after the last data\n"
          "word's group, or on another bus than 0; vin says which. The plain reading, vin read, passes\n"
          "over such fill."},
+    [VIN_NOTICE] =
+        {"compose, read, check, info",
+         "in a log the bit where the notice begins, in a capture its word, both counted from 0",
+         "An error notice tells of the next ARINC word of its bus and channel. This one is open: the\n"
+         "channel's next notice, or the end, comes before such a word. It is the earliest such notice;\n"
+         "in a capture of several tracks the earliest in dealt order. vin list shows such a log."},
     [VIN_PROFILE] =
         {"profile", BIT,
          "This item breaks a rule of the one-bus test profile, and no item before it does: it is on\n"

@@ -1,4 +1,4 @@
-/* Refusals of logs and of frame times: 2 to 5. */
+/* Refusals of logs and of frame times: 2 to 5, and 15. */
 #include "refusal.h"
 
 #include <inttypes.h>
@@ -21,7 +21,7 @@ void say_plainly(const char *name, vin_answer a)
              vin_text(a.number));
 }
 
-/* ==== In a log: 2 to 4 ==== */
+/* ==== In a log: 2 to 4, and 15 ==== */
 
 enum { TEXT = 200 };
 
@@ -66,6 +66,12 @@ static void bad_limit(spot s, char *text)
              s.kind == STATUS ? "response" : "micro", s.fine);
 }
 
+static void bad_notice(spot s, char *text)
+{
+    snprintf(text, TEXT, "%s on bus %u without its ARINC word: the channel's next notice, or the end, comes first",
+             kind_text(s.kind), s.bus);
+}
+
 void say_at_item(const char *log_name, const run *log, unsigned number, uint64_t bit, const char *why)
 {
     complain("%s: refused by %u at bit %" PRIu64 " (byte %" PRIu64 ", bit %u, item %zu): %s",
@@ -89,6 +95,8 @@ static void say_log_refused(const char *name, const run *log, const vin_plan *pl
         bad_bus(plan, s, text);
     else if (number == VIN_LIMIT)
         bad_limit(s, text);
+    else if (number == VIN_NOTICE)
+        bad_notice(s, text);
     else
         snprintf(text, TEXT, "%s", vin_text(number));
     say_at_item(name, log, number, bit, text);
@@ -142,6 +150,7 @@ void say_composing_refused(const call *c, vin_answer a)
     case VIN_PLAN: say_illegal(&c->plan); break;
     case VIN_LOG:
     case VIN_BUS:
+    case VIN_NOTICE:
     case VIN_LIMIT: say_log_refused(c->log_name, &c->log, &c->plan.plan, a.number, a.place); break;
     case VIN_TIMES: say_times_refused(c, a.place); break;
     default: say_plainly(c->log_name, a);

@@ -1,4 +1,4 @@
-/* Refusals of captures: 6 and 8 to 14. */
+/* Refusals of captures: 6 and 8 to 15. */
 #include "refusal.h"
 
 #include <inttypes.h>
@@ -84,6 +84,12 @@ static void bad_word(const call *c, const stored *s, unsigned number, char *why)
     case VIN_FRAME_TIME: bad_frame_time(s, why); break;
     case VIN_DATA_WORD: bad_data_word(plan, &c->capture, s->place, why); break;
     case VIN_FILL: bad_fill(plan, &c->capture, s, why); break;
+    case VIN_NOTICE:
+        snprintf(why, WHY_MOST,
+                 "error notice on bus %" PRIu32
+                 " without its ARINC word: the channel's next notice, or the end, comes first",
+                 s->bus);
+        break;
     default: snprintf(why, WHY_MOST, "%s", vin_text(number));
     }
 }

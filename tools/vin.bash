@@ -32,7 +32,7 @@ _vin() {
     esac
     case $command in
     help) mapfile -t COMPREPLY < <(compgen -W "$commands" -- "$word"); return ;;
-    explain) mapfile -t COMPREPLY < <(compgen -W "$(echo {0..14} 18 19)" -- "$word"); return ;;
+    explain) mapfile -t COMPREPLY < <(compgen -W "$(echo {0..15} 18 19)" -- "$word"); return ;;
     esac
     if [[ $word == -* ]]; then
         mapfile -t COMPREPLY < <(compgen -W "$(_vin_options "$command") --help" -- "$word")

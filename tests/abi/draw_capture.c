@@ -126,12 +126,26 @@ typedef struct {
     uint32_t count, taken;
 } loose;
 
-static void loose_item(loose *l, const plan *p, uint32_t fills, uint32_t faults)
+/* Its words, with fill and faults between. */
+static void loose_words(loose *l, const plan *p, const item *i, uint32_t fills, uint32_t faults)
+{
+    word words[ITEM_WORDS_MAX];
+    uint32_t n = item_words(i, words);
+    for (uint32_t k = 0; k < n; k++) {
+        if (fills > 0 && one_in(fills))
+            l->queue[l->count++] = draw_fill(p);
+        if (faults > 0 && one_in(faults))
+            l->queue[l->count++] = draw_word(p);
+        l->queue[l->count++] = sent(p, words[k]);
+    }
+}
+
+/* With `answered` a notice has its word right behind it (K2). */
+static void loose_item(loose *l, const plan *p, uint32_t fills, uint32_t faults, bool answered)
 {
     static const uint32_t kinds[2][8] = {{COMMAND, COMMAND, STATUS, STATUS, DATA, BUS_ERROR, USER, OVERFLOW_MARK},
                                          {ARINC_WORD, ARINC_WORD, ARINC_WORD, ARINC_WORD, NOTICE, NOTICE, USER, OVERFLOW_MARK}};
-    word words[ITEM_WORDS_MAX];
-    uint32_t bus = draw_bus(p), flag = draw(2), n;
+    uint32_t bus = draw_bus(p), flag = draw(2);
     uint32_t kind = kinds[p->kinds[bus] == BUS_ARINC][draw(8)];
     item i = {.kind = kind, .bus = bus, .label3 = flag};
     i.b = draw(2);
@@ -148,13 +162,11 @@ static void loose_item(loose *l, const plan *p, uint32_t fills, uint32_t faults)
     if (faults > 0 && one_in(faults))
         i.time.micro = i.response = 10000;
     l->count = l->taken = 0;
-    n = item_words(&i, words);
-    for (uint32_t k = 0; k < n; k++) {
-        if (fills > 0 && one_in(fills))
-            l->queue[l->count++] = draw_fill(p);
-        if (faults > 0 && one_in(faults))
-            l->queue[l->count++] = draw_word(p);
-        l->queue[l->count++] = sent(p, words[k]);
+    loose_words(l, p, &i, fills, faults);
+    if (kind == NOTICE && answered) {
+        i.kind = ARINC_WORD;
+        i.word = draw(65536) << 16;
+        loose_words(l, p, &i, fills, faults);
     }
 }
 
@@ -174,6 +186,7 @@ void draw_loose_capture(drawn *d)
     plan p = rules_plan(d);
     loose l = {{0}, 0, 0};
     uint32_t groups = draw_groups(&p), fills = rare[draw(5)], faults = faulty[draw(6)];
+    bool answered = one_in(2);
     uint64_t data = one_in(2) ? UINT64_MAX : draw((uint32_t)(groups * group_slots(&p)) + 2); /* slots before the last fill */
     d->capture_len = 0;
     for (uint32_t group = 0; group < groups; group++) {
@@ -183,7 +196,7 @@ void draw_loose_capture(drawn *d)
             break;
         for (uint64_t slot = 0; slot < group_slots(&p) && data > 0; slot++, data--) {
             if (l.taken == l.count)
-                loose_item(&l, &p, fills, faults);
+                loose_item(&l, &p, fills, faults, answered);
             store(d->capture + at, dealt_place(&p, 0, furniture(&p) + slot), l.queue[l.taken++]);
         }
     }

@@ -149,8 +149,19 @@ static void put_tag(drawn *d, size_t *bit, bool faults)
     put(d, bit, 14, draw_limited(faults));
 }
 
-/* Puts an item; returns how many words it makes. */
-static uint32_t put_item(drawn *d, size_t *bit, uint32_t bus, uint32_t bus_kind, bool faults)
+/* K2: an ARINC word of that bus and channel, behind its notice. */
+static uint32_t put_answer(drawn *d, size_t *bit, uint32_t bus, uint32_t channel)
+{
+    put(d, bit, 4, 5);
+    put(d, bit, 4, bus);
+    put(d, bit, 3, 2 * channel);
+    put(d, bit, 16, draw_16());
+    put(d, bit, 16, draw_16());
+    return 2;
+}
+
+/* Puts an item; returns how many words it makes. With `answered` a notice has its word right behind it, else most have. */
+static uint32_t put_item(drawn *d, size_t *bit, uint32_t bus, uint32_t bus_kind, bool faults, bool answered)
 {
     static const uint8_t kinds[2][8] = {{1, 1, 2, 2, 3, 4, 7, 8}, {5, 5, 5, 5, 6, 6, 7, 8}};
     uint32_t kind = kinds[bus_kind == 2][draw(8)], flag = draw(2);
@@ -182,9 +193,13 @@ static uint32_t put_item(drawn *d, size_t *bit, uint32_t bus, uint32_t bus_kind,
         if (flag)
             put_tag(d, bit, faults);
         return flag ? 5 : 2;
-    case 6:
-        put(d, bit, 10, draw(1024));
+    case 6: {
+        uint32_t information = draw(1024);
+        put(d, bit, 10, information);
+        if (answered || !one_in(4))
+            return 1 + put_answer(d, bit, bus, information >> 8);
         return 1;
+    }
     case 3: case 4: case 7:
         put(d, bit, 1, draw(2));
         put(d, bit, 16, draw_16());
@@ -249,7 +264,7 @@ static void draw_times(drawn *d, bool faults)
 
 void draw_log(drawn *d)
 {
-    bool faults = one_in(3);
+    bool faults = one_in(3), answered = !one_in(3);
     uint64_t wanted = draw_size(d), count = 0;
     size_t bit = 0, most = 8 * 32768 - (one_in(4) ? 100 : 4);
     uint32_t used[16], buses = 0, tries = 0;
@@ -259,7 +274,7 @@ void draw_log(drawn *d)
     while (count < wanted && buses > 0) {
         uint32_t bus = used[draw(buses)];
         size_t before = bit;
-        uint32_t words = put_item(d, &bit, bus, d->plan.kinds[bus], faults && wanted < 20000);
+        uint32_t words = put_item(d, &bit, bus, d->plan.kinds[bus], faults && wanted < 20000, answered);
         count += words;
         if (bit > most) { /* up to the limit, with smaller items if such are drawn, and now and then above it */
             if (one_in(20))

@@ -130,17 +130,17 @@ patched composite.capture 132 "052710"
 refused "vin: bad: refused by 12 at word 132 (group 1, track 1, word 4): 052710: the frame time's micro is 10000; it must be below 10000" \
     read composite.plan bad -o new
 
-# 13 and 14: words.sh; 18: profile.sh; 19: replay.sh
+# 13, 14 and 15: words.sh; 18: profile.sh; 19: replay.sh
 
 # What a number means: each has its page, and no other number has.
-for n in {0..14} 18 19; do
+for n in {0..15} 18 19; do
     "${vin[@]}" explain $n >out.txt
     result "explain $n" $?
     head -n 1 out.txt >have
     "${vin[@]}" explain | sed -n "s/^ *$n  /$n: /p" >want
     same "explain $n" want have
 done
-for n in 15 -- x 99999999999999999999 1x; do
+for n in 16 -- x 99999999999999999999 1x; do
     [ "$n" = -- ] || misuse "vin: no refusal has the number $n; vin explain lists them" explain "$n"
 done
 rm -f p l t bad long out.txt err.txt have want new

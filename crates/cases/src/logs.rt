@@ -98,6 +98,19 @@ fn draw_tail(seed: &mut u64, faults: bool) -> u64 {
     high as u64 * 1073741824 + low as u64 * 16384 + limited as u64
 }
 
+// An error notice wants its word (K2): mostly one stands right behind it.
+fn draw_answer(seed: &mut u64, log: &mut [u8], bit: usize, bus: u32, channel: u64) -> usize {
+    if draw(seed, 16) == 0 {
+        return bit;
+    }
+    let high = draw(seed, 65536);
+    let low = draw(seed, 65536);
+    let kind_end = put(log, bit, 4, 5);
+    let bus_end = put(log, kind_end, 4, bus as u64);
+    let word = high as u64 * 65536 + low as u64;
+    put(log, bus_end, 35, channel % 4 * 8589934592 + word)
+}
+
 fn draw_item(
     seed: &mut u64,
     log: &mut [u8],
@@ -111,13 +124,18 @@ fn draw_item(
     let flag = draw(seed, 2);
     let kind_end = put(log, bit, 4, kind as u64);
     let bus_end = put(log, kind_end, 4, named as u64);
-    let fields_end = put(log, bus_end, fields_width(kind), draw_fields(seed, flag));
-    put(
+    let fields = draw_fields(seed, flag);
+    let fields_end = put(log, bus_end, fields_width(kind), fields);
+    let tail_end = put(
         log,
         fields_end,
         tail_width(kind, flag),
         draw_tail(seed, faults),
-    )
+    );
+    if kind == 6 {
+        return draw_answer(seed, log, tail_end, named, fields / 256);
+    }
+    tail_end
 }
 
 // On a used bus; nothing if there is none.

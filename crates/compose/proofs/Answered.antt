@@ -1,16 +1,18 @@
 -- What composing answers, case by case: first of the words, then of the log.
-use Prim.Native.Nat.{ℕ, _*_, _^_, _<_, _≤_}
+use Prim.Native.Nat.{ℕ, _*_, _^_, _-_, _<_, _≤_}
 use native.Mathlib.Omega.{arith}
 use mathlib.Core.Bool.{Bool, true, false, cond}
 use mathlib.Core.Path.{_≡_, refl, ap, sym, _∙_}
 use mathlib.Core.List.{List, flatMap}
 use lib.ListN.{length, take, drop, length-take}
-use lib.Seq.{take-at}
-use borrow.Author.Tests.{eq-eqb, ne-eqb, le-leb, lt-leb, lt-ltb}
-use Rattle.format.specs.Compose.{made, refused, captureOf, composeParsed, composeWords, composed, firstLate, groupsFor}
+use lib.Seq.{take-at, getD-take}
+use lib.Dec.{eqb}
+use borrow.Author.Tests.{eq-eqb, ne-eqb, le-leb, lt-leb, lt-ltb, eqb-true, eqb-false}
+use Rattle.format.specs.Compose.{made, refused, captureOf, composeParsed, composeWords, unlessOpen, composed, firstLate, groupsFor}
 use Rattle.format.specs.Item.{itemParts, itemWords}
-use Rattle.format.specs.Lawful.{buses}
-use Rattle.format.specs.Lists.{Bytes}
+use Rattle.format.specs.Lawful.{buses, Sound}
+use Rattle.format.specs.Lists.{All, Bytes}
+use Rattle.format.specs.Group.{Fault as Found}
 use Rattle.format.specs.Log.{Parsed, items, fault, onPlan, parsed}
 use Rattle.format.specs.Plan.{groupWords, legal}
 use Rattle.format.specs.Word.{Part, wordFor, wordOf}
@@ -19,6 +21,13 @@ use Rattle.format.specs.declared.Kind.{Kind}
 use Rattle.format.specs.declared.Plan.{Plan}
 use Rattle.format.specs.Laws.Limits.{Shape}
 use Rattle.group_write.specs.Writing.{Unsent}
+use Rattle.format.specs.Laws.Notices.{answered-composed}
+use Rattle.notices.specs.Roles.{Words}
+use Rattle.notices.specs.Laws.Rows.{all-words, open-most}
+use Rattle.notices.specs.Laws.Log.{none-open}
+use Rattle.log_bits.specs.Bits.{bitsIn}
+use Rattle.log_bits.specs.Laws.{open-at}
+use Rattle.compose.specs.Laid.{openWord, composeLaid}
 use Rattle.log_read.specs.Tally.{talliedOf}
 use Rattle.log_read.specs.declared.Tally.the-variants.{Items, Fault}
 use Rattle.log_words.specs.Row.{onto}
@@ -68,9 +77,23 @@ module _ (p : Plan) (ks : List Kind) (log times : List ℕ) (room : ℕ) where
       go (items is) t = let z : _≡_ {A = ℕ} 0 1 = cc in absurd (omega arith)
       go (fault k j) t = cc
 
-  log-whole : legal p ks ≡ true → (is : List Item) → parsed (onPlan ks) log ≡ items is → composed p ks log times room ≡ composeWords p times room (flatMap itemWords is)
+  log-whole : legal p ks ≡ true → (is : List Item) → parsed (onPlan ks) log ≡ items is → All (Sound ks (p .parity)) is
+      → composed p ks log times room ≡ composeLaid p ks times room (flatMap itemWords is)
   unfolding composed
-  log-whole e is g = rw (e, g)
+  log-whole e is g sound = rw (e, g) (laid-whole is (all-map (λ i s. unsent-sound (p .parity) i s) sound))
+    where
+      unsent-sound : (parity : Bool) (i : Item) → Sound ks parity i → Sound ks false i
+      unsent-sound true i s = record { lawful = s .lawful; bus = omega (arith, s .bus) }
+      unsent-sound false i s = s
+
+      laid-whole : (is : List Item) → All (Sound ks false) is → composeParsed p times room (items is) ≡ composeLaid p ks times room (flatMap itemWords is)
+      laid-whole is sound = go (eqb (openWord ks (flatMap itemWords is)) 0) refl
+        where
+          go : (b : Bool) → eqb (openWord ks (flatMap itemWords is)) 0 ≡ b
+              → composeParsed p times room (items is)
+              ≡ cond b (composeWords p times room (flatMap itemWords is)) (refused 15 (bitsIn ks (take (openWord ks (flatMap itemWords is) - 1) (flatMap itemWords is))))
+          go true z = answered-composed p times room is (none-open ks is sound (eqb-true (openWord ks (flatMap itemWords is)) 0 z))
+          go false z = ap (λ (f : Found). unlessOpen f (composeWords p times room (flatMap itemWords is))) (open-at ks is sound (eqb-false (openWord ks (flatMap itemWords is)) 0 z))
 
 -- a log of this many words, each on a bus that a word can name
 pub record Counted (p : Plan) (ks : List Kind) (log : List ℕ) (words : ℕ) : Type 0 where
@@ -78,7 +101,7 @@ pub record Counted (p : Plan) (ks : List Kind) (log : List ℕ) (words : ℕ) : 
   pub unsent : Unsent p (wordsFrom (onPlan ks) log 0)
   pub count : words ≡ length (wordsFrom (onPlan ks) log 0)
   pub few : words ≤ 15420
-  pub is : (times : List ℕ) (room : ℕ) → composed p ks log times room ≡ composeWords p times room (wordsFrom (onPlan ks) log 0)
+  pub is : (times : List ℕ) (room : ℕ) → composed p ks log times room ≡ composeLaid p ks times room (wordsFrom (onPlan ks) log 0)
 
 word-unsent : (parity : Bool) (x : Part) → Holds parity x → wordFor x < buses parity * 2 ^ 20
 unfolding wordOf
@@ -102,7 +125,7 @@ log-counted p ks log e w n words t = go (parsed (onPlan ks) log) refl t
               (all-map (λ x h. word-unsent (p .parity) x h) (items-hold ks (p .parity) is (all-map (λ i h. logged-sound p ks l i h) (f .1)))));
           count = m ∙ ap length (sym v);
           few = rw m (words-few is (rw (f .0) (f .2)));
-          is = λ times room. rw v (log-whole p ks log times room e is g);
+          is = λ times room. rw v (log-whole p ks log times room e is g (all-map (λ i h. logged-sound p ks l i h) (f .1)));
         }
 
 -- the row that they were laid into begins with them
@@ -112,3 +135,27 @@ row-begins w row ws before h e = rw (h, e) (take-at ws (drop (length ws) before)
 -- a row that begins with these words has them all
 pub row-holds : (w : ℕ) (row ws : List ℕ) → take w row ≡ ws → w ≡ length ws → w ≤ length row
 row-holds w row ws h e = omega (arith, length-take w row, ap length h, e)
+
+-- words that were laid, and not sent yet
+pub unsent-words : (p : Plan) (ws : List ℕ) → Unsent p ws → Words ws
+unsent-words p ws u = all-words ws (all-map (λ w h. low (p .parity) w h) u)
+  where
+    low : (b : Bool) (w : ℕ) → w < buses b * 2 ^ 20 → w < 2 ^ 24
+    low true w h = omega arith
+    low false w h = omega arith
+
+module _ (p : Plan) (ks : List Kind) (times : List ℕ) (room : ℕ) (ws : List ℕ) where
+  pub laid-open : (openWord ks ws ≡ 0 → ⊥) → composeLaid p ks times room ws ≡ refused 15 (bitsIn ks (take (openWord ks ws - 1) ws))
+  laid-open d = rw (ne-eqb (openWord ks ws) 0 d)
+
+  pub laid-answered : openWord ks ws ≡ 0 → composeLaid p ks times room ws ≡ composeWords p times room ws
+  laid-answered e = rw (eq-eqb (openWord ks ws) 0 e)
+
+-- the words before the notice are some of them
+pub open-within : (ks : List Kind) (ws : List ℕ) → openWord ks ws ≤ length ws
+open-within ks ws = omega (arith, open-most ks false 0 ws)
+
+pub words-take : (n : ℕ) (ws : List ℕ) → Words ws → Words (take n ws)
+words-take n ws h i l =
+    let k : i < length ws = omega (arith, length-take n ws, l) in
+    rw (getD-take n ws i 0 (omega (arith, length-take n ws, l))) (h i k)

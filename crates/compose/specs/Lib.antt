@@ -1,2 +1,3 @@
 -- What the contracts cite beside the definitions of `format`.
 pub mod Compose
+pub mod Laid

@@ -10,12 +10,15 @@ ghost use Rattle.format.specs.Plan.{groupWords, legal, timesNeeded};
 ghost use Rattle.format.specs.Time.{timeEnd};
 ghost use Rattle.format.specs.Laws.Limits.{Shape, mostDealt};
 ghost use Rattle.group_write.specs.Writing.{Unsent};
+ghost use Rattle.compose.specs.Laid.{composeLaid};
 use format::Answer;
 use format::Kind;
 use format::Plan;
 use group_write::write_group;
+use log_bits::bits_before;
 use log_read::Tally;
 use log_words::lay;
+use notices::first_open;
 use plan::group_words;
 use plan::groups_for;
 use plan::legal;
@@ -121,6 +124,25 @@ fn compose_words(plan: Plan, words: &[u32], times: &[u64], out: &mut [u8]) -> An
     }
 }
 
+// Of a log's words, laid: an open notice is 15 at its first bit, "before 5" (K2); then as above.
+fn compose_laid(
+    plan: Plan,
+    kinds: [Kind; 16],
+    words: &[u32],
+    times: &[u64],
+    out: &mut [u8],
+) -> Answer
+    requires { ⌜ Shape plan × (length (now words) ≤ 15420) × Unsent plan (now words) ⌝ }
+    ensures { λ r. ⌜ Made (composeLaid plan kinds (now (times .entry)) (length (now (out .entry))) (now (words .entry))) r (now (out .entry)) (now (out .exit)) ⌝ }
+{
+    let open = first_open(kinds, words);
+    if open != 0 {
+        let before = (open - 1) as usize;
+        return refusal(15, bits_before(kinds, &words[..before]));
+    }
+    compose_words(plan, words, times, out)
+}
+
 // "the items in order, each for 2, 3, 4", then as above. The row has room for the words of any log of this length.
 fn compose_in(
     plan: Plan,
@@ -134,7 +156,7 @@ fn compose_in(
     ensures { λ r. ⌜ Made (composed plan kinds (now (log .entry)) (now (times .entry)) (length (now (out .entry)))) r (now (out .entry)) (now (out .exit)) ⌝ }
 {
     match lay(kinds, log, row) {
-        Tally::Items { items: _, words } => compose_words(plan, &row[..words], times, out),
+        Tally::Items { items: _, words } => compose_laid(plan, kinds, &row[..words], times, out),
         Tally::Fault { number, place } => refusal(number, place),
     }
 }

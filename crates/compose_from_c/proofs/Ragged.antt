@@ -1,4 +1,4 @@
--- A row of more than 126 times is refused by 5 at the number needed, whatever the log.
+-- A row of more than 126 times is refused by 5 at the number needed, whatever the log, if it comes to that.
 use Prim.Native.Nat.{ℕ, zero, suc, _+_, _*_, _-_, _/_, _%_, _<_, _≤_}
 use native.Mathlib.Nat.{mul-le-mul-right, div-mul-le-self}
 use native.Mathlib.Decide.{decLt}
@@ -8,7 +8,8 @@ use mathlib.Core.Path.{_≡_, refl, sym, ap, _∙_}
 use mathlib.Core.List.{List, [], _∷_, flatMap}
 use lib.ListN.{length}
 use borrow.Author.Tests.{eq-eqb, ne-eqb}
-use Rattle.format.specs.Compose.{Composed, refused, composeParsed, composed, groupsFor}
+use Rattle.format.specs.Compose.{Composed, refused, composeParsed, composed, groupsFor, unlessOpen}
+use Rattle.format.specs.Notices.{openFault, bitOf}
 use Rattle.format.specs.Item.{itemWords}
 use Rattle.format.specs.Lists.{Bytes, list}
 use Rattle.format.specs.Log.{Parsed, items, fault, logOf, onPlan, parsed}
@@ -40,7 +41,7 @@ module _ (p : Plan) (ks : List Kind) (log : List ℕ) (w : Bytes log) where
           let f = log-forth (onPlan ks) log is w g in
           let n = composed-most p (shape-of p ks e) (length (flatMap itemWords is)) (words-few is (rw (f .0) (f .2))) in
           let k = needed-few (p .«frame_time») (groupsFor p (length (flatMap itemWords is))) n in
-          times-wrong p times room (flatMap itemWords is) (λ z. absurd (omega (arith, k, z)))
+          ap (unlessOpen (openFault (bitOf is) is)) (times-wrong p times room (flatMap itemWords is) (λ z. absurd (omega (arith, k, z))))
 
       go : (b : Bool) → legal p ks ≡ b
           → cond b (composeParsed p times room (parsed (onPlan ks) log)) (refused 1 0) ≡ cond b (raggedParsed p (parsed (onPlan ks) log)) (refused 1 0)

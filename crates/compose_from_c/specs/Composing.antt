@@ -4,7 +4,8 @@ use mathlib.Core.Bool.{cond}
 use mathlib.Core.List.{List, map, flatMap}
 use lib.ListN.{length}
 use lib.Dec.{eqb}
-use Rattle.format.specs.Compose.{Composed, refused, composed, groupsFor}
+use Rattle.format.specs.Compose.{Composed, refused, composed, groupsFor, unlessOpen}
+use Rattle.format.specs.Notices.{openFault, bitOf}
 use Rattle.format.specs.Item.{itemWords}
 use Rattle.format.specs.Log.{Parsed, items, fault, onPlan, parsed}
 use Rattle.format.specs.Plan.{legal, timesNeeded}
@@ -12,9 +13,9 @@ use Rattle.format.specs.declared.Kind.{Kind}
 use Rattle.format.specs.declared.Plan.{Plan}
 use Rattle.from_c.specs.Numbers.{kindOf, named, planFrom, timesFrom}
 
--- "Composing refuses a run of times that is not whole eights by 5, its place the number needed": after 2, 3 and 4
+-- "Composing refuses a run of times that is not whole eights by 5, its place the number needed": after 2, 3 and 4, and 15 (K2)
 abbrev pub raggedParsed : Plan → Parsed → Composed
-raggedParsed p (items is) = refused 5 (timesNeeded p (groupsFor p (length (flatMap itemWords is))))
+raggedParsed p (items is) = unlessOpen (openFault (bitOf is) is) (refused 5 (timesNeeded p (groupsFor p (length (flatMap itemWords is)))))
 raggedParsed p (fault n q) = refused n q
 
 unfoldable pub ragged : Plan → List Kind → List ℕ → Composed

@@ -10,6 +10,7 @@ pub mod Log
 pub mod Reader
 pub mod Check
 pub mod Group
+pub mod Notices
 pub mod Compose
 pub mod Read
 pub mod Answer

@@ -12,10 +12,11 @@ use Rattle.format.specs.Lists.{list}
 use Rattle.format.specs.Log.{logOf}
 use Rattle.format.specs.Plan.{groupWords, legal, timesNeeded, storedAt}
 use Rattle.format.specs.Group.{Fault, none, found, groupTime}
-use Rattle.format.specs.Read.{Got, Reading, gives, refuses, roomed, unmisplaced, settled, reading, readGroups, misplaced}
+use Rattle.format.specs.Read.{Got, Reading, gives, refuses, roomed, unlessFound, settled, reading, readGroups, openIn, misplaced}
 use Rattle.format.specs.Answer.{Given, success, refusal}
 use Rattle.format.specs.declared.Answer.{Answer}
 use Rattle.format.specs.declared.Kind.{Kind}
+use Rattle.format.specs.declared.Item.{Item}
 use Rattle.format.specs.declared.Held.the-variants.{Nothing}
 use Rattle.format.specs.declared.Plan.{Plan}
 use Rattle.format.specs.Laws.Lists.{length-list}
@@ -28,6 +29,7 @@ use Rattle.read_groups.specs.Groups.{groupsOn}
 use Rattle.read_groups.specs.End.{Logged, Ended}
 use Rattle.read_groups.proofs.Misplaced.{told-none, told-found}
 use Rattle.read_groups.proofs.Groups.{numbers-few}
+use Rattle.notices.specs.Laws.Capture as notices
 use Rattle.read.specs.Room.{earlier, roomNumber, Built}
 
 pub given-refused : {g : Reading} {r : Answer} {number place : ℕ} (log times : List ℕ) → g ≡ refuses number place → r ≡ refusal number place → Given g r log log times times
@@ -128,17 +130,17 @@ given-copied p c n whole built bytes need log log′ times times′ b small fits
 
 -- misplaced fill, as it was found
 fill-by : (b : Bool) (x : Reading) (f : Fault) (at : ℕ → ℕ) (m q : ℕ) → told (placeUp at m) ≡ f → q ≡ cond b m 0 → (q ≡ 0 → ⊥)
-    → unmisplaced (cond b f none) x ≡ refuses 14 (at (q - 1))
+    → unlessFound (cond b f none) x ≡ refuses 14 (at (q - 1))
 fill-by false x f at m q e a z = absurd (z a)
 fill-by true x f at zero q e a z = absurd (z a)
 fill-by true x f at (suc m) q e a z =
     let k : suc (at m) - 1 ≡ at m = omega arith in
     let j : m ≡ q - 1 = omega arith in
-    ap (λ (y : Fault). unmisplaced y x) (sym e ∙ told-found (suc (at m)) (λ w. omega arith) ∙ ap (found 14) (k ∙ ap at j))
+    ap (λ (y : Fault). unlessFound y x) (sym e ∙ told-found (suc (at m)) (λ w. omega arith) ∙ ap (found 14) (k ∙ ap at j))
 
-none-by : (b : Bool) (x : Reading) (f : Fault) (at : ℕ → ℕ) (m : ℕ) → told (placeUp at m) ≡ f → cond b m 0 ≡ 0 → unmisplaced (cond b f none) x ≡ x
+none-by : (b : Bool) (x : Reading) (f : Fault) (at : ℕ → ℕ) (m : ℕ) → told (placeUp at m) ≡ f → cond b m 0 ≡ 0 → unlessFound (cond b f none) x ≡ x
 none-by false x f at m e a = refl
-none-by true x f at m e a = ap (λ (y : Fault). unmisplaced y x) (sym e ∙ ap (λ (k : ℕ). told (placeUp at k)) a ∙ told-none 0 refl)
+none-by true x f at m e a = ap (λ (y : Fault). unlessFound y x) (sym e ∙ ap (λ (k : ℕ). told (placeUp at k)) a ∙ told-none 0 refl)
 
 -- what the groups brought
 pub built-of : {ks : List Kind} {p : Plan} {c : List ℕ} {n : ℕ} {r : Outcome} {out : List ℕ} (l : Logged ks p c n r out) → Built (logOf (l .items)) out (r .bytes)
@@ -148,19 +150,35 @@ module _ (p : Plan) (c : List ℕ) (n logRoom timeRoom : ℕ) (closed : Bool) wh
   abbrev answers : Got → Reading
   answers g = settled p c n logRoom timeRoom closed g
 
+  -- behind the notices: misplaced fill, and room
+  abbrev behind : List Item → Reading
+  behind is = unlessFound (cond closed (misplaced p (groupsOn p c 0 n)) none) (roomed p c n logRoom timeRoom (logOf is))
+
   module _ {ks : List Kind} {r : Outcome} {out : List ℕ} where
     pub stops-settled : Ended ks p c n r out → (r .number ≡ 0 → ⊥) → answers (readGroups p ks c n 0 Nothing 0) ≡ refuses (r .number) (r .place)
     stops-settled e z = ap answers (e .refused z .is)
 
-    module _ (l : Logged ks p c n r out) (q : ℕ) (e : q ≡ cond closed (r .misplaced) 0) where
+    -- an open notice, or none
+    pub open-settled : (l : Logged ks p c n r out) → (r .notice ≡ 0 → ⊥) → {place : ℕ} → place ≡ storedAt p (r .notice - 1)
+        → answers (readGroups p ks c n 0 Nothing 0) ≡ refuses 15 place
+    open-settled l d s =
+        ap answers (l .is) ∙ ap (λ (f : Fault). unlessFound f (behind (l .items))) (sym (l .notice) ∙ notices.told-found (storedAt p) (r .notice) d) ∙ ap (refuses 15) (sym s)
+
+    none-settled : (l : Logged ks p c n r out) → r .notice ≡ 0 → answers (readGroups p ks c n 0 Nothing 0) ≡ behind (l .items)
+    none-settled l z = ap answers (l .is) ∙ ap (λ (f : Fault). unlessFound f (behind (l .items))) (sym (l .notice) ∙ notices.told-none (storedAt p) (r .notice) z)
+
+    pub open-few : (l : Logged ks p c n r out) (k : ℕ) → k ≡ n * (3 * groupWords p) → k ≤ 1048576 → Shape p → r .notice ≤ 349525
+    open-few l k a b s = omega (arith, l .low .0, numbers-few p s n k a b)
+
+    module _ (l : Logged ks p c n r out) (o : r .notice ≡ 0) (q : ℕ) (e : q ≡ cond closed (r .misplaced) 0) where
       pub fill-settled : {place : ℕ} → (q ≡ 0 → ⊥) → place ≡ storedAt p (q - 1) → answers (readGroups p ks c n 0 Nothing 0) ≡ refuses 14 place
       fill-settled z s =
-          ap answers (l .is)
+          none-settled l o
           ∙ fill-by closed (roomed p c n logRoom timeRoom (logOf (l .items))) (misplaced p (groupsOn p c 0 n)) (storedAt p) (r .misplaced) q (l .fill) e z
           ∙ ap (refuses 14) (sym s)
 
       pub fill-few : (k : ℕ) → k ≡ n * (3 * groupWords p) → k ≤ 1048576 → Shape p → q ≤ 349525
-      fill-few k a b s = omega (arith, e, asked-low closed, l .low, numbers-few p s n k a b)
+      fill-few k a b s = omega (arith, e, asked-low closed, l .low .1, numbers-few p s n k a b)
         where
           asked-low : (b : Bool) → cond b (r .misplaced) 0 ≤ r .misplaced
           asked-low true = omega arith
@@ -168,7 +186,7 @@ module _ (p : Plan) (c : List ℕ) (n logRoom timeRoom : ℕ) (closed : Bool) wh
 
       pub log-settled : q ≡ 0 → answers (readGroups p ks c n 0 Nothing 0) ≡ roomed p c n logRoom timeRoom (logOf (l .items))
       log-settled z =
-          ap answers (l .is) ∙ none-by closed (roomed p c n logRoom timeRoom (logOf (l .items))) (misplaced p (groupsOn p c 0 n)) (storedAt p) (r .misplaced) (l .fill) (sym e ∙ z)
+          none-settled l o ∙ none-by closed (roomed p c n logRoom timeRoom (logOf (l .items))) (misplaced p (groupsOn p c 0 n)) (storedAt p) (r .misplaced) (l .fill) (sym e ∙ z)
 
 -- ---- "Reading checks 1, 8"
 

@@ -168,6 +168,9 @@ fn read_by(
     if end.number != 0 {
         return refusal(end.number, end.place);
     }
+    if end.notice != 0 {
+        return refusal(15, stored_place(plan, count, end.notice - 1));
+    }
     let misplaced = asked(closed, end.misplaced);
     if misplaced != 0 {
         return refusal(14, stored_place(plan, count, misplaced - 1));

@@ -15,7 +15,7 @@ use Rattle.format.specs.Group.{Fault, none, found, groupTime, groupSlots}
 use Rattle.format.specs.Lists.{list}
 use Rattle.format.specs.Log.{logOf}
 use Rattle.format.specs.Plan.{groupWords, legal, timesNeeded}
-use Rattle.format.specs.Read.{Got, got, stopped, Reading, gives, refuses, misplaced, readGroups, reading, roomed, settled, unmisplaced}
+use Rattle.format.specs.Read.{Got, got, stopped, Reading, gives, refuses, misplaced, readGroups, reading, roomed, settled, unlessFound, openIn}
 use Rattle.format.specs.declared.Answer.{Answer}
 use Rattle.format.specs.declared.Held.the-variants.{Nothing}
 use Rattle.format.specs.declared.Kind.{Kind}
@@ -52,7 +52,7 @@ module _ (closed : Bool) (p : Plan) (ks : List Kind) (c : List ℕ) (logRoom : �
     settled-same : (n : ℕ) → n ≤ T → n ≤ U → (g : Got) → settled p c n logRoom T closed g ≡ settled p c n logRoom U closed g
     settled-same n h k (stopped r at) = refl
     settled-same n h k (got is) =
-        ap (unmisplaced (cond closed (misplaced p (list (λ g. groupSlots p c (g * groupWords p)) 0 n)) none)) (roomed-same n h k (logOf is))
+        ap (λ (r : Reading). unlessFound (openIn p c n is) (unlessFound (cond closed (misplaced p (list (λ g. groupSlots p c (g * groupWords p)) 0 n)) none) r)) (roomed-same n h k (logOf is))
 
     pub room-enough : reading closed p ks c logRoom T ≡ reading closed p ks c logRoom U
     unfolding reading
@@ -77,13 +77,15 @@ module _ (closed : Bool) (p : Plan) (ks : List Kind) (c : List ℕ) (logRoom : �
       go true false e = tt
       go false b e = tt
 
-  few-unmisplaced : (T : ℕ) (f : Fault) (r : Reading) → Few T r → Few T (unmisplaced f r)
-  few-unmisplaced T none r h = h
-  few-unmisplaced T (found k at) r h = tt
+  few-unlessFound : (T : ℕ) (f : Fault) (r : Reading) → Few T r → Few T (unlessFound f r)
+  few-unlessFound T none r h = h
+  few-unlessFound T (found k at) r h = tt
 
   few-settled : (n T : ℕ) (g : Got) → Few T (settled p c n logRoom T closed g)
   few-settled n T (stopped k at) = tt
-  few-settled n T (got is) = few-unmisplaced T (cond closed (misplaced p (list (λ g. groupSlots p c (g * groupWords p)) 0 n)) none) (roomed p c n logRoom T (logOf is)) (few-roomed n T (logOf is))
+  few-settled n T (got is) =
+      let fill : Fault = cond closed (misplaced p (list (λ g. groupSlots p c (g * groupWords p)) 0 n)) none in
+      few-unlessFound T (openIn p c n is) (unlessFound fill (roomed p c n logRoom T (logOf is))) (few-unlessFound T fill (roomed p c n logRoom T (logOf is)) (few-roomed n T (logOf is)))
 
   pub few-times : (T : ℕ) → Few T (reading closed p ks c logRoom T)
   unfolding reading

@@ -6,6 +6,7 @@ use mathlib.Core.Path.{_≡_, refl, sym, ap, ap₂, subst, _∙_}
 use mathlib.Core.List.{List, [], _++_, flatMap}
 use lib.ListN.{length, take}
 use Rattle.format.specs.Item.{itemBits}
+use Rattle.format.specs.Lists.{Bytes}
 use Rattle.format.specs.Plan.{slots, storedAt}
 use Rattle.format.specs.Log.{logOf}
 use Rattle.format.specs.Read.{Got, got, stopped, before, finish, readGroups, misplaced}
@@ -28,6 +29,8 @@ use Rattle.log_write.proofs.Writing.{wrote-none, closed-size, closed-long, clos
 use Rattle.data_run.specs.Pass.{Strings, stepPen, stepOut}
 use Rattle.read_groups.specs.Misplaced.{told, placeUp}
 use Rattle.read_groups.specs.Groups.{Through, Walked}
+use Rattle.notices.specs.Laws.Capture.{told15, placedUp, open-in}
+use Rattle.notices.specs.Laws.Groups.{openNumber, open-few}
 use Rattle.read_groups.specs.End.{Ended}
 use Rattle.read_groups.proofs.Numbered.{numbers-say-misplaced}
 use Rattle.data_run.proofs.OneSlot.{step-bits, step-wrote}
@@ -51,11 +54,11 @@ module _ (ks : List Kind) (p : Plan) (c : List ℕ) (n : ℕ) (out₀ : List ℕ
   abbrev all : Got
   all = readGroups p ks c n 0 Nothing 0
 
-  refusal-ends : (k q : ℕ) (out′ : List ℕ) → (k ≡ 0 → ⊥) → all ≡ stopped k q → Ended ks p c n (record { number = k; place = q; bytes = 0; misplaced = 0 }) out′
-  refusal-ends k q out′ z e = record { logged = λ y. absurd (z y); refused = λ _. record { is = e; bytes = refl; misplaced = refl } }
+  refusal-ends : (k q : ℕ) (out′ : List ℕ) → (k ≡ 0 → ⊥) → all ≡ stopped k q → Ended ks p c n (record { number = k; place = q; bytes = 0; notice = 0; misplaced = 0 }) out′
+  refusal-ends k q out′ z e = record { logged = λ y. absurd (z y); refused = λ _. record { is = e; bytes = refl; notice = refl; misplaced = refl } }
 
   pub ends-stopped : {out : List ℕ} {k : Walk} (out′ : List ℕ) → Walked ks p c n out₀ k out → (k .number ≡ 0 → ⊥)
-      → Ended ks p c n (record { number = k .number; place = k .place; bytes = 0; misplaced = 0 }) out′
+      → Ended ks p c n (record { number = k .number; place = k .place; bytes = 0; notice = 0; misplaced = 0 }) out′
   ends-stopped {out} {k} out′ m z = refusal-ends (k .number) (k .place) out′ z (m .stops z)
 
   module _ (x : Pass) (out : List ℕ) (t : Through ks p c n out₀ x out) (s : Step) (m : Closes (finish (heldOf (x .held)) (storedAt p (x .since))) s) where
@@ -63,7 +66,7 @@ module _ (ks : List Kind) (p : Plan) (c : List ℕ) (n : ℕ) (out₀ : List ℕ
     last = finish (heldOf (x .held)) (storedAt p (x .since))
 
     pub ends-cut : {place : ℕ} (out′ : List ℕ) → s .bad ≡ true → place ≡ storedAt p (x .since)
-        → Ended ks p c n (record { number = 13; place = place; bytes = 0; misplaced = 0 }) out′
+        → Ended ks p c n (record { number = 13; place = place; bytes = 0; notice = 0; misplaced = 0 }) out′
     ends-cut {place} out′ z e =
         refusal-ends 13 place out′ (λ y. absurd (omega arith))
         (t .is ∙ ap (before (t .items)) (finish-cut (heldOf (x .held)) (storedAt p (x .since)) s m z ∙ ap (stopped 13) (sym e)))
@@ -88,9 +91,9 @@ module _ (ks : List Kind) (p : Plan) (c : List ℕ) (n : ℕ) (out₀ : List ℕ
           subst (λ (b : List ℕ). Wrote b (stepOut out (x .pen) s) (stepPen (x .pen) s)) (sym (flatMap-append itemBits (t .items) (f .items)))
           (step-wrote (f .items) Nothing s (f .brings) (x .pen) (flatMap itemBits (t .items)) out (t .brought .wrote [] (wrote-none out₀)))
 
-      pub ends-log : {bytes : ℕ} {out′ : List ℕ} → 1 ≤ slots p → bytes ≡ closedSize (stepPen (x .pen) s) → out′ ≡ closedIn (stepOut out (x .pen) s) (stepPen (x .pen) s)
-          → Ended ks p c n (record { number = 0; place = 0; bytes = bytes; misplaced = x .fills .misplaced }) out′
-      ends-log {bytes} {out′} some b e =
+      pub ends-log : {bytes notice : ℕ} {out′ : List ℕ} → 1 ≤ slots p → Bytes c → notice ≡ openNumber ks p c n → bytes ≡ closedSize (stepPen (x .pen) s) → out′ ≡ closedIn (stepOut out (x .pen) s) (stepPen (x .pen) s)
+          → Ended ks p c n (record { number = 0; place = 0; bytes = bytes; notice = notice; misplaced = x .fills .misplaced }) out′
+      ends-log {bytes} {notice} {out′} some all-bytes o b e =
           let size : bytes ≡ length (logOf items) = b ∙ closed-size items (stepOut out (x .pen) s) (stepPen (x .pen) s) all-wrote in
           let long : length out′ ≡ length (stepOut out (x .pen) s) = ap (λ (l : List ℕ). length l) e ∙ closed-long items (stepOut out (x .pen) s) (stepPen (x .pen) s) all-wrote in
           record {
@@ -100,9 +103,11 @@ module _ (ks : List Kind) (p : Plan) (c : List ℕ) (n : ℕ) (out₀ : List ℕ
               place = refl;
               bytes = size;
               log = λ h. ap₂ (λ (j : ℕ) (l : List ℕ). take j l) size e ∙ closed-log items (stepOut out (x .pen) s) (stepPen (x .pen) s) all-wrote (omega (arith, h, size, long));
+              notice-number = o;
+              notice = ap (λ (m : ℕ). told15 (placedUp (storedAt p) m)) o ∙ open-in p ks c n items some all-bytes all-is;
               number = sym (ap (λ (y : Fills). y .misplaced) (t .fill));
               fill = ap (λ (y : Fills). told (placeUp (storedAt p) (y .misplaced))) (sym (t .fill)) ∙ numbers-say-misplaced p c some n;
-              low = t .fill-low;
+              low = (rw o (open-few ks p c n), t .fill-low);
             };
             refused = λ z. absurd (z refl);
           }

@@ -6,7 +6,7 @@ use mathlib.Core.List.{List}
 use lib.ListN.{length, take}
 use Rattle.format.specs.Log.{logOf}
 use Rattle.format.specs.Plan.{slots, storedAt}
-use Rattle.format.specs.Read.{Got, got, stopped, readGroups, misplaced}
+use Rattle.format.specs.Read.{Got, got, stopped, readGroups, openIn, misplaced}
 use Rattle.format.specs.declared.Kind.{Kind}
 use Rattle.format.specs.declared.Item.{Item}
 use Rattle.format.specs.declared.Held.the-variants.{Nothing}
@@ -14,23 +14,28 @@ use Rattle.format.specs.declared.Plan.{Plan}
 use Rattle.read_groups.specs.declared.Outcome.{Outcome}
 use Rattle.read_groups.specs.Misplaced.{noFill, fillsOver, numbersOn, told, placeUp}
 use Rattle.read_groups.specs.Groups.{groupsOn}
+use Rattle.notices.specs.Laws.Capture.{told15, placedUp}
+use Rattle.notices.specs.Laws.Groups.{openNumber}
 
--- n groups bring items: the length of their log, the log itself if the array has room for it, and the number of the earliest
--- misplaced fill, which stands at the definition's place
+-- n groups bring items: the length of their log, the log itself if the array has room for it, and the numbers of the earliest open
+-- notice and of the earliest misplaced fill, which stand at the definitions' places
 pub record Logged (ks : List Kind) (p : Plan) (c : List ℕ) (n : ℕ) (r : Outcome) (out : List ℕ) : Type 0 where
   pub items : List Item
   pub is : readGroups p ks c n 0 Nothing 0 ≡ got items
   pub place : r .place ≡ 0
   pub bytes : r .bytes ≡ length (logOf items)
   pub log : r .bytes + 7 ≤ length out → take (r .bytes) out ≡ logOf items
+  pub notice-number : r .notice ≡ openNumber ks p c n
+  pub notice : told15 (placedUp (storedAt p) (r .notice)) ≡ openIn p c n items
   pub number : r .misplaced ≡ fillsOver p (numbersOn p c 0 n) noFill .misplaced
   pub fill : told (placeUp (storedAt p) (r .misplaced)) ≡ misplaced p (groupsOn p c 0 n)
-  pub low : r .misplaced ≤ n * slots p
+  pub low : (r .notice ≤ n * slots p) × (r .misplaced ≤ n * slots p)
 
 -- n groups, or the cut item behind them, are refused
 pub record Refused (ks : List Kind) (p : Plan) (c : List ℕ) (n : ℕ) (r : Outcome) : Type 0 where
   pub is : readGroups p ks c n 0 Nothing 0 ≡ stopped (r .number) (r .place)
   pub bytes : r .bytes ≡ 0
+  pub notice : r .notice ≡ 0
   pub misplaced : r .misplaced ≡ 0
 
 -- number 0: the log; else the refusal
@@ -40,10 +45,11 @@ pub record Ended (ks : List Kind) (p : Plan) (c : List ℕ) (n : ℕ) (r : Outco
 
 -- ---- what of it is one: all that is returned, and the log where both arrays have room for it; the rest of an array is work room
 
-same-outcome : (r r′ : Outcome) → r .number ≡ r′ .number → r .place ≡ r′ .place → r .bytes ≡ r′ .bytes → r .misplaced ≡ r′ .misplaced → r ≡ r′
-same-outcome r r′ a b d e =
-    ap₂ (λ (x y : ℕ). record { number = x; place = y; bytes = r .bytes; misplaced = r .misplaced }) a b
-    ∙ ap₂ (λ (x y : ℕ). record { number = r′ .number; place = r′ .place; bytes = x; misplaced = y }) d e
+same-outcome : (r r′ : Outcome) → r .number ≡ r′ .number → r .place ≡ r′ .place → r .bytes ≡ r′ .bytes → r .notice ≡ r′ .notice → r .misplaced ≡ r′ .misplaced → r ≡ r′
+same-outcome r r′ a b d o e =
+    ap₂ (λ (x y : ℕ). record { number = x; place = y; bytes = r .bytes; notice = r .notice; misplaced = r .misplaced }) a b
+    ∙ ap₂ (λ (x y : ℕ). record { number = r′ .number; place = r′ .place; bytes = x; notice = y; misplaced = r .misplaced }) d o
+    ∙ ap (λ (x : ℕ). record { number = r′ .number; place = r′ .place; bytes = r′ .bytes; notice = r′ .notice; misplaced = x }) e
 
 same-items : {g : Got} {is js : List Item} → g ≡ got is → g ≡ got js → is ≡ js
 same-items e f = cc
@@ -66,14 +72,14 @@ module _ (ks : List Kind) (p : Plan) (c : List ℕ) (n : ℕ) {r r′ : Outcome}
           let x = a .logged e in
           let y = b .logged f in
           same-outcome r r′ (e ∙ sym f) (x .place ∙ sym (y .place)) (x .bytes ∙ ap length (same-log x y) ∙ sym (y .bytes))
-          (x .number ∙ sym (y .number))
+          (x .notice-number ∙ sym (y .notice-number)) (x .number ∙ sym (y .number))
       go zero (suc k) e f = not-both (a .logged e .is) (b .refused (λ z. omega (arith, z, f)) .is)
       go (suc m) zero e f = not-both (b .logged f .is) (a .refused (λ z. omega (arith, z, e)) .is)
       go (suc m) (suc k) e f =
           let x = a .refused (λ z. omega (arith, z, e)) in
           let y = b .refused (λ z. omega (arith, z, f)) in
           let s = same-number (x .is) (y .is) in
-          same-outcome r r′ (s .0) (s .1) (x .bytes ∙ sym (y .bytes)) (x .misplaced ∙ sym (y .misplaced))
+          same-outcome r r′ (s .0) (s .1) (x .bytes ∙ sym (y .bytes)) (x .notice ∙ sym (y .notice)) (x .misplaced ∙ sym (y .misplaced))
 
   pub ended-log-one : r .number ≡ 0 → r .bytes + 7 ≤ length out → r′ .bytes + 7 ≤ length out′ → take (r .bytes) out ≡ take (r′ .bytes) out′
   ended-log-one e h k =

@@ -19,6 +19,7 @@ use Rattle.data_run.specs.declared.Pass.{Pass}
 use Rattle.read_groups.specs.declared.Walk.{Walk}
 use Rattle.read_groups.specs.Misplaced.{noFill, fillsOver, numbersOn}
 use Rattle.data_run.specs.Pass.{Brought}
+use Rattle.notices.specs.Laws.Groups.{openNumber}
 
 -- before the first group
 abbrev pub startPass : Pass
@@ -48,7 +49,8 @@ pub record Through (ks : List Kind) (p : Plan) (c : List ℕ) (n : ℕ) (out₀ 
   pub low : x .since ≤ n * slots p
   pub fill-low : x .fills .misplaced ≤ n * slots p
 
--- number 0: all groups were passed; else the reading stopped
+-- number 0: all groups were passed, and the earliest open notice has this number; else the reading stopped
 pub record Walked (ks : List Kind) (p : Plan) (c : List ℕ) (n : ℕ) (out₀ : List ℕ) (r : Walk) (out : List ℕ) : Type 0 where
   pub through : r .number ≡ 0 → Through ks p c n out₀ (r .pass) out
+  pub notice : r .number ≡ 0 → r .notice ≡ openNumber ks p c n
   pub stops : (r .number ≡ 0 → ⊥) → readGroups p ks c n 0 Nothing 0 ≡ stopped (r .number) (r .place)

@@ -1,5 +1,5 @@
-// A reading's walk over the groups of a capture (document 01, "Groups" and "Answers by number"): the log of their items and the
-// earliest misplaced fill, or the first refusal from 9 to 13.
+// A reading's walk over the groups of a capture (document 01, "Groups" and "Answers by number"): the log of their items, the
+// earliest open notice and the earliest misplaced fill, or the first refusal from 9 to 13.
 ghost use mathlib.Core.Path.{_≡_};
 ghost use Prim.Native.Nat.{_*_, _≤_, _<_, _^_};
 ghost use lib.ListN.{length};
@@ -16,20 +16,25 @@ use format::Kind;
 use format::Plan;
 use log_write::Pen;
 use narrow;
+use notices::at_end;
+use notices::has_arinc;
 
-// A reading over the groups: number 0 and what is carried then, or the number and place of what it stops at.
+// A reading over the groups: number 0, what is carried then and the earliest open notice, or the number and place of what it stops
+// at.
 struct Walk {
     pass: Pass,
     number: u32,
     place: u64,
+    notice: u64,
 }
 
-// What the groups bring: a refusal's number and place, or number 0, the length of the log and the earliest misplaced fill,
-// told by its number among the data words, one up.
+// What the groups bring: a refusal's number and place, or number 0, the length of the log, and the earliest open notice and the
+// earliest misplaced fill, each told by its number among the data words, one up.
 pub struct Outcome {
     pub number: u32,
     pub place: u64,
     pub bytes: usize,
+    pub notice: u64,
     pub misplaced: u64,
 }
 
@@ -77,6 +82,9 @@ fn over_groups(
     let first = group_read::lead(plan);
     let behind = first + count;
     let start = start_pass();
+    let arinc = has_arinc(kinds);
+    let mut table = [0u64; 64];
+    let mut found: u64 = 0;
     let mut pass = start;
     let mut g: usize = 0;
     let mut from: u64 = 0;
@@ -89,6 +97,7 @@ fn over_groups(
                 pass: start,
                 number: fault.number,
                 place: (g * size + fault.place) as u64,
+                notice: 0,
             };
         }
         pass = on_row(pass, kinds, plan.parity, &row[first..behind], from, out);
@@ -97,15 +106,27 @@ fn over_groups(
                 pass: start,
                 number: 13,
                 place: stored_place(plan, count, pass.since),
+                notice: 0,
             };
         }
+        found = notices::note_row(
+            arinc,
+            kinds,
+            plan.parity,
+            &row[first..behind],
+            from,
+            &mut table,
+            found,
+        );
         from += count as u64;
         g += 1;
     }
+    let notice = at_end(arinc, &table, found);
     Walk {
         pass: pass,
         number: 0,
         place: 0,
+        notice: notice,
     }
 }
 
@@ -153,6 +174,7 @@ pub fn read_groups(
             number: walk.number,
             place: walk.place,
             bytes: 0,
+            notice: 0,
             misplaced: 0,
         };
     }
@@ -163,6 +185,7 @@ pub fn read_groups(
             number: 13,
             place: stored_place(plan, count, pass.since),
             bytes: 0,
+            notice: 0,
             misplaced: 0,
         };
     }
@@ -172,6 +195,7 @@ pub fn read_groups(
         number: 0,
         place: 0,
         bytes: bytes,
+        notice: walk.notice,
         misplaced: pass.fills.misplaced,
     }
 }

@@ -3,17 +3,21 @@ use Prim.Native.Nat.{ℕ, _/_, _%_, _≤_}
 use native.Mathlib.Omega.{arith}
 use mathlib.Core.Bool.{Bool, true, false, cond}
 use mathlib.Core.Path.{_≡_, refl, ap, sym, _∙_}
-use mathlib.Core.List.{List, map}
+use mathlib.Core.Logic.{inl, inr}
+use mathlib.Core.List.{List, map, flatMap}
 use lib.ListN.{length, take, drop, length-map}
 use lib.Seq.{take-at}
 use lib.Dec.{eqb}
 use borrow.Author.Tests.{eqb-true, eq-eqb}
 use Rattle.format.specs.Answer.{Made}
 use Rattle.format.specs.declared.Answer.{Answer}
-use Rattle.format.specs.Laws.Refusals.{composed-refused, log-refused, reading-refused}
-use Rattle.format.specs.Compose.{Composed, made, refused, composed}
+use Rattle.format.specs.Laws.Refusals.{ComposingNumber, composed-refused, log-refused, reading-refused}
+use Rattle.format.specs.Compose.{Composed, made, refused, composed, groupsFor, unlessOpen}
+use Rattle.format.specs.Group.{Fault, none, found, unless}
+use Rattle.format.specs.Notices.{firstOpen, openFault, bitOf}
 use Rattle.format.specs.Log.{Parsed, items, fault, onPlan, parsed}
-use Rattle.format.specs.Plan.{legal}
+use Rattle.format.specs.Item.{itemWords}
+use Rattle.format.specs.Plan.{legal, timesNeeded}
 use Rattle.format.specs.Read.{Reading, gives, refuses, reading}
 use Rattle.format.specs.declared.Kind.{Kind}
 use Rattle.format.specs.declared.Plan.{Plan}
@@ -33,28 +37,39 @@ ragged-makes : {A : Type 0} (p : Plan) (ks : List Kind) (log c : List ℕ) → r
 unfolding ragged
 ragged-makes {A} p ks log c e = go (legal p ks) (parsed (onPlan ks) log) e
   where
+    open-makes : (f : Fault) (q : ℕ) → unlessOpen f (refused 5 q) ≡ made c → A
+    open-makes none q z = no-capture z
+    open-makes (found m k) q z = no-capture z
+
     go : (b : Bool) (r : Parsed) → cond b (raggedParsed p r) (refused 1 0) ≡ made c → A
-    go true (items is) z = no-capture z
+    go true (items is) z = open-makes (openFault (bitOf is) is) (timesNeeded p (groupsFor p (length (flatMap itemWords is)))) z
     go true (fault n q) z = no-capture z
     go false r z = no-capture z
 
--- and is refused by 1 to 5
-ragged-refused : (p : Plan) (ks : List Kind) (log : List ℕ) (n q : ℕ) → ragged p ks log ≡ refused n q → (1 ≤ n) × (n ≤ 6)
+-- and is refused by 1 to 5, or 15
+ragged-refused : (p : Plan) (ks : List Kind) (log : List ℕ) (n q : ℕ) → ragged p ks log ≡ refused n q → ComposingNumber n
 unfolding ragged
 ragged-refused p ks log n q e = go (legal p ks) (parsed (onPlan ks) log) refl e
   where
-    go : (b : Bool) (r : Parsed) → parsed (onPlan ks) log ≡ r → cond b (raggedParsed p r) (refused 1 0) ≡ refused n q → (1 ≤ n) × (n ≤ 6)
-    go true (items is) h z = let five : _≡_ {A = ℕ} 5 n = cc in omega arith
-    go true (fault m k) h z = let same : m ≡ n = cc in omega (arith, log-refused ks log m k h)
-    go false r h z = let one : _≡_ {A = ℕ} 1 n = cc in omega arith
+    go : (b : Bool) (r : Parsed) → parsed (onPlan ks) log ≡ r → cond b (raggedParsed p r) (refused 1 0) ≡ refused n q → ComposingNumber n
+    go true (items is) h z = open-refused (eqb (firstOpen is) (length is)) (bitOf is (firstOpen is)) (timesNeeded p (groupsFor p (length (flatMap itemWords is)))) z
+      where
+        open-refused : (b : Bool) (k l : ℕ) → unlessOpen (unless b 15 k) (refused 5 l) ≡ refused n q → ComposingNumber n
+        open-refused true k l z = let five : _≡_ {A = ℕ} 5 n = cc in (omega arith, inl (omega arith))
+        open-refused false k l z = let fifteen : _≡_ {A = ℕ} 15 n = cc in (omega arith, inr (sym fifteen))
+    go true (fault m k) h z =
+        let same : m ≡ n = cc in
+        let l = log-refused ks log m k h in
+        (omega (arith, l .0), inl (omega (arith, l .1)))
+    go false r h z = let one : _≡_ {A = ℕ} 1 n = cc in (omega arith, inl (omega arith))
 
 -- number 0 is answered where a capture is made, and its bytes are then the first of the output
-pub made-bytes : (m : Composed) (r : Answer) (out out′ : List ℕ) → ((n q : ℕ) → m ≡ refused n q → (1 ≤ n) × (n ≤ 6)) → Made m r out out′ → r .number ≡ 0
+pub made-bytes : (m : Composed) (r : Answer) (out out′ : List ℕ) → ((n q : ℕ) → m ≡ refused n q → ComposingNumber n) → Made m r out out′ → r .number ≡ 0
     → (c : List ℕ) × (m ≡ made c) × (take (r .bytes) out′ ≡ c)
 made-bytes (made c) r out out′ h a z = (c, refl, rw (a .0, a .1) (take-at c (drop (length c) out) (length c) refl))
 made-bytes (refused n q) r out out′ h a z =
     let e : n ≡ 0 = sym (ap (λ (x : Answer). x .number) (a .0)) ∙ z in
-    absurd (omega (arith, h n q refl))
+    absurd (omega (arith, h n q refl .0))
 
 module _ (words tracks time crc parity : ℕ) (kinds : List ℕ) where
   abbrev pub thePlan : Plan
@@ -88,21 +103,21 @@ module _ (words tracks time crc parity : ℕ) (kinds : List ℕ) where
   from-made log times room n w = rw (n, eq-eqb (length times % 8) 0 w)
 
   -- a refusal's number is never 0
-  pub composed-refused-from : (log times : List ℕ) (room n q : ℕ) → composedFrom words tracks time crc parity kinds log times room ≡ refused n q → (1 ≤ n) × (n ≤ 6)
+  pub composed-refused-from : (log times : List ℕ) (room n q : ℕ) → composedFrom words tracks time crc parity kinds log times room ≡ refused n q → ComposingNumber n
   unfolding composedFrom composedBytes
   composed-refused-from log times room n q e = go (named time crc parity kinds) (eqb (length times % 8) 0) e
     where
-      go : (a b : Bool) → cond a (cond b (composed thePlan theKinds log (timesFrom times) room) (ragged thePlan theKinds log)) (refused 1 0) ≡ refused n q → (1 ≤ n) × (n ≤ 6)
+      go : (a b : Bool) → cond a (cond b (composed thePlan theKinds log (timesFrom times) room) (ragged thePlan theKinds log)) (refused 1 0) ≡ refused n q → ComposingNumber n
       go true true z = composed-refused thePlan theKinds log (timesFrom times) room n q z
       go true false z = ragged-refused thePlan theKinds log n q z
-      go false b z = let one : _≡_ {A = ℕ} 1 n = cc in omega arith
+      go false b z = let one : _≡_ {A = ℕ} 1 n = cc in (omega arith, inl (omega arith))
 
   pub reading-refused-from : (closed : Bool) (c : List ℕ) (logRoom timeRoom n q : ℕ) → readingFrom closed words tracks time crc parity kinds c logRoom timeRoom ≡ refuses n q
-      → (1 ≤ n) × (n ≤ 14)
+      → (1 ≤ n) × (n ≤ 15)
   unfolding readingFrom
   reading-refused-from closed c logRoom timeRoom n q e = go (named time crc parity kinds) e
     where
-      go : (a : Bool) → cond a (reading closed thePlan theKinds c logRoom (timeRoom / 8)) (refuses 1 0) ≡ refuses n q → (1 ≤ n) × (n ≤ 14)
+      go : (a : Bool) → cond a (reading closed thePlan theKinds c logRoom (timeRoom / 8)) (refuses 1 0) ≡ refuses n q → (1 ≤ n) × (n ≤ 15)
       go true z = reading-refused closed thePlan theKinds c logRoom (timeRoom / 8) n q z
       go false z = let one : _≡_ {A = ℕ} 1 n = cc in omega arith
 

@@ -4,7 +4,7 @@ use Prim.Native.Nat.{ℕ, _*_, _/_, _%_, _^_, _<_, _≤_}
 use native.Mathlib.Omega.{arith}
 use mathlib.Core.Bool.{Bool, true}
 use mathlib.Core.Path.{_≡_, refl, ap, sym, _∙_}
-use mathlib.Core.Logic.{_↔_}
+use mathlib.Core.Logic.{_↔_, _⊎_}
 use mathlib.Core.List.{List, map, flatMap}
 use lib.ListN.{length, take}
 use Rattle.format.specs.Answer.{Made, over, success}
@@ -80,18 +80,18 @@ module _ (words tracks time crc parity : ℕ) (kinds : List ℕ) where
       → (named time crc parity kinds ≡ true) × (reading closed plan ks c logRoom (timeRoom / 8) ≡ gives log row)
   c-gives = gives-from words tracks time crc parity kinds
 
-  -- numbers that name a legal plan and sixteen kinds, lawful items, a log of at most 32,768 bytes, the right number of times, each below the
-  -- limit, and room: the capture is made
+  -- numbers that name a legal plan and sixteen kinds, lawful items, no open notice, a log of at most 32,768 bytes, the right number of times,
+  -- each below the limit, and room: the capture is made
   pub c-composes : (is : List Item) (row : List ℕ) (room : ℕ) → named time crc parity kinds ≡ true → legal plan ks ≡ true
-      → All (Lawful ks) is → length (logOf is) ≤ 32768
+      → All (Lawful ks) is → format.NoneOpen is → length (logOf is) ≤ 32768
       → length row ≡ timesNeeded plan (format.groupsOf plan is) → All (λ t. t < timeEnd) row
       → format.groupsOf plan is * (3 * groupWords plan) ≤ room
       → vinCompose (logOf is) (flatMap timeBytes row) room ≡ made (captureOf plan row (flatMap itemWords is))
-  c-composes is row room names lawful each short number early fits =
+  c-composes is row room names lawful each closed short number early fits =
       let whole : length (flatMap timeBytes row) % 8 ≡ 0 = rw (Times.length-times row) (omega arith) in
       let back : timesFrom (flatMap timeBytes row) ≡ row = Times.times-back row (all-map (λ t h. omega arith) early) in
       from-made words tracks time crc parity kinds (logOf is) (flatMap timeBytes row) room names whole
-      ∙ rw back (format.composes _ _ is row room lawful (named-sixteen words tracks time crc parity kinds names) each short number early fits)
+      ∙ rw back (format.composes _ _ is row room lawful (named-sixteen words tracks time crc parity kinds names) each closed short number early fits)
 
   -- demand 2: reading what was composed gives back the same log and times, given room in bytes; plain and closed
   pub c-composed-read : (closed : Bool) (log times c : List ℕ) (space logRoom timeRoom : ℕ) → Bytes log
@@ -117,13 +117,13 @@ module _ (words tracks time crc parity : ℕ) (kinds : List ℕ) where
       let whole = made-from words tracks time crc parity kinds log times c (length out) makes .1 in
       (g .0 ∙ ap (success (length log)) (Times.times-number times), g .1, g .2 ∙ bytes-left log times lentTimes timesBytes whole)
 
-  -- number 0 says that the work is done: a refusal has a number of document 01's table
+  -- number 0 says that the work is done: a refusal has a number of document 01's table, or 15
   pub c-refused-by : (log times : List ℕ) (room number place : ℕ) → vinCompose log times room ≡ refused number place
-      → (1 ≤ number) × (number ≤ 6)
+      → (1 ≤ number) × ((number ≤ 6) ⊎ (number ≡ 15))
   c-refused-by = composed-refused-from words tracks time crc parity kinds
 
   pub c-refuses-by : (closed : Bool) (c : List ℕ) (logRoom timeRoom number place : ℕ)
-      → vinRead closed c logRoom timeRoom ≡ refuses number place → (1 ≤ number) × (number ≤ 14)
+      → vinRead closed c logRoom timeRoom ≡ refuses number place → (1 ≤ number) × (number ≤ 15)
   c-refuses-by = reading-refused-from words tracks time crc parity kinds
 
   -- demand 3: given room, a log and times are what the closed reading gives if and only if composing them makes the capture

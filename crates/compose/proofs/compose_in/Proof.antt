@@ -45,18 +45,18 @@ lay-requires c κs = search needs
 enum-known-words : tie.Need-enum-known-words
 enum-known-words c = search needs
 
-slice-reshare-prefix-compose-words : tie.Need-slice-reshare-prefix-compose-words
-slice-reshare-prefix-compose-words c =
+slice-reshare-prefix-compose-laid : tie.Need-slice-reshare-prefix-compose-laid
+slice-reshare-prefix-compose-laid c =
     let w = c .before in
     row-holds (count w) (row w) (words w) (begins w) (counted w .count)
 
-slice-aggregate-compose-words : tie.Need-slice-aggregate-compose-words
-slice-aggregate-compose-words c =
+slice-aggregate-compose-laid : tie.Need-slice-aggregate-compose-laid
+slice-aggregate-compose-laid c =
     let w = c .before .before in
     sym (length-take-le (count w) (row w) (row-holds (count w) (row w) (words w) (begins w) (counted w .count)))
 
-compose-words-requires : tie.Need-compose-words-requires
-compose-words-requires c κs =
+compose-laid-requires : tie.Need-compose-laid-requires
+compose-laid-requires c κs =
     let w = c .before .before .before in
     let k = counted w in
     rw (begins w) (k .shape, omega (arith, k .count, k .few), k .unsent)
@@ -77,7 +77,7 @@ returns : tie.Need-returns
 returns c =
     let w = c .before .before .before .before .before .before in
     let a = entry (laid w) .args in
-    rw (counted w .is (a .times .now) (length (a .out .now))) (rw (begins w) at (c .before .before .compose-words .ensures))
+    rw (counted w .is (a .times .now) (length (a .out .now))) (rw (begins w) at (c .before .before .compose-laid .ensures))
 
 same-length-3 : tie.Need-same-length-3
 same-length-3 c = search needs
@@ -97,9 +97,9 @@ compose-in-spec =
     (tie.spec
     lay-requires
     enum-known-words
-    slice-reshare-prefix-compose-words
-    slice-aggregate-compose-words
-    compose-words-requires
+    slice-reshare-prefix-compose-laid
+    slice-aggregate-compose-laid
+    compose-laid-requires
     enum-known-number
     refusal-requires
     same-length

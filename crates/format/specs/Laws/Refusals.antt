@@ -1,8 +1,9 @@
--- A refusal's number is never 0, so number 0 says success: composing refuses by 1 to 6, a reading by 1 to 14.
+-- A refusal's number is never 0, so number 0 says success: composing refuses by 1 to 6 and 15, a reading by 1 to 15.
 use Prim.Native.Nat.{ℕ, zero, suc, _+_, _*_, _/_, _%_, _≤_}
 use native.Mathlib.Omega.{arith}
 use mathlib.Core.Bool.{Bool, true, false, cond, _&&_, _||_, not}
 use mathlib.Core.Path.{_≡_, refl}
+use mathlib.Core.Logic.{_⊎_, inl, inr}
 use mathlib.Core.List.{List, [], _∷_, _++_, flatMap}
 use lib.ListN.{length}
 use lib.Dec.{eqb, leb, ltb}
@@ -16,9 +17,10 @@ use Rattle.format.specs.Lists.{All, nil, cons, list}
 use Rattle.format.specs.Log.{Parsed, items, fault, consed, Next, has, ends, wrong, nextAt, parseNext, parseFrom, parsed, onPlan, logOf}
 use Rattle.format.specs.Check.{checkWord}
 use Rattle.format.specs.Group.{Fault, none, found, orElse, unless, faultAt, firstOf, storedFault, timeWordFault, timeFault, groupFault, groupSlots, groupTime}
-use Rattle.format.specs.Reader.{Slot, Ran, badAt, ran, run}
-use Rattle.format.specs.Compose.{Composed, made, refused, composed, composeParsed, composeWords, captureOf, groupsFor, firstLate}
-use Rattle.format.specs.Read.{Got, got, stopped, before, finish, onward, ifSound, readGroups, anyData, misplacedIn, misplaced, Reading, gives, refuses, roomed, unmisplaced, settled, reading}
+use Rattle.format.specs.Reader.{Slot, Ran, badAt, ran, run, placesOf}
+use Rattle.format.specs.Compose.{Composed, made, refused, composed, composeParsed, unlessOpen, composeWords, captureOf, groupsFor, firstLate}
+use Rattle.format.specs.Read.{Got, got, stopped, before, finish, onward, ifSound, readGroups, anyData, misplacedIn, misplaced, Reading, gives, refuses, roomed, unlessFound, settled, reading, openIn, slotsFrom}
+use Rattle.format.specs.Notices.{openFault, firstOpen, bitOf, firstWordOf}
 use Rattle.format.specs.Laws.Lists.{all-list, all-flat}
 use Rattle.format.specs.declared.Kind.{Kind}
 use Rattle.format.specs.declared.Item.{Item}
@@ -76,9 +78,13 @@ log-number ks log =
 pub log-refused : (ks : List Kind) (log : List ℕ) (n q : ℕ) → parsed (onPlan ks) log ≡ fault n q → (1 ≤ n) × (n ≤ 4)
 log-refused ks log n q e = rw e at (log-number ks log)
 
+-- the numbers that composing refuses by: 1 to 6, and 15
+abbrev pub ComposingNumber : ℕ → Type 0
+ComposingNumber n = (1 ≤ n) × ((n ≤ 6) ⊎ (n ≡ 15))
+
 abbrev ComposedNumber : Composed → Type 0
 ComposedNumber (made c) = Unit {0}
-ComposedNumber (refused n q) = Number 6 n
+ComposedNumber (refused n q) = ComposingNumber n
 
 words-number : (p : Plan) (times : List ℕ) (room : ℕ) (ws : List ℕ) → ComposedNumber (composeWords p times room ws)
 unfolding composeWords
@@ -88,31 +94,39 @@ words-number p times room ws =
     either ComposedNumber (eqb (length times) (timesNeeded p n))
     (cond (eqb (firstLate 0 times) (length times)) (cond (leb bytes room) (made (captureOf p times ws)) (refused 6 bytes)) (refused 5 (firstLate 0 times))) (refused 5 (timesNeeded p n))
     (either ComposedNumber (eqb (firstLate 0 times) (length times)) (cond (leb bytes room) (made (captureOf p times ws)) (refused 6 bytes)) (refused 5 (firstLate 0 times))
-    (either ComposedNumber (leb bytes room) (made (captureOf p times ws)) (refused 6 bytes) tt (omega arith, omega arith))
-    (omega arith, omega arith))
-    (omega arith, omega arith)
+    (either ComposedNumber (leb bytes room) (made (captureOf p times ws)) (refused 6 bytes) tt (omega arith, inl (omega arith)))
+    (omega arith, inl (omega arith)))
+    (omega arith, inl (omega arith))
+
+-- the fault of an open notice is 15
+open-number : (place : ℕ → ℕ) (is : List Item) (p : Plan) (times : List ℕ) (room : ℕ) → ComposedNumber (unlessOpen (openFault place is) (composeWords p times room (flatMap itemWords is)))
+open-number place is p times room = go (eqb (firstOpen is) (length is))
+  where
+    go : (b : Bool) → ComposedNumber (unlessOpen (unless b 15 (place (firstOpen is))) (composeWords p times room (flatMap itemWords is)))
+    go true = words-number p times room (flatMap itemWords is)
+    go false = (omega arith, inr refl)
 
 parsed-number : (p : Plan) (times : List ℕ) (room : ℕ) (r : Parsed) → ParsedNumber r → ComposedNumber (composeParsed p times room r)
-parsed-number p times room (items is) h = words-number p times room (flatMap itemWords is)
-parsed-number p times room (fault n q) h = (h .0, omega (arith, h .1))
+parsed-number p times room (items is) h = open-number (bitOf is) is p times room
+parsed-number p times room (fault n q) h = (h .0, inl (omega (arith, h .1)))
 
 composed-number : (p : Plan) (ks : List Kind) (log times : List ℕ) (room : ℕ) → ComposedNumber (composed p ks log times room)
 unfolding composed
 composed-number p ks log times room =
     either ComposedNumber (legal p ks) (composeParsed p times room (parsed (onPlan ks) log)) (refused 1 0)
     (parsed-number p times room (parsed (onPlan ks) log) (log-number ks log))
-    (omega arith, omega arith)
+    (omega arith, inl (omega arith))
 
-pub composed-refused : (p : Plan) (ks : List Kind) (log times : List ℕ) (room n q : ℕ) → composed p ks log times room ≡ refused n q → (1 ≤ n) × (n ≤ 6)
+pub composed-refused : (p : Plan) (ks : List Kind) (log times : List ℕ) (room n q : ℕ) → composed p ks log times room ≡ refused n q → ComposingNumber n
 composed-refused p ks log times room n q e = rw e at (composed-number p ks log times room)
 
 -- ---- reading
 
 abbrev FaultNumber : Fault → Type 0
 FaultNumber none = Unit {0}
-FaultNumber (found n q) = Number 14 n
+FaultNumber (found n q) = Number 15 n
 
-unless-number : (b : Bool) (n p : ℕ) → Number 14 n → FaultNumber (unless b n p)
+unless-number : (b : Bool) (n p : ℕ) → Number 15 n → FaultNumber (unless b n p)
 unless-number true n p h = tt
 unless-number false n p h = h
 
@@ -160,7 +174,7 @@ group-number p c at =
 
 abbrev GotNumber : Got → Type 0
 GotNumber (got is) = Unit {0}
-GotNumber (stopped n q) = Number 14 n
+GotNumber (stopped n q) = Number 15 n
 
 finish-number : (h : Held) (at : ℕ) → GotNumber (finish h at)
 finish-number Nothing at = tt
@@ -207,7 +221,7 @@ fill-number p (ss ∷ gs) =
 
 abbrev ReadingNumber : Reading → Type 0
 ReadingNumber (gives log times) = Unit {0}
-ReadingNumber (refuses n q) = Number 14 n
+ReadingNumber (refuses n q) = Number 15 n
 
 module _ (closed : Bool) (p : Plan) (ks : List Kind) (c : List ℕ) (logRoom timeRoom : ℕ) where
   abbrev groups : ℕ
@@ -220,7 +234,7 @@ module _ (closed : Bool) (p : Plan) (ks : List Kind) (c : List ℕ) (logRoom tim
       either ReadingNumber (leb (length log) 32768 && leb (length log) logRoom) (cond (leb need timeRoom) given (refuses 7 need)) (refuses 6 (length log))
       (either ReadingNumber (leb need timeRoom) given (refuses 7 need) tt (omega arith, omega arith)) (omega arith, omega arith)
 
-  placed-number : (f : Fault) (r : Reading) → FaultNumber f → ReadingNumber r → ReadingNumber (unmisplaced f r)
+  placed-number : (f : Fault) (r : Reading) → FaultNumber f → ReadingNumber r → ReadingNumber (unlessFound f r)
   placed-number none r h k = k
   placed-number (found n q) r h k = h
 
@@ -228,7 +242,9 @@ module _ (closed : Bool) (p : Plan) (ks : List Kind) (c : List ℕ) (logRoom tim
   settled-number (stopped n q) h = h
   settled-number (got is) h =
       let fill : Fault = misplaced p (list (λ g. groupSlots p c (g * groupWords p)) 0 groups) in
-      placed-number (cond closed fill none) (roomed p c groups logRoom timeRoom (logOf is)) (either FaultNumber closed fill none (fill-number p (list (λ g. groupSlots p c (g * groupWords p)) 0 groups)) tt) (room-number (logOf is))
+      placed-number (openIn p c groups is) (unlessFound (cond closed fill none) (roomed p c groups logRoom timeRoom (logOf is)))
+      (unless-number (eqb (firstOpen is) (length is)) 15 (firstWordOf (placesOf (slotsFrom p c groups 0)) is (firstOpen is)) (omega arith, omega arith))
+      (placed-number (cond closed fill none) (roomed p c groups logRoom timeRoom (logOf is)) (either FaultNumber closed fill none (fill-number p (list (λ g. groupSlots p c (g * groupWords p)) 0 groups)) tt) (room-number (logOf is)))
 
   reading-number : ReadingNumber (reading closed p ks c logRoom timeRoom)
   unfolding reading
@@ -240,5 +256,5 @@ module _ (closed : Bool) (p : Plan) (ks : List Kind) (c : List ℕ) (logRoom tim
       (omega arith, omega arith)
 
 pub reading-refused : (closed : Bool) (p : Plan) (ks : List Kind) (c : List ℕ) (logRoom timeRoom n q : ℕ) → reading closed p ks c logRoom timeRoom ≡ refuses n q
-    → (1 ≤ n) × (n ≤ 14)
+    → (1 ≤ n) × (n ≤ 15)
 reading-refused closed p ks c logRoom timeRoom n q e = rw e at (reading-number closed p ks c logRoom timeRoom)

@@ -10,7 +10,7 @@ use Rattle.format.specs.Answer.{Given}
 use Rattle.format.specs.Read.{roomed}
 use Rattle.format.specs.declared.Plan.{Plan}
 use Rattle.read_groups.specs.End.{Logged, Ended}
-use Rattle.read.proofs.Given.{given-refused, some-words, whole-groups, built-of, stops-settled, fill-settled, fill-few, log-settled}
+use Rattle.read.proofs.Given.{given-refused, some-words, whole-groups, built-of, stops-settled, open-settled, open-few, fill-settled, fill-few, log-settled}
 use Rattle.read.proofs.read_by.Statement.{statement}
 use Rattle.read.proofs.read_by.Tie as tie
 
@@ -61,14 +61,24 @@ read c = c .before .before .before .before
 logged : (c : Logged-all) → Logged (start (read c) .args .kinds) (plan (read c)) (capture (read c)) (groups (read c)) (read c .read-groups .result) (built (read c))
 logged c = ended (read c) .logged (c .if1 .left)
 
+-- no notice is open
+abbrev Answered-all : Type 0
+Answered-all = tie.Else2
+
+abbrev brought : Answered-all → Logged-all
+brought c = c .before .before
+
 -- misplaced fill was asked for
 abbrev Asked : Type 0
 Asked = tie.After-asked
 
+abbrev answered : Asked → Answered-all
+answered c = c .before
+
 few : (c : Asked) → c .asked .result ≤ 349525
 few c =
-    let r = read (c .before) in
-    fill-few (plan r) (capture r) (groups r) (length (log r)) (length (times r)) (start r .args .closed) (logged (c .before)) (c .asked .result) (c .asked .ensures)
+    let r = read (brought (answered c)) in
+    fill-few (plan r) (capture r) (groups r) (length (log r)) (length (times r)) (start r .args .closed) (logged (brought (answered c))) (answered c .if2 .left) (c .asked .result) (c .asked .ensures)
     (length (capture r)) (whole r) (start r .pre .0 .1) (start r .pre .0 .0)
 
 -- ---- the needs
@@ -100,17 +110,17 @@ returns c =
     given-refused (log r) (times r)
     (stops-settled (plan r) (capture r) (groups r) (length (log r)) (length (times r)) (start r .args .closed) (ended r) (t .if1 .taken)) (c .refusal .ensures)
 
-asked-requires : tie.Need-asked-requires
-asked-requires c κs = search needs
-
 sub-stored-place : tie.Need-sub-stored-place
-sub-stored-place c = omega (arith, c .if2 .taken)
+sub-stored-place c = omega (arith, c .before .if2 .taken)
 
 stored-place-requires : tie.Need-stored-place-requires
 stored-place-requires c κs =
-    let a = c .before in
-    let r = read (a .before) in
-    (start r .pre .0 .0, r .before .before .slots .ensures .0, omega (arith, few a))
+    let l = c .before .before .before in
+    let r = read l in (
+      start r .pre .0 .0,
+      r .before .before .slots .ensures .0,
+      omega (arith, open-few (plan r) (capture r) (groups r) (length (log r)) (length (times r)) (start r .args .closed) (logged l) (length (capture r)) (whole r) (start r .pre .0 .1) (start r .pre .0 .0)),
+    )
 
 refusal-requires-2 : tie.Need-refusal-requires-2
 refusal-requires-2 c κs = search needs
@@ -120,17 +130,45 @@ same-length-2 c = search needs
 
 returns-2 : tie.Need-returns-2
 returns-2 c =
+    let t = c .before .before .before in
+    let l = t .before .before in
+    let r = read l in
+    given-refused (log r) (times r)
+    (open-settled (plan r) (capture r) (groups r) (length (log r)) (length (times r)) (start r .args .closed) (logged l) (t .if2 .taken) (c .before .stored-place .ensures))
+    (c .refusal2 .ensures)
+
+asked-requires : tie.Need-asked-requires
+asked-requires c κs = search needs
+
+sub-stored-place-2 : tie.Need-sub-stored-place-2
+sub-stored-place-2 c = omega (arith, c .if3 .taken)
+
+stored-place-requires-2 : tie.Need-stored-place-requires-2
+stored-place-requires-2 c κs =
+    let a = c .before in
+    let r = read (brought (answered a)) in
+    (start r .pre .0 .0, r .before .before .slots .ensures .0, omega (arith, few a))
+
+refusal-requires-3 : tie.Need-refusal-requires-3
+refusal-requires-3 c κs = search needs
+
+same-length-3 : tie.Need-same-length-3
+same-length-3 c = search needs
+
+returns-3 : tie.Need-returns-3
+returns-3 c =
     let t = c .before .before in
     let a = t .before in
-    let r = read (a .before) in
+    let l = brought (answered a) in
+    let r = read l in
     given-refused (log r) (times r)
-    (fill-settled (plan r) (capture r) (groups r) (length (log r)) (length (times r)) (start r .args .closed) (logged (a .before)) (a .asked .result) (a .asked .ensures)
-    (t .if2 .taken) (c .before .stored-place .ensures))
-    (c .refusal2 .ensures)
+    (fill-settled (plan r) (capture r) (groups r) (length (log r)) (length (times r)) (start r .args .closed) (logged l) (answered a .if2 .left) (a .asked .result) (a .asked .ensures)
+    (t .if3 .taken) (c .before .stored-place2 .ensures))
+    (c .refusal3 .ensures)
 
 give-requires : tie.Need-give-requires
 give-requires c κs =
-    let l = c .before .before .before .before .before in
+    let l = brought (answered (c .before .before .before .before)) in
     let r = read l in
     let s = start r in
     let g = logged l in (
@@ -141,23 +179,24 @@ give-requires c κs =
           omega (arith, w, e, g .bytes),
     )
 
-same-length-3 : tie.Need-same-length-3
-same-length-3 c = search needs
-
 same-length-4 : tie.Need-same-length-4
 same-length-4 c = search needs
 
 same-length-5 : tie.Need-same-length-5
 same-length-5 c = search needs
 
-returns-3 : tie.Need-returns-3
-returns-3 c =
+same-length-6 : tie.Need-same-length-6
+same-length-6 c = search needs
+
+returns-4 : tie.Need-returns-4
+returns-4 c =
     let given = c .before .before .before .before in
     let o = given .before .before .before .before in
     let a = o .before in
-    let l = a .before in
+    let l = brought (answered a) in
     let r = read l in
-    rw (log-settled (plan r) (capture r) (groups r) (length (log r)) (length (times r)) (start r .args .closed) (logged l) (a .asked .result) (a .asked .ensures) (o .if2 .left))
+    rw (log-settled (plan r) (capture r) (groups r) (length (log r)) (length (times r)) (start r .args .closed) (logged l) (answered a .if2 .left) (a .asked .result) (a .asked .ensures)
+    (o .if3 .left))
     (subst
     (λ (n : ℕ).
     Given (roomed (plan r) (capture r) n (length (log r)) (length (times r)) (logOf (logged l .items))) (given .give .result) (log r)
@@ -174,14 +213,19 @@ read-by-spec =
     refusal-requires
     same-length
     returns
-    asked-requires
     sub-stored-place
     stored-place-requires
     refusal-requires-2
     same-length-2
     returns-2
-    give-requires
+    asked-requires
+    sub-stored-place-2
+    stored-place-requires-2
+    refusal-requires-3
     same-length-3
+    returns-3
+    give-requires
     same-length-4
     same-length-5
-    returns-3)
+    same-length-6
+    returns-4)

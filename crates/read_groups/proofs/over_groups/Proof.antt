@@ -11,21 +11,26 @@ use Rattle.format.specs.Reader.{counted}
 use Rattle.format.specs.Read.{stopped}
 use Rattle.format.specs.Laws.Limits.{Shape, group-most, mostGroupWords, slots-most, lead-few}
 use Rattle.format.specs.Laws.Reader.Named.{wordsIn}
+use Rattle.format.specs.Laws.Word.Bytes.{all-bytes}
 use Rattle.format.specs.declared.Plan.{Plan}
 use Rattle.group_read.proofs.Answers.{words-length, words-low}
 use Rattle.read_groups.specs.Misplaced.{numbersOf}
 use Rattle.read_groups.specs.Groups.{Over}
+use Rattle.notices.specs.Laws.Groups.{openNumber, NotedTo, noted-none, noted-more, noted-all}
+use Rattle.notices.specs.Table.{earliestOf}
+use Rattle.notices.specs.Laws.Rows.{no-arinc-open}
 use Rattle.read_groups.proofs.Groups.{over-none, over-fault, over-bad, over-more, over-all, since-low, numbers-few, dealt-all, group-room}
 use Rattle.read_groups.proofs.Groups.{part-length, dealt-none, dealt-found, dealt-low, dealt-words}
 use Rattle.read_groups.proofs.over_groups.Statement.{statement}
 use Rattle.read_groups.proofs.over_groups.Tie as tie
 
 abbrev Inv-loop : tie.InvT-loop
-Inv-loop kinds plan count capture groups row₀ out₀ size first behind start pass₀ g₀ from₀ row out pass g from =
+Inv-loop kinds plan count capture groups row₀ out₀ size first behind start arinc table₀ found₀ pass₀ g₀ from₀ row out table found pass g from =
     (g ≤ groups) × (from ≡ g * slots plan) × (length row ≡ length row₀) × Over kinds plan capture groups out₀ g pass out
+    × (length table ≡ 64) × NotedTo kinds plan capture groups g found table
 
 abbrev μ-loop : tie.MeasureT-loop
-μ-loop kinds plan count capture groups row₀ out₀ size first behind start pass₀ g₀ from₀ row out pass g from = groups - g
+μ-loop kinds plan count capture groups row₀ out₀ size first behind start arinc table₀ found₀ pass₀ g₀ from₀ row out table found pass g from = groups - g
 
 -- ---- the places
 
@@ -34,7 +39,7 @@ abbrev AtLoop : Type 0
 AtLoop = tie.At-loop Inv-loop μ-loop
 
 abbrev start : AtLoop → tie.Start Inv-loop μ-loop
-start c = c .before .before .before .before .before .before .before
+start c = c .before .before .before .before .before .before .before .before
 
 abbrev plan : AtLoop → Plan
 plan c = start c .args .plan
@@ -56,7 +61,7 @@ room : (c : InLoop) → c .before .loop .g * (3 * groupWords (plan (c .before)))
 room c = let l = c .before in group-room (plan l) (shape l) (start l .args .groups) (l .loop .g) (length (capture l)) (all l) (c .loop-test .taken)
 
 bytes : (c : AtLoop) (i : ℕ) → getD (capture c) i 0 < 2 ^ 8
-bytes c i = omega (arith, c .before .before .before .before .before .before .shared-slice-known .given i)
+bytes c i = omega (arith, c .before .before .before .before .before .before .before .shared-slice-known .given i)
 
 size : (c : AtLoop) → groupWords (plan c) ≤ mostGroupWords
 size c = group-most (plan c) (shape c)
@@ -90,21 +95,21 @@ dealt c = c .before .before .before .before
 abbrev group : Sound-group → AtLoop
 group c = loop (dealt c)
 
-first : (c : Sound-group) → group c .before .before .lead .result ≡ lead (plan (group c))
-first c = group c .before .before .lead .ensures
+first : (c : Sound-group) → group c .before .before .before .lead .result ≡ lead (plan (group c))
+first c = group c .before .before .before .lead .ensures
 
 abbrev words : Sound-group → List ℕ
 words c = wordsIn (groupSlots (plan (group c)) (capture (group c)) (group c .loop .g * groupWords (plan (group c))))
 
 abbrev part : Sound-group → List ℕ
 part c =
-    let n = group c .before .before .lead .result in
+    let n = group c .before .before .before .lead .result in
     take (n + start (group c) .args .count - n) (drop n (row (dealt c)))
 
 part-is : (c : Sound-group) → part c ≡ words c
 part-is c =
     let l = group c in
-    dealt-words (plan l) (shape l) (capture l) (l .loop .g) (dealt c .deal .ensures) (l .before .before .lead .result) (start l .args .count) (c .if1 .left) (first c)
+    dealt-words (plan l) (shape l) (capture l) (l .loop .g) (dealt c .deal .ensures) (l .before .before .before .lead .result) (start l .args .count) (c .if1 .left) (first c)
     (start l .pre .0 .1)
 
 part-length-is : (c : Sound-group) → length (part c) ≡ slots (plan (group c))
@@ -121,6 +126,17 @@ counted-is c = ap₂ counted (group c .loop .inv .1) (part-is c)
 
 sound : (c : Sound-group) → groupFault (plan (group c)) (capture (group c)) (group c .loop .g * groupWords (plan (group c))) ≡ none
 sound c = dealt-none (plan (group c)) (shape (group c)) (capture (group c)) (group c .loop .g) (dealt c .deal .ensures) (c .if1 .left)
+
+words-of-row : (c : Sound-group) (i : ℕ) → i < length (part c) → getD (part c) i 0 < 2 ^ 24
+words-of-row c i h =
+    let l = group c in
+    rw (part-is c) (words-low (plan l) (capture l) (l .loop .g * groupWords (plan l)) (bytes l) i (rw (part-is c) at h))
+
+part-room : (c : Sound-group) → group c .before .before .before .lead .result + start (group c) .args .count ≤ length (row (dealt c))
+part-room c =
+    let l = group c in
+    let r = start l .pre .0 .2 (omega (arith, in-loop (dealt c) .loop-test .taken)) in
+    omega (arith, first c, start l .pre .0 .1, dealt c .deal .ensures .long, l .loop .inv .2, r, dealt-all (plan l) (shape l))
 
 -- its row was read
 abbrev Ran-row : Type 0
@@ -143,6 +159,44 @@ since-few c =
       numbers e,
     )
 
+-- no word of it is bad
+abbrev Good-row : Type 0
+Good-row = tie.Else2 Inv-loop μ-loop
+
+abbrev good : Good-row → Ran-row
+good c = c .before .before .before
+
+abbrev good-group : Good-row → Sound-group
+good-group c = of-row (good c)
+
+-- and its notices are noted
+abbrev Noted-row : Type 0
+Noted-row = tie.After-note-row Inv-loop μ-loop
+
+abbrev noted : Noted-row → Good-row
+noted c = c .before .before .before .before
+
+noted-next : (c : Noted-row)
+    → let e = good-group (noted c) in
+    let l = group e in NotedTo (start l .args .kinds) (plan l) (capture l) (start l .args .groups) (l .loop .g + 1) (c .note-row .result) (c .note-row .last .1 .1 .1 .1 .1 .0)
+noted-next c =
+    let e = good-group (noted c) in
+    let l = group e in
+    noted-more (start l .args .kinds) (plan l) (capture l) (start l .args .groups) (l .loop .g) (in-loop (dealt e) .loop-test .taken) (l .loop .inv .5) (l .loop .from) (part e)
+    (l .loop .inv .1) (part-is e) (c .note-row .ensures)
+
+-- all groups were passed
+abbrev Passed : Type 0
+Passed = tie.After-loop Inv-loop μ-loop
+
+last : (c : Passed) → c .before .loop .g ≡ start (c .before) .args .groups
+last c = omega (arith, c .loop-test .left, c .before .loop .inv .0)
+
+earliest : (c : Passed) → let l = c .before in earliestOf (l .loop .found) (l .loop .table) ≡ openNumber (start l .args .kinds) (plan l) (capture l) (start l .args .groups)
+earliest c =
+    let l = c .before in
+    noted-all (start l .args .kinds) (plan l) (capture l) (start l .args .groups) (all-bytes (capture l) (bytes l)) (l .loop .g) (last c) (l .loop .inv .5)
+
 -- ---- the needs
 
 mul-size : tie.Need-mul-size Inv-loop μ-loop
@@ -159,8 +213,11 @@ add-behind c =
 start-pass-requires : tie.Need-start-pass-requires Inv-loop μ-loop
 start-pass-requires c κs = search needs
 
+has-arinc-requires : tie.Need-has-arinc-requires Inv-loop μ-loop
+has-arinc-requires c κs = search needs
+
 loop-holds : tie.Need-loop-holds Inv-loop μ-loop
-loop-holds c = (omega arith, omega arith, refl, over-none _ _ _ _ _ (c .start-pass .ensures))
+loop-holds c = (omega arith, omega arith, refl, over-none _ _ _ _ _ (c .before .start-pass .ensures), refl, noted-none _ _ _ _)
 
 mul-begin : tie.Need-mul-begin Inv-loop μ-loop
 mul-begin c = omega (arith, size (c .before))
@@ -192,11 +249,11 @@ deal-requires c κs =
       omega (arith, l .loop .inv .2, start l .pre .0 .2 (omega (arith, i .loop-test .taken))),
     )
 
-mul-t25 : tie.Need-mul-t25 Inv-loop μ-loop
-mul-t25 c = let d = c .before .before .before .before in omega (arith, room (in-loop d), start (loop d) .pre .1 .1)
+mul-t29 : tie.Need-mul-t29 Inv-loop μ-loop
+mul-t29 c = let d = c .before .before .before .before in omega (arith, room (in-loop d), start (loop d) .pre .1 .1)
 
-add-t26 : tie.Need-add-t26 Inv-loop μ-loop
-add-t26 c = let d = c .before .before .before .before .before in omega (arith, low d, room (in-loop d), start (loop d) .pre .1 .1)
+add-t30 : tie.Need-add-t30 Inv-loop μ-loop
+add-t30 c = let d = c .before .before .before .before .before in omega (arith, low d, room (in-loop d), start (loop d) .pre .1 .1)
 
 same-length : tie.Need-same-length Inv-loop μ-loop
 same-length c = search needs
@@ -211,6 +268,7 @@ returns c =
     let l = loop d in
     record {
       through = λ z. absurd (t .if1 .taken z);
+      notice = λ z. absurd (t .if1 .taken z);
       stops = λ z.
           over-fault (start l .args .kinds) (plan l) (capture l) (start l .args .groups) (start l .args .out .now) (shape l) (l .loop .g) (in-loop d .loop-test .taken) (l .loop .pass)
           (l .loop .out) (over l) (dealt-found (plan l) (shape l) (capture l) (l .loop .g) (d .deal .ensures) z);
@@ -226,18 +284,14 @@ part-on-row-start : tie.Need-part-on-row-start Inv-loop μ-loop
 part-on-row-start c = search needs
 
 part-on-row-end : tie.Need-part-on-row-end Inv-loop μ-loop
-part-on-row-end c =
-    let e = c .before in
-    let l = group e in
-    let r = start l .pre .0 .2 (omega (arith, in-loop (dealt e) .loop-test .taken)) in
-    omega (arith, first e, start l .pre .0 .1, dealt e .deal .ensures .long, l .loop .inv .2, r, dealt-all (plan l) (shape l))
+part-on-row-end c = part-room (c .before)
 
 on-row-requires : tie.Need-on-row-requires Inv-loop μ-loop
 on-row-requires c κs =
     let e = c .before .before .before in
     let l = group e in (
       over l .brought .sound,
-      λ i h. rw (part-is e) (words-low (plan l) (capture l) (l .loop .g * groupWords (plan l)) (bytes l) i (rw (part-is e) at h)),
+      words-of-row e,
       rw (l .loop .inv .1) (over l .few),
       omega (arith, l .loop .inv .1, part-length-is e, numbers e),
     )
@@ -259,32 +313,72 @@ returns-2 c =
     let l = group e in
     record {
       through = λ z. absurd (omega arith);
+      notice = λ z. absurd (omega arith);
       stops = λ z.
           over-bad (start l .args .kinds) (plan l) (capture l) (start l .args .groups) (start l .args .out .now) (shape l) (l .loop .g) (in-loop (dealt e) .loop-test .taken)
           (l .loop .pass) (l .loop .out) (over l) (counted (l .loop .from) (part e)) (counted-is e) (sound e) (r .on-row .result) (out r) (r .on-row .ensures .0) (t .if2 .taken)
           ∙ ap (stopped 13) (sym (c .stored-place .ensures));
     }
 
+mul-note-row : tie.Need-mul-note-row Inv-loop μ-loop
+mul-note-row c = let e = good-group c in omega (arith, first e, lead-few (plan (group e)))
+
+sub-note-row : tie.Need-sub-note-row Inv-loop μ-loop
+sub-note-row c = search needs
+
+part-note-row-start : tie.Need-part-note-row-start Inv-loop μ-loop
+part-note-row-start c = search needs
+
+part-note-row-end : tie.Need-part-note-row-end Inv-loop μ-loop
+part-note-row-end c = part-room (good-group (c .before))
+
+slice-aggregate-note-row : tie.Need-slice-aggregate-note-row Inv-loop μ-loop
+slice-aggregate-note-row c = search needs
+
+note-row-requires : tie.Need-note-row-requires Inv-loop μ-loop
+note-row-requires c κs =
+    let e = good-group (c .before .before .before) in
+    let l = group e in (
+      l .before .has-arinc .ensures,
+      words-of-row e,
+      omega (arith, part-length-is e, numbers e),
+      omega (arith, l .loop .inv .1, part-length-is e, numbers e),
+      l .loop .inv .4,
+    )
+
 add-from : tie.Need-add-from Inv-loop μ-loop
-add-from c = let e = of-row (c .before .before .before) in omega (arith, group e .loop .inv .1, start (group e) .pre .0 .1, numbers e)
+add-from c = let e = good-group (noted (c .before)) in omega (arith, group e .loop .inv .1, start (group e) .pre .0 .1, numbers e)
 
 add-g : tie.Need-add-g Inv-loop μ-loop
-add-g c = let e = of-row (c .before .before .before) in omega (arith, in-loop (dealt e) .loop-test .taken, start (group e) .fits .groups)
+add-g c = let e = good-group (noted (c .before)) in omega (arith, in-loop (dealt e) .loop-test .taken, start (group e) .fits .groups)
 
 loop-less : tie.Need-loop-less Inv-loop μ-loop
-loop-less c = omega (arith, in-loop (dealt (of-row (c .before .before .before))) .loop-test .taken)
+loop-less c = omega (arith, in-loop (dealt (good-group (noted (c .before)))) .loop-test .taken)
 
 loop-again : tie.Need-loop-again Inv-loop μ-loop
 loop-again c =
-    let r = c .before .before .before in
+    let q = noted (c .before) in
+    let r = good q in
     let e = of-row r in
     let l = group e in (
       omega (arith, in-loop (dealt e) .loop-test .taken),
       omega (arith, l .loop .inv .1, start l .pre .0 .1),
       dealt e .deal .ensures .long ∙ l .loop .inv .2,
       over-more (start l .args .kinds) (plan l) (capture l) (start l .args .groups) (start l .args .out .now) (shape l) (l .loop .g) (in-loop (dealt e) .loop-test .taken)
-          (l .loop .pass) (l .loop .out) (over l) (counted (l .loop .from) (part e)) (counted-is e) (sound e) (r .on-row .result) (out r) (r .on-row .ensures .0) (c .if2 .left)
-          (omega (arith, r .on-row .ensures .1 (c .if2 .left), l .loop .inv .1, part-length-is e)),
+          (l .loop .pass) (l .loop .out) (over l) (counted (l .loop .from) (part e)) (counted-is e) (sound e) (r .on-row .result) (out r) (r .on-row .ensures .0) (q .if2 .left)
+          (omega (arith, r .on-row .ensures .1 (q .if2 .left), l .loop .inv .1, part-length-is e)),
+      c .table2 .given,
+      noted-next (c .before),
+    )
+
+slice-aggregate-at-end : tie.Need-slice-aggregate-at-end Inv-loop μ-loop
+slice-aggregate-at-end c = search needs
+
+at-end-requires : tie.Need-at-end-requires Inv-loop μ-loop
+at-end-requires c κs =
+    let l = c .before .before in (
+      omega (arith, l .loop .inv .4),
+      λ z. earliest (c .before) ∙ no-arinc-open (start l .args .kinds) (plan l .parity) (sym (l .before .has-arinc .ensures) ∙ z) _,
     )
 
 same-length-5 : tie.Need-same-length-5 Inv-loop μ-loop
@@ -295,9 +389,9 @@ same-length-6 c = search needs
 
 returns-3 : tie.Need-returns-3 Inv-loop μ-loop
 returns-3 c =
-    let l = c .before in
-    let e : l .loop .g ≡ start l .args .groups = omega (arith, c .loop-test .left, l .loop .inv .0) in
-    record { through = λ z. over-all _ _ _ _ _ _ e (over l); stops = λ z. absurd (z refl) }
+    let e = c .before .before in
+    let l = e .before in
+    record { through = λ z. over-all _ _ _ _ _ _ (last e) (over l); notice = λ z. c .at-end .ensures ∙ earliest e; stops = λ z. absurd (z refl) }
 
 pub over-groups-spec : {M : Type 1} → statement M
 over-groups-spec =
@@ -309,6 +403,7 @@ over-groups-spec =
     lead-requires
     add-behind
     start-pass-requires
+    has-arinc-requires
     loop-holds
     mul-begin
     mul-begin-2
@@ -318,8 +413,8 @@ over-groups-spec =
     part-deal-start
     part-deal-end
     deal-requires
-    mul-t25
-    add-t26
+    mul-t29
+    add-t30
     same-length
     same-length-2
     returns
@@ -332,10 +427,18 @@ over-groups-spec =
     same-length-3
     same-length-4
     returns-2
+    mul-note-row
+    sub-note-row
+    part-note-row-start
+    part-note-row-end
+    slice-aggregate-note-row
+    note-row-requires
     add-from
     add-g
     loop-less
     loop-again
+    slice-aggregate-at-end
+    at-end-requires
     same-length-5
     same-length-6
     returns-3)

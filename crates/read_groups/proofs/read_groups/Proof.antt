@@ -6,6 +6,7 @@ use mathlib.Core.List.{List}
 use Rattle.format.specs.Plan.{slots, storedAt}
 use Rattle.format.specs.Read.{finish}
 use Rattle.format.specs.Laws.Limits.{free}
+use Rattle.format.specs.Laws.Word.Bytes.{all-bytes}
 use Rattle.format.specs.declared.Plan.{Plan}
 use Rattle.data_word.specs.Holding.{heldOf}
 use Rattle.data_word.specs.Meaning.{Closes}
@@ -128,7 +129,9 @@ returns-3 c =
     let a = all f in
     let s = start (walked a) in
     let e = p .put-step .ensures in
-    ends-log _ _ _ _ _ _ _ (through a) (f .finish .result) (closes f) (good p .if2 .left) (free (s .args .plan) (s .pre .0 .0)) (rw (← (e .0)) (closed .close .ensures .0))
+    ends-log _ _ _ _ _ _ _ (through a) (f .finish .result) (closes f) (good p .if2 .left) (free (s .args .plan) (s .pre .0 .0))
+    (all-bytes (s .args .capture .now) (λ i. omega (arith, walked a .before .before .before .shared-slice-known .given i))) (walked a .walk-groups .ensures .notice (a .if1 .left))
+    (rw (← (e .0)) (closed .close .ensures .0))
     (rw (← (e .0), ← (e .1)) (closed .close .ensures .1))
 
 pub read-groups-spec : {M : Type 1} → statement M

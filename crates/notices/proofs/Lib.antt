@@ -1,0 +1,3 @@
+-- Laws over plain values for the functions' proofs.
+pub mod Counts
+pub mod OneWord

@@ -1,0 +1,219 @@
+// Error notices that wait for their word (K2). A lent table of 64 numbers, one for each bus and channel, has the number of the notice
+// that waits there, one up, and 0 where none does. It goes from the first word to the last and so serves a row at a time; numbers
+// count words in dealt order, so the least is the earliest.
+ghost use mathlib.Core.Path.{_≡_};
+ghost use mathlib.Core.Bool.{false};
+ghost use Prim.Native.Nat.{_+_, _<_, _^_};
+ghost use lib.ListN.{length};
+ghost use Rattle.format.specs.Reader.{counted};
+ghost use Rattle.format.specs.Word.{part};
+ghost use Rattle.notices.specs.Roles.{Words, isSyllable, openRow, rolesIn, roleOn};
+ghost use Rattle.notices.specs.Table.{RowNoted, allZero, anyNotice, earlier, earliestOf, hasArinc, isArinc, isQuiet, noted};
+use format::Kind;
+
+fn is_arinc(kind: Kind) -> bool
+    ensures { λ r. ⌜ r ≡ isArinc kind ⌝ }
+{
+    match kind {
+        Kind::Unused => false,
+        Kind::Mil1553 => false,
+        Kind::Arinc429 => true,
+    }
+}
+
+// Whether a bus has ARINC words: else there are no notices.
+pub fn has_arinc(kinds: [Kind; 16]) -> bool
+    ensures { λ r. ⌜ r ≡ hasArinc kinds ⌝ }
+{
+    let mut bus: usize = 0;
+    while bus < 16 {
+        if is_arinc(kinds[bus]) {
+            return true;
+        }
+        bus += 1;
+    }
+    false
+}
+
+// The earlier of two numbers that are one up, 0 for none.
+fn earlier(a: u64, b: u64) -> u64
+    ensures { λ r. ⌜ r ≡ earlier a b ⌝ }
+{
+    if a == 0 {
+        return b;
+    }
+    if b == 0 {
+        return a;
+    }
+    if a <= b { a } else { b }
+}
+
+// The label of a high syllable: 9, 11, 13 or 15.
+fn is_syllable(label: u32) -> bool
+    ensures { λ r. ⌜ r ≡ isSyllable label ⌝ }
+{
+    8 <= label && label % 2 == 1
+}
+
+// One word of this number, on a bus of this kind: a notice shows the one that waited open, and waits; an ARINC word, told by its high
+// syllable, answers.
+fn on_word(
+    kind: Kind,
+    bus: u32,
+    label: u32,
+    information: u32,
+    number: u64,
+    table: &mut [u64],
+    found: u64,
+) -> u64
+    requires { ⌜ (bus < 16) × (length (now table) ≡ 64) × (number < 2 ^ 63) ⌝ }
+    ensures { λ r. ⌜ (r, now (table .exit)) ≡ noted number (roleOn kind (part bus label information)) (found, now (table .entry)) ⌝ }
+{
+    if is_arinc(kind) {
+        if label == 4 {
+            let entry = (bus * 4 + information / 8192 % 4) as usize;
+            let old = table[entry];
+            table[entry] = number + 1;
+            return earlier(found, old);
+        }
+        if is_syllable(label) {
+            let entry = (bus * 4 + label / 2 % 4) as usize;
+            table[entry] = 0;
+        }
+    }
+    found
+}
+
+// The words of a row, the first of them the number `from`.
+fn over_row(
+    kinds: [Kind; 16],
+    parity: bool,
+    row: &[u32],
+    from: u64,
+    table: &mut [u64],
+    found: u64,
+) -> u64
+    requires { ⌜ Words (now row) × (from + length (now row) < 2 ^ 63) × (length (now table) ≡ 64) ⌝ }
+    ensures { λ r. ⌜ RowNoted kinds parity from (now (row .entry)) found (now (table .entry)) r (now (table .exit)) ⌝ }
+{
+    let mut found = found;
+    let mut i: usize = 0;
+    while i < row.len() {
+        let word = row[i];
+        let bus = word::bus_of(parity, word);
+        found = on_word(
+            kinds[bus as usize],
+            bus,
+            word::label_of(word),
+            word::information_of(word),
+            from + i as u64,
+            table,
+            found,
+        );
+        i += 1;
+    }
+    found
+}
+
+// Whether nothing waits: a look without branches.
+fn is_clear(table: &[u64]) -> bool
+    requires { ⌜ length (now table) < 2 ^ 31 ⌝ }
+    ensures { λ r. ⌜ r ≡ allZero (now (table .entry)) ⌝ }
+{
+    let mut waiting: u32 = 0;
+    let mut i: usize = 0;
+    while i < table.len() {
+        waiting += (table[i] != 0) as u32;
+        i += 1;
+    }
+    waiting == 0
+}
+
+// Whether a word has the label of a notice, whatever its bus: few rows have one, so it is a look without branches too.
+fn any_notice(row: &[u32]) -> bool
+    requires { ⌜ length (now row) < 2 ^ 31 ⌝ }
+    ensures { λ r. ⌜ r ≡ anyNotice (now (row .entry)) ⌝ }
+{
+    let mut count: u32 = 0;
+    let mut i: usize = 0;
+    while i < row.len() {
+        count += (row[i] / 0x10000 % 16 == 4) as u32;
+        i += 1;
+    }
+    count != 0
+}
+
+// Whether a row leaves the table as it is, and shows nothing: nothing waits and no notice comes.
+fn is_quiet(row: &[u32], table: &[u64]) -> bool
+    requires { ⌜ (length (now row) < 2 ^ 31) × (length (now table) < 2 ^ 31) ⌝ }
+    ensures { λ r. ⌜ r ≡ isQuiet (now (row .entry)) (now (table .entry)) ⌝ }
+{
+    if is_clear(table) {
+        return !any_notice(row);
+    }
+    false
+}
+
+// A row of words, the first of them the number `from`: the table goes on, and the earliest that was shown open is handed back.
+pub fn note_row(
+    arinc: bool,
+    kinds: [Kind; 16],
+    parity: bool,
+    row: &[u32],
+    from: u64,
+    table: &mut [u64],
+    found: u64,
+) -> u64
+    requires { ⌜ (arinc ≡ hasArinc kinds) × Words (now row) × (length (now row) < 2 ^ 31) × (from + length (now row) < 2 ^ 63) × (length (now table) ≡ 64) ⌝ }
+    ensures { λ r. ⌜ RowNoted kinds parity from (now (row .entry)) found (now (table .entry)) r (now (table .exit)) ⌝ }
+{
+    if arinc {
+        if is_quiet(row, table) {
+            return found;
+        }
+        return over_row(kinds, parity, row, from, table, found);
+    }
+    found
+}
+
+// The earliest of the table and what was shown.
+fn least_of(table: &[u64], found: u64) -> u64
+    ensures { λ r. ⌜ r ≡ earliestOf found (now (table .entry)) ⌝ }
+{
+    let mut first = found;
+    let mut i: usize = 0;
+    while i < table.len() {
+        first = earlier(first, table[i]);
+        i += 1;
+    }
+    first
+}
+
+// Behind the last word: what waits is open. The number of the earliest open notice, one up, or 0.
+pub fn at_end(arinc: bool, table: &[u64], found: u64) -> u64
+    requires { ⌜ (length (now table) < 2 ^ 31) × (arinc ≡ false → earliestOf found (now table) ≡ 0) ⌝ }
+    ensures { λ r. ⌜ r ≡ earliestOf found (now (table .entry)) ⌝ }
+{
+    if arinc {
+        if is_clear(table) {
+            return found;
+        }
+        return least_of(table, found);
+    }
+    0
+}
+
+// A whole row of words that were not sent yet: the number of the earliest open notice, one up, or 0.
+pub fn first_open(kinds: [Kind; 16], words: &[u32]) -> u64
+    requires { ⌜ Words (now words) × (length (now words) < 2 ^ 31) ⌝ }
+    ensures { λ r. ⌜ r ≡ openRow (rolesIn kinds false (counted 0 (now (words .entry)))) ⌝ }
+{
+    if has_arinc(kinds) {
+        if any_notice(words) {
+            let mut table = [0u64; 64];
+            let found = over_row(kinds, false, words, 0, &mut table, 0);
+            return least_of(&table, found);
+        }
+    }
+    0
+}
