@@ -46,6 +46,15 @@ static vin_answer call_join(enum who who, uint8_t *to)
     return (who == FAST ? fast_join : vin_join)(t.log, t.log_len, t.log, t.log_len, to, VIN_LOG_MAX);
 }
 
+/* Forward by a microsecond, without frame times: in the traffic no tag is so late that it would leave the range. */
+static vin_answer call_shift(enum who who, uint8_t *to)
+{
+    uint8_t none[1] = {0};
+    if (who == INDEPENDENT)
+        return as_vin(ind_shift(t.log, t.log_len, 1, none, 0, to, VIN_LOG_MAX));
+    return (who == FAST ? fast_shift : vin_shift)(t.log, t.log_len, 1, none, 0, to, VIN_LOG_MAX);
+}
+
 /* A log that passes; nothing is written. */
 static vin_answer call_profile(enum who who, uint8_t *to)
 {
@@ -86,7 +95,11 @@ static const struct {
     size_t log_most; /* longer logs are left out */
     int logs;        /* that are lent */
     int judges;      /* logs that it refuses are left out, too */
-} functions[] = {{"pick", call_pick, VIN_LOG_MAX, 1, 0}, {"join", call_join, VIN_LOG_MAX / 2, 2, 0}, {"profile", call_profile, VIN_LOG_MAX, 1, 1}, {"replay", call_replay, VIN_LOG_MAX, 1, 1}};
+} functions[] = {{"pick", call_pick, VIN_LOG_MAX, 1, 0},
+                 {"join", call_join, VIN_LOG_MAX / 2, 2, 0},
+                 {"shift", call_shift, VIN_LOG_MAX, 1, 0},
+                 {"profile", call_profile, VIN_LOG_MAX, 1, 1},
+                 {"replay", call_replay, VIN_LOG_MAX, 1, 1}};
 enum { FUNCTIONS = sizeof functions / sizeof *functions };
 
 /* Whether the row is timed. */

@@ -15,6 +15,8 @@ vin_answer fast_read_closed(uint32_t words, uint32_t tracks, uint32_t frame_time
                             uint8_t *log, size_t log_len, uint8_t *times, size_t times_len);
 vin_answer fast_pick(const uint8_t *log, size_t log_len, uint16_t buses, uint8_t *out, size_t out_len);
 vin_answer fast_join(const uint8_t *first, size_t first_len, const uint8_t *second, size_t second_len, uint8_t *out, size_t out_len);
+vin_answer fast_shift(const uint8_t *log, size_t log_len, int64_t microseconds, uint8_t *times, size_t times_len, uint8_t *out,
+                      size_t out_len);
 vin_answer fast_profile(const uint8_t *log, size_t log_len);
 vin_replayed fast_replay(const uint8_t *log, size_t log_len, const uint8_t *events, size_t events_len, uint32_t capacity, uint32_t slots,
                          uint8_t *out, size_t out_len);

@@ -55,6 +55,17 @@ vin_answer vin_join(const uint8_t *first, size_t first_len, const uint8_t *secon
     return answer;
 }
 
+void inner_vin_shift(vin_answer *answer, const run *log, int64_t microseconds, const run *times, const run *out);
+
+vin_answer vin_shift(const uint8_t *log, size_t log_len, int64_t microseconds, uint8_t *times, size_t times_len, uint8_t *out,
+                     size_t out_len)
+{
+    vin_answer answer;
+    run l = {log, log_len}, t = {times, times_len}, o = {out, out_len};
+    inner_vin_shift(&answer, &l, microseconds, &t, &o);
+    return answer;
+}
+
 void inner_vin_profile(vin_answer *answer, const run *log);
 
 vin_answer vin_profile(const uint8_t *log, size_t log_len)

@@ -4,10 +4,11 @@
  * Composing makes a capture (PCM frames) of a house log and frame times. Reading gives log and
  * times back: vin_compose, vin_read and vin_read_closed; and over them vin_plan_compose,
  * vin_plan_read and vin_plan_read_closed, which take the plan as a struct and null pointers for
- * runs of length 0. Logs alone, without a plan, are worked on by vin_pick, vin_join, vin_profile and
- * vin_replay; over them functions of the same names with vin_log_ in front, as vin_log_pick, take
- * null pointers for runs of length 0. C99 or later, or C++. Link with libvinculampe.a (x86-64, System V calling convention; that of
- * `make NATIVE=yes` is for the machine it was made on).
+ * runs of length 0. Logs alone, without a plan, are worked on by vin_pick, vin_join, vin_shift,
+ * vin_profile and vin_replay; over them functions of the same names with vin_log_ in front, as
+ * vin_log_pick, take null pointers for runs of length 0. C99 or later, or C++. Link with
+ * libvinculampe.a (x86-64, System V calling convention; that of `make NATIVE=yes` is for the machine
+ * it was made on).
  *
  * What every function promises
  *   - Every input is taken. Either the work is done and the answer's number is 0, or the call is
@@ -22,9 +23,9 @@
  * What the caller promises
  *   - A pointer is valid for its length. Null pointers, with length 0, are taken by the functions
  *     whose names begin with vin_plan_ or vin_log_, and by no other.
- *   - The runs of one call that are written (out; log and times of a reading) overlap no other run
- *     of that call. Runs that are only read may overlap each other: vin_join may be given one log
- *     twice.
+ *   - The runs of one call that are written (out; log and times of a reading; the times of
+ *     vin_shift, the only run that is both read and written) overlap no other run of that call.
+ *     Runs that are only read may overlap each other: vin_join may be given one log twice.
  *
  * Threads: the functions keep nothing between calls and use no heap, no global and no file. They
  * may be called from any number of threads at once, as long as no run that one call writes is used
@@ -122,7 +123,7 @@ typedef struct {
     uint64_t place;  /* the refusal's place; 0 if done */
     uint64_t second; /* always 0; kept for a second place, so that no caller need be compiled again */
     uint64_t bytes;  /* bytes written: composing: of capture; all others: of log; 0 if refused */
-    uint64_t times;  /* reading: frame times written, of eight bytes each; 0 if refused */
+    uint64_t times;  /* reading, shifting: frame times written, of eight bytes each; 0 if refused */
 } vin_answer;
 
 /* C marks a number that composing can answer, R one that the readings can, L one that the functions
@@ -192,6 +193,11 @@ enum vin_number {
      *        log and before 5; reading after the cut item and before 14. */
     VIN_NOTICE = 15,
 
+    /*     L  Shifting only: the shift is above VIN_SHIFT_MOST either way: place 0. Or a time tag would
+     *        fall below zero or reach VIN_TIME_LIMIT: place is its item's first bit. Or a frame time
+     *        would: place is its index. In this order. */
+    VIN_SHIFT = 17,
+
     /*     L  vin_profile only: an item breaks a rule of the one-bus test profile. Place: the first
      *        bit of the earliest item that does. */
     VIN_PROFILE = 18,
@@ -222,6 +228,7 @@ static inline const char *vin_text(uint32_t number_)
     case VIN_DATA_WORD: return "a data word starts or continues no item, or an item is cut";
     case VIN_FILL: return "misplaced fill";
     case VIN_NOTICE: return "an error notice has no ARINC word behind it";
+    case VIN_SHIFT: return "the shift is too large, or a time would leave its range";
     case VIN_PROFILE: return "an item breaks a rule of the one-bus test profile";
     case VIN_REPLAY: return "a mark in the log, a limit broken, or events that are wrong";
     default: return "no such number";
@@ -250,6 +257,9 @@ static inline const char *vin_text(uint32_t number_)
 
 /* Times are below this: 10000 x 65536 x 65536 microseconds, 497 days. */
 #define VIN_TIME_LIMIT UINT64_C(42949672960000)
+
+/* The largest shift either way, in microseconds: 366 days. */
+#define VIN_SHIFT_MOST INT64_C(31622400000000)
 
 /* For a legal plan: bytes of a group, and its data slots. The arguments of these macros are
  * evaluated once or more. */
@@ -283,7 +293,8 @@ static inline const char *vin_text(uint32_t number_)
 #define VIN_READ_TIMES_BYTES(capture_len, words, tracks, frame_time) \
     ((frame_time) ? VIN_TIME_BYTES * VIN_READ_GROUPS(capture_len, words, tracks) : 0)
 
-/* Picking from a log of log_len bytes, and joining two: bytes of room that always suffice. A log has
+/* Picking from a log of log_len bytes, and joining two: bytes of room that always suffice. (Shifting
+ * needs log_len, no more and no less.) A log has
  * at most 8 n - 4 bits of items, and one end mark is saved by joining, so that the joined log has as
  * many bytes as both, or one less. For the exact number call with out_len 0: logs without faults are
  * refused by VIN_ROOM at the bytes needed. */
@@ -360,7 +371,8 @@ vin_answer vin_read_closed(uint32_t words, uint32_t tracks,
 /* ==== The functions on logs alone ================================================================
  *
  * They take no plan: one bus may carry 1553 and ARINC items, and no bus is wrong. The log that they
- * give holds the items as they were, none changed, and is a log of its own, with its end mark. */
+ * give is a log of its own, with its end mark; but for the times that vin_shift moves its items are
+ * as they were. */
 
 /* Picks the items on a set of buses, in the log's order: exactly those.
  *
@@ -387,6 +399,25 @@ vin_answer vin_pick(const uint8_t *log, size_t log_len,
 vin_answer vin_join(const uint8_t *first, size_t first_len,
                     const uint8_t *second, size_t second_len,
                     uint8_t *out, size_t out_len);
+
+/* Moves every time by so many microseconds: the time tags of commands and of ARINC words, and the
+ * frame times. Response times, all else of the items, their order and the log's length stay.
+ *
+ *   log, log_len       the house log
+ *   microseconds       the shift, forward or, if negative, back: at most VIN_SHIFT_MOST either way
+ *   times, times_len   frame times of eight bytes each, as many as there are, and written over;
+ *                      answer.times of them. Bytes beyond whole eights count for nothing and stay.
+ *                      An entry may be any number: what counts is whether it comes into the range
+ *   out, out_len       room for the moved log; answer.bytes are written, as many as log_len
+ *
+ * Checks, in this order: VIN_LOG for the length; the items in order, each for VIN_LOG, VIN_LIMIT;
+ * VIN_SHIFT for the shift, then for the tags in order, then for the frame times in order; VIN_ROOM.
+ * A place 0 of VIN_SHIFT may be any of the three; without times, and with a shift within
+ * VIN_SHIFT_MOST, it is an item. */
+vin_answer vin_shift(const uint8_t *log, size_t log_len,
+                     int64_t microseconds,
+                     uint8_t *times, size_t times_len,
+                     uint8_t *out, size_t out_len);
 
 /* Says whether a log keeps the one-bus test profile of acceptance flights. VIN_DONE is a yes, given
  * exactly when every item keeps every rule; nothing is written, and the answer's lengths are 0. An
@@ -526,6 +557,15 @@ static inline vin_answer vin_log_join(const uint8_t *first_, size_t first_len_,
 {
     return vin_join(vin_run_(first_), first_len_, vin_run_(second_), second_len_,
                     vin_room_(out_), out_len_);
+}
+
+static inline vin_answer vin_log_shift(const uint8_t *log_, size_t log_len_,
+                                       int64_t microseconds_,
+                                       uint8_t *times_, size_t times_len_,
+                                       uint8_t *out_, size_t out_len_)
+{
+    return vin_shift(vin_run_(log_), log_len_, microseconds_, vin_room_(times_), times_len_,
+                     vin_room_(out_), out_len_);
 }
 
 static inline vin_answer vin_log_profile(const uint8_t *log_, size_t log_len_)

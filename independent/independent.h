@@ -17,7 +17,7 @@ typedef struct {
     uint64_t place;  /* the refusal's place */
     uint64_t second; /* always 0 */
     uint64_t bytes;  /* composing: bytes of capture written; reading and the functions on logs: bytes of log written */
-    uint64_t times;  /* reading: frame times written */
+    uint64_t times;  /* reading and shifting: frame times written */
 } ind_answer;
 
 ind_answer ind_compose(uint32_t words, uint32_t tracks, uint32_t frame_time, uint32_t crc, uint32_t parity,
@@ -41,6 +41,10 @@ ind_answer ind_read_closed(uint32_t words, uint32_t tracks, uint32_t frame_time,
 /* Document 02, K7: what vin_pick and vin_join must answer. Bit c of `buses` is bus code c. */
 ind_answer ind_pick(const uint8_t *log, size_t log_len, uint16_t buses, uint8_t *out, size_t out_len);
 ind_answer ind_join(const uint8_t *first, size_t first_len, const uint8_t *second, size_t second_len, uint8_t *out, size_t out_len);
+
+/* Document 02, K9: what vin_shift must answer; `times` is read and written over. */
+ind_answer ind_shift(const uint8_t *log, size_t log_len, int64_t microseconds, uint8_t *times, size_t times_len, uint8_t *out,
+                     size_t out_len);
 
 /* Document 02, K11: what vin_profile must answer. */
 ind_answer ind_profile(const uint8_t *log, size_t log_len);

@@ -6,7 +6,7 @@
 
 /* ==== Fields ==== */
 
-static const char *field(const char *line, int spaces)
+const char *field(const char *line, int spaces)
 {
     for (; spaces > 0 && *line; line++)
         spaces -= *line == ' ';
@@ -81,16 +81,30 @@ static bool is_asked(ind_answer a, uint64_t asked, uint64_t value)
     return a.place == value && a.bytes == 0 && a.times == 0;
 }
 
-void say_made(const char *name, ind_answer a, const run *out, const char *asked)
+static bool is_made(ind_answer a, const run *out, const char *asked)
 {
     static run made;
     run_field(asked, 3, &made);
+    return a.bytes == made.length && memcmp(out->bytes, made.bytes, made.length) == 0;
+}
+
+void say_unless(bool good)
+{
+    if (!good)
+        printf(" differs");
+}
+
+void say_call(const char *name, ind_answer a, const run *out, const char *asked)
+{
     printf("%s %" PRIu32 " %" PRIu64 " %" PRIu64 " %" PRIu64 " %" PRIu64 " %" PRIu64, name, a.number, a.place, a.second, a.bytes, a.times,
            digest_of(out));
-    if (!is_asked(a, number_field(asked, 1), number_field(asked, 2)))
-        printf(" differs");
-    if (a.bytes != made.length || memcmp(out->bytes, made.bytes, made.length) != 0)
-        printf(" differs");
+    say_unless(is_asked(a, number_field(asked, 1), number_field(asked, 2)));
+    say_unless(is_made(a, out, asked));
+}
+
+void say_made(const char *name, ind_answer a, const run *out, const char *asked)
+{
+    say_call(name, a, out, asked);
     printf("\n");
 }
 
@@ -99,7 +113,7 @@ void say_made(const char *name, ind_answer a, const run *out, const char *asked)
 static const struct {
     const char *name;
     void (*line)(const char *line, const char *asked);
-} calls[] = {{"pick ", pick_line}, {"join ", join_line}, {"profile ", profile_line}, {"replay ", replay_line}};
+} calls[] = {{"pick ", pick_line}, {"join ", join_line}, {"shift ", shift_line}, {"profile ", profile_line}, {"replay ", replay_line}};
 
 static void step(const char *line)
 {

@@ -16,7 +16,10 @@ typedef struct {
     size_t length;
 } run;
 
-/* The field behind so many spaces: a number, decimal or hexadecimal behind an x; a run of bytes; a room of so many bytes, all A5. */
+/* The field behind so many spaces, as text. */
+const char *field(const char *line, int spaces);
+
+/* The same: a number, decimal or hexadecimal behind an x; a run of bytes; a room of so many bytes, all A5. */
 uint64_t number_field(const char *line, int spaces);
 void run_field(const char *line, int spaces, run *r);
 void room_field(const char *line, int spaces, run *r);
@@ -25,12 +28,18 @@ void room_field(const char *line, int spaces, run *r);
 uint64_t digest_of(const run *r);
 
 /* Writes an answer and the room's digest behind the call's name, and `differs` if `asked`, what stands from `->` on, asks for another
- * answer or other bytes. */
+ * answer or other bytes; say_call without the line's end, for a call that has more to say. */
+void say_call(const char *name, ind_answer a, const run *out, const char *asked);
 void say_made(const char *name, ind_answer a, const run *out, const char *asked);
+
+/* A run's digest; `differs` where something is not as asked for. */
+uint64_t digest_of(const run *r);
+void say_unless(bool good);
 
 /* Each makes the call of a line. */
 void pick_line(const char *line, const char *asked);
 void join_line(const char *line, const char *asked);
+void shift_line(const char *line, const char *asked);
 void profile_line(const char *line, const char *asked);
 void replay_line(const char *line, const char *asked);
 

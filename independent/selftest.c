@@ -310,5 +310,7 @@ int main(void)
     selftest_profile();
     selftest_replay();
     puts("selftest: K7, K11, K13: as document 02 says");
+    selftest_shift();
+    puts("selftest: K9: as document 02 says");
     return 0;
 }

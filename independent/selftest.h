@@ -17,6 +17,7 @@
 
 /* Document 02's requests, each in a file of its own. */
 void selftest_pick_join(void);
+void selftest_shift(void);
 void selftest_profile(void);
 void selftest_replay(void);
 

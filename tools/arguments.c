@@ -30,6 +30,7 @@ static const struct option long_options[] = {
     ROW("--bus", OPT_BUS, required_argument),
     ROW("--no-fill", OPT_NO_FILL, no_argument),
     ROW("--faults", OPT_FAULTS, no_argument),
+    ROW("--by", OPT_BY, required_argument),
     ROW("--capacity", OPT_CAPACITY, required_argument),
     ROW("--least", OPT_LEAST, no_argument),
     ROW("--events", OPT_EVENTS, required_argument),
@@ -103,7 +104,9 @@ static bool wrong_option(const command *c, int option, const char *word)
     const option_row *row = id != OPTIONS ? row_of(c, id) : NULL;
     if (option == ':')
         complain("%s: %s needs %s", c->name, id == OPTIONS ? show(word).text : option_name(id),
-                 row && row->role == NUMBER ? "a number" : "a file");
+                 row && row->role == NUMBER ? "a number"
+                 : row && row->role == WORD ? row->value
+                                            : "a file");
     else if (id != OPTIONS) /* a flag with "=" behind it */
         complain("%s: %s takes no value", c->name, option_name(id));
     else if (optopt > ' ' && optopt <= '~')

@@ -21,6 +21,7 @@ enum option_id {
     OPT_BUS,
     OPT_NO_FILL,
     OPT_FAULTS,
+    OPT_BY,
     OPT_CAPACITY,
     OPT_LEAST,
     OPT_EVENTS,
@@ -31,7 +32,7 @@ enum option_id {
 };
 
 /* What a command makes of an option. */
-enum option_role { FLAG, NUMBER, INPUT, OUTPUT };
+enum option_role { FLAG, NUMBER, WORD, INPUT, OUTPUT };
 
 typedef struct {
     enum option_id id;

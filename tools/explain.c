@@ -17,7 +17,7 @@ static const struct {
          "limits, several tracks go with other than exactly one used bus, or parity goes with a used\n"
          "bus above 7."},
     [VIN_LOG] =
-        {"compose, list, info, pick, join, profile, replay", BIT,
+        {"compose, list, info, pick, join, shift, profile, replay", BIT,
          "The log is longer than 32768 bytes (place 0), ends inside an item or without its end mark,\n"
          "has a kind other than 0 to 8, or something follows its end mark. Most often the file was\n"
          "cut, or is no house log."},
@@ -25,7 +25,7 @@ static const struct {
         {"compose", BIT,
          "An item is on a bus that the plan does not use or has as another kind. Mend the plan's bus\n"
          "lines, or compose with the plan that the log was made for."},
-    [VIN_LIMIT] = {"compose, list, info, pick, join, profile, replay", BIT,
+    [VIN_LIMIT] = {"compose, list, info, pick, join, shift, profile, replay", BIT,
                    "The micro of a time tag, or a response time, is 10000 or more."},
     [VIN_TIMES] =
         {"compose", "the number of times needed; or the index of the time that is too large, counted from 0",
@@ -75,6 +75,11 @@ static const struct {
          "An error notice tells of the next ARINC word of its bus and channel. This one is open: the\n"
          "channel's next notice, or the end, comes before such a word. It is the earliest such notice;\n"
          "in a capture of several tracks the earliest in dealt order. vin list shows such a log."},
+    [VIN_SHIFT] =
+        {"shift",
+         "0 for the shift; the bit of the log where the item begins; or the frame time's index; each from 0",
+         "Times are moved by at most 31622400000000 microseconds, 366 days, either way; and a time tag\n"
+         "or a frame time may neither fall below zero nor reach 42949672960000. vin says which it is."},
     [VIN_PROFILE] =
         {"profile", BIT,
          "This item breaks a rule of the one-bus test profile, and no item before it does: it is on\n"

@@ -85,7 +85,7 @@ static unsigned field(const uint8_t *log, size_t bit, unsigned width)
 /* What begins at this bit, and its bits. */
 static spot look(const uint8_t *log, size_t length, size_t bit, size_t *bits)
 {
-    spot s = {0, 8 * length - bit, 0, 0, false, false, 0};
+    spot s = {0, 8 * length - bit, 0, 0, false, false, 0, 0};
     *bits = 0;
     if (s.left >= 4)
         s.kind = field(log, bit, 4);
@@ -100,6 +100,8 @@ static spot look(const uint8_t *log, size_t length, size_t bit, size_t *bits)
     s.whole = *bits <= s.left;
     if (s.whole && s.timed)
         s.fine = field(log, bit + *bits - FINE, FINE);
+    if (s.whole && s.timed && s.kind != STATUS)
+        s.time = UINT64_C(10000) * field(log, bit + *bits - FINE - 32, 32) + s.fine;
     return s;
 }
 

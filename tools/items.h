@@ -54,6 +54,7 @@ typedef struct {
     bool whole;    /* the log has all its bits; what is unknown, or no item, is not whole */
     bool timed;    /* it has a micro or a response */
     unsigned fine; /* that micro or response, if whole */
+    uint64_t time; /* the time that ends in that micro */
 } spot;
 
 /* Where every item before this bit is whole. */

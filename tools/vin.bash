@@ -7,6 +7,7 @@ _vin_options() { # COMMAND
     dump) echo "--from --count --group --bus --stored --no-fill --faults -o" ;;
     list) echo "--json --csv --decode -o" ;;
     pack | info | pick | join) echo "-o" ;;
+    shift) echo "--by -o --times --times-out" ;;
     replay) echo "--capacity --least --events --every --slots --plan -o" ;;
     esac
 }
@@ -18,7 +19,7 @@ _vin_plans() { # WORD: files that look like a plan, if any does
 
 _vin() {
     local word=${COMP_WORDS[COMP_CWORD]} before=${COMP_WORDS[COMP_CWORD - 1]} command=${COMP_WORDS[1]} n files=0
-    local commands="compose read check dump info list pack pick join profile replay plan explain"
+    local commands="compose read check dump info list pack pick join shift profile replay plan explain"
     COMPREPLY=()
     if [ "$COMP_CWORD" -eq 1 ]; then
         mapfile -t COMPREPLY < <(compgen -W "$commands help --help --version" -- "$word")
@@ -26,13 +27,13 @@ _vin() {
     fi
     case $before in
     --bus) mapfile -t COMPREPLY < <(compgen -W "$(echo {0..15})" -- "$word"); return ;;
-    --from | --count | --group | --capacity | --every | --slots) return ;;
+    --from | --count | --group | --by | --capacity | --every | --slots) return ;;
     --plan) _vin_plans "$word"; return ;;
     -o | --times | --times-out | --events) mapfile -t COMPREPLY < <(compgen -f -- "$word"); return ;;
     esac
     case $command in
     help) mapfile -t COMPREPLY < <(compgen -W "$commands" -- "$word"); return ;;
-    explain) mapfile -t COMPREPLY < <(compgen -W "$(echo {0..15} 18 19)" -- "$word"); return ;;
+    explain) mapfile -t COMPREPLY < <(compgen -W "$(echo {0..15} 17 18 19)" -- "$word"); return ;;
     esac
     if [[ $word == -* ]]; then
         mapfile -t COMPREPLY < <(compgen -W "$(_vin_options "$command") --help" -- "$word")
@@ -40,7 +41,7 @@ _vin() {
     fi
     for ((n = 2; n < COMP_CWORD; n++)); do
         case ${COMP_WORDS[n]} in
-        -o | --times | --times-out | --from | --count | --group | --bus | --capacity | --events | --every | --slots | --plan) n=$((n + 1)) ;;
+        -o | --times | --times-out | --from | --count | --group | --bus | --by | --capacity | --events | --every | --slots | --plan) n=$((n + 1)) ;;
         -) files=$((files + 1)) ;;
         -*) ;;
         *) files=$((files + 1)) ;;

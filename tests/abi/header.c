@@ -104,6 +104,27 @@ static void on_logs(void)
     CHECK(a.number == VIN_LOG && a.place == 0);
 }
 
+/* A command at 10005 and a frame time at 5, moved back by five microseconds; then what cannot be. */
+static void shifted(void)
+{
+    static const uint8_t log[] = {0x12, 0x42, 0x10, 0xC0, 0, 0, 0, 0x40, 0x05, 0}, moved[] = {0x12, 0x42, 0x10, 0xC0, 0, 0, 0, 0x40, 0, 0};
+    static uint8_t made[sizeof log], times[VIN_TIME_BYTES + 1] = {0, 0, 0, 0, 0, 0, 0, 5, 0xA5};
+    vin_answer a = vin_shift(log, sizeof log, -5, times, sizeof times, made, sizeof made);
+    CHECK(a.number == VIN_DONE && a.bytes == sizeof log && a.times == 1 && memcmp(made, moved, sizeof log) == 0);
+    CHECK(times[7] == 0 && times[8] == 0xA5);
+    a = vin_log_shift(log, sizeof log, -10006, NULL, 0, made, sizeof made);
+    CHECK(a.number == VIN_SHIFT && a.place == 0);
+    a = vin_log_shift(log, sizeof log, -10005, times, sizeof times, made, sizeof made);
+    CHECK(a.number == VIN_SHIFT && a.place == 0 && times[7] == 0);
+    a = vin_log_shift(log, sizeof log, -VIN_SHIFT_MOST - 1, NULL, 0, made, sizeof made);
+    CHECK(a.number == VIN_SHIFT && a.place == 0);
+    a = vin_log_shift(log, sizeof log, VIN_SHIFT_MOST, NULL, 0, NULL, 0);
+    CHECK(a.number == VIN_ROOM && a.place == sizeof log);
+    a = vin_log_shift(NULL, 0, 0, NULL, 0, NULL, 0);
+    CHECK(a.number == VIN_LOG && a.place == 0);
+    CHECK(strcmp(vin_text(VIN_SHIFT), vin_text(99)) != 0);
+}
+
 /* Replaying: the limits, null pointers, and that the room suffices, also where every other item is lost and each mark is longer. */
 static void replaying(void)
 {
@@ -202,6 +223,7 @@ int main(void)
     sizes();
     example();
     on_logs();
+    shifted();
     replaying();
     lengths();
     most_groups();

@@ -5,7 +5,7 @@
 
 #include "draw.h"
 
-#define EVERY_FUNCTION(one) one(pick) one(join) one(profile) one(replay)
+#define EVERY_FUNCTION(one) one(pick) one(join) one(shift) one(profile) one(replay)
 
 /* ==== A call ==== */
 

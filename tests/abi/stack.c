@@ -28,6 +28,11 @@ static void call_join(size_t length, size_t room)
     vin_join(log_bytes, length, log_bytes, length, back, room);
 }
 
+static void call_shift(size_t length, size_t room)
+{
+    vin_shift(log_bytes, length, 1, back_times, sizeof back_times, back, room);
+}
+
 static void call_profile(size_t length, size_t room)
 {
     (void)room;
@@ -47,7 +52,7 @@ static void call_replay(size_t length, size_t room)
 static const struct {
     const char *name;
     void (*call)(size_t length, size_t room);
-} over_logs[] = {{"pick", call_pick}, {"join", call_join}, {"profile", call_profile}, {"replay", call_replay}};
+} over_logs[] = {{"pick", call_pick}, {"join", call_join}, {"shift", call_shift}, {"profile", call_profile}, {"replay", call_replay}};
 enum { OVER_LOGS = sizeof over_logs / sizeof *over_logs };
 
 /* ==== A call in a painted stack ==== */

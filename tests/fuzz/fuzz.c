@@ -2,7 +2,8 @@
  *
  * The input: 10 bytes that make a plan and say what is done with the rest, then the rest.
  *   byte 0       0 composes the rest as a log; 1 reads the rest as a capture; 2 reads the rest as data words, dealt into groups with
- *                sync, frame time, parity and CRC made right; 3 as 2, then the last byte of the rest changed something
+ *                sync, frame time, parity and CRC made right; 3 as 2, then the last byte of the rest changed something; 4 works on the
+ *                rest as logs: bytes 1 to 8 are a set of buses (1, 2) and a shift (all eight), byte 9 is where a second log begins
  *   bytes 1, 2   the words of a frame; byte 3 tracks, frame time, CRC, parity; bytes 4 to 7 the kinds, two bits a bus
  *   byte 8       how much more or less room than needed; 192 and more: a group of fill behind
  *   byte 9       how many more bytes of times than needed, or the change of 3 */
@@ -82,6 +83,32 @@ static void composing(const numbers *n, const uint8_t *rest, size_t size, int8_t
     }
 }
 
+/* The functions on logs: pick and shift of the whole, join of two parts; each with room enough, and with one byte less than is needed. */
+static void on_logs(const uint8_t *rest, size_t size, const uint8_t *by)
+{
+    uint16_t buses = (uint16_t)(by[0] << 8 | by[1]);
+    size_t cut = by[8] < size ? by[8] : size;
+    int64_t shift = (int64_t)time_from_bytes(by);
+    for (size_t room = sizeof made, again = 0; again < 2; again++) {
+        vin_answer a = vin_pick(rest, size, buses, made, room);
+        must_be_same(a, ind_pick(rest, size, buses, made_too, room));
+        room = a.bytes > 0 ? (size_t)a.bytes - 1 : 0;
+    }
+    for (size_t room = sizeof made, again = 0; again < 2; again++) {
+        vin_answer a = vin_join(rest, cut, rest + cut, size - cut, made, room);
+        must_be_same(a, ind_join(rest, cut, rest + cut, size - cut, made_too, room));
+        room = a.bytes > 0 ? (size_t)a.bytes - 1 : 0;
+    }
+    memset(times_made, 0, 19);
+    memcpy(times_made + 3, rest, size < 16 ? size : 16); /* two entries and spare bytes */
+    memcpy(times_made_too, times_made, 19);
+    for (size_t room = sizeof made, again = 0; again < 2; again++) {
+        vin_answer a = vin_shift(rest, size, by[8] % 2 ? shift : shift >> 18, times_made, 19, made, room);
+        must_be_same(a, ind_shift(rest, size, by[8] % 2 ? shift : shift >> 18, times_made_too, 19, made_too, room));
+        room = a.bytes > 0 ? (size_t)a.bytes - 1 : 0;
+    }
+}
+
 int LLVMFuzzerTestOneInput(const uint8_t *data, size_t size)
 {
     numbers numbers_of_plan = {0, 0, 0, 0, 0, {0}}, *n = &numbers_of_plan;
@@ -92,6 +119,10 @@ int LLVMFuzzerTestOneInput(const uint8_t *data, size_t size)
     if (size < 10)
         return 0;
     size -= 10;
+    if (data[0] == 4) {
+        on_logs(rest, size, data + 1);
+        return 0;
+    }
     n->words = ((uint32_t)data[1] << 8 | data[2]) % 640;
     n->tracks = 1 + (data[3] >> 6);
     n->frame_time = data[3] >> 1 & 1;

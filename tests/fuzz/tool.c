@@ -2,7 +2,7 @@
  * makes. The library is asked too, and what the tool says of a word must be what the library answers.
  *
  * The input: a byte that says what is done with the rest: 0 a plan, 1 times, 2 a listing, 3 a log, 4 a capture, 5 data words dealt into
- * a capture, 6 as 5 with a byte changed, 7 events. For 4 to 6 seven bytes make a plan, one says whether a group of fill is behind, or which byte is
+ * a capture, 6 as 5 with a byte changed, 7 a word that is a set of buses or a shift, 8 events. For 4 to 6 seven bytes make a plan, one says whether a group of fill is behind, or which byte is
  * changed, and one how; where that one is a multiple of eight, the commands are run as well. */
 #define _GNU_SOURCE
 #include <stdio.h>
@@ -12,6 +12,7 @@
 #include <unistd.h>
 
 #include "../../include/vinculampe.h"
+#include "../../tools/buses.h"
 #include "../../tools/commands.h"
 #include "../../tools/events.h"
 #include "../../tools/hints.h"
@@ -20,6 +21,7 @@
 #include "../../tools/marks.h"
 #include "../../tools/picture.h"
 #include "../../tools/refusal.h"
+#include "../../tools/shift.h"
 #include "deal.h"
 
 size_t ind_list(const uint8_t *log, size_t log_len, char *text, size_t room);
@@ -293,17 +295,33 @@ static void try_capture(const uint8_t *data, size_t size, int how)
         try_commands(&capture, &p, plain, closed);
 }
 
+/* What the user writes behind pick and --by. */
+static void try_word(const uint8_t *rest, size_t size)
+{
+    char word[64];
+    uint16_t buses = 0;
+    int64_t shift = 0;
+    size_t length = size < sizeof word - 1 ? size : sizeof word - 1;
+    memcpy(word, rest, length);
+    word[length] = 0;
+    if (read_buses("pick", word, &buses))
+        must(buses != 0);
+    if (read_shift("shift", word, &shift))
+        must(word[0] == '-' ? shift <= 0 : shift >= 0);
+}
+
 int LLVMFuzzerTestOneInput(const uint8_t *data, size_t size)
 {
     if (size < 1)
         return 0;
-    int what = data[0] % 8;
+    int what = data[0] % 9;
     switch (what) {
     case 0: try_plan(data + 1, size - 1); break;
     case 1: try_times(data + 1, size - 1); break;
     case 2: try_listing(data + 1, size - 1); break;
     case 3: try_log(data + 1, size - 1); break;
-    case 7: try_events(data + 1, size - 1); break;
+    case 7: try_word(data + 1, size - 1); break;
+    case 8: try_events(data + 1, size - 1); break;
     default: try_capture(data + 1, size - 1, what);
     }
     return 0;

@@ -133,14 +133,17 @@ refused "vin: bad: refused by 12 at word 132 (group 1, track 1, word 4): 052710:
 # 13, 14 and 15: words.sh; 18: profile.sh; 19: replay.sh
 
 # What a number means: each has its page, and no other number has.
-for n in {0..15} 18 19; do
+# 13, 14 and 15: words.sh; 17: shift.sh; 18: profile.sh; 19: replay.sh
+
+# What a number means: each has its page, and no other number has.
+for n in {0..15} 17 18 19; do
     "${vin[@]}" explain $n >out.txt
     result "explain $n" $?
     head -n 1 out.txt >have
     "${vin[@]}" explain | sed -n "s/^ *$n  /$n: /p" >want
     same "explain $n" want have
 done
-for n in 16 -- x 99999999999999999999 1x; do
+for n in 16 99 -- x 99999999999999999999 1x; do
     [ "$n" = -- ] || misuse "vin: no refusal has the number $n; vin explain lists them" explain "$n"
 done
 rm -f p l t bad long out.txt err.txt have want new

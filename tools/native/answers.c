@@ -10,6 +10,7 @@ void module_vin_read(vin_answer *answer, PLAN, RUN(const, capture), RUN(, log), 
 void module_vin_read_closed(vin_answer *answer, PLAN, RUN(const, capture), RUN(, log), RUN(, times));
 void module_vin_pick(vin_answer *answer, RUN(const, log), uint16_t buses, RUN(, out));
 void module_vin_join(vin_answer *answer, RUN(const, first), RUN(const, second), RUN(, out));
+void module_vin_shift(vin_answer *answer, RUN(const, log), int64_t microseconds, RUN(, times), RUN(, out));
 void module_vin_profile(vin_answer *answer, RUN(const, log));
 void module_vin_replay(vin_replayed *answer, RUN(const, log), RUN(const, events), uint32_t capacity, uint32_t slots, RUN(, out));
 
@@ -47,6 +48,13 @@ vin_answer vin_join(RUN(const, first), RUN(const, second), RUN(, out))
 {
     vin_answer answer;
     module_vin_join(&answer, first, first_len, second, second_len, out, out_len);
+    return answer;
+}
+
+vin_answer vin_shift(RUN(const, log), int64_t microseconds, RUN(, times), RUN(, out))
+{
+    vin_answer answer;
+    module_vin_shift(&answer, log, log_len, microseconds, times, times_len, out, out_len);
     return answer;
 }
 

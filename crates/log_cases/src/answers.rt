@@ -40,7 +40,7 @@ fn is_asked(a: Answer, number: u64, value: u64) -> bool {
 }
 
 // Whether the first bytes of `out` are these.
-fn begins(out: &[u8], made: &[u8]) -> bool {
+pub(crate) fn begins(out: &[u8], made: &[u8]) -> bool {
     let mut at = 0;
     while at < made.len() {
         if out.len() <= at {
@@ -62,11 +62,20 @@ pub(crate) fn is_made(bytes: u64, out: &[u8], asked: &[u8]) -> bool {
     bytes == end as u64 && begins(out, &made[..end])
 }
 
-pub(crate) fn say_made(name: &[u8], a: Answer, out: &[u8], asked: &[u8]) {
+fn say_checked(a: Answer, out: &[u8], asked: &[u8]) {
+    say_unless(a.second == 0 && is_asked(a, number(asked, 1), number(asked, 2)));
+    say_unless(is_made(a.bytes, out, asked));
+}
+
+// Without the line's end, for a call that has more to say.
+pub(crate) fn say_call(name: &[u8], a: Answer, out: &[u8], asked: &[u8]) {
     io::write_all(1, name);
     say_answer(a);
     say_number(digest_of(out));
-    say_unless(a.second == 0 && is_asked(a, number(asked, 1), number(asked, 2)));
-    say_unless(is_made(a.bytes, out, asked));
+    say_checked(a, out, asked);
+}
+
+pub(crate) fn say_made(name: &[u8], a: Answer, out: &[u8], asked: &[u8]) {
+    say_call(name, a, out, asked);
     io::write_all(1, b"\n");
 }

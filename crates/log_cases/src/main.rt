@@ -11,6 +11,7 @@ mod pick;
 mod profile;
 mod replay;
 mod runs;
+mod shift;
 
 use crate::answers::say_unknown;
 use crate::fields::arrow;
@@ -19,12 +20,14 @@ use crate::join::join_line;
 use crate::pick::pick_line;
 use crate::profile::profile_line;
 use crate::replay::replay_line;
+use crate::shift::shift_line;
 
-// A call is told by its second letter: pick, join, profile, replay.
+// A call is told by its second letter: pick, join, shift, profile, replay.
 fn call_line(letter: u8, line: &[u8], asked: &[u8]) {
     match letter {
         b'i' => pick_line(line, asked),
         b'o' => join_line(line, asked),
+        b'h' => shift_line(line, asked),
         b'r' => profile_line(line, asked),
         b'e' => replay_line(line, asked),
         _ => say_unknown(),

@@ -15,7 +15,7 @@ use log_put::Put;
 use log_write::Pen;
 
 // The first n bytes of `from`.
-fn copy(to: &mut [u8], from: &[u8], n: usize)
+pub fn copy(to: &mut [u8], from: &[u8], n: usize)
     requires { ⌜ (n ≤ length (now to)) × (n ≤ length (now from)) ⌝ }
     ensures { λ _. ⌜ now (to .exit) ≡ take n (now (from .entry)) ++ drop n (now (to .entry)) ⌝ }
 {
@@ -26,7 +26,7 @@ fn copy(to: &mut [u8], from: &[u8], n: usize)
     }
 }
 
-fn refusal(number: u32, place: usize) -> Answer
+pub fn refusal(number: u32, place: usize) -> Answer
     ensures { λ r. ⌜ r ≡ refusal number place ⌝ }
 {
     Answer {

@@ -28,7 +28,7 @@ fn in_set(buses: u16, bus: u8) -> bool
 }
 
 // An item's bits more.
-fn put_packed(pen: Pen, built: &mut [u8], item: Packed) -> Pen
+pub fn put_packed(pen: Pen, built: &mut [u8], item: Packed) -> Pen
     requires { ⌜ (pen .bits < 2 ^ 61) × Fits item ⌝ }
     ensures { λ r. ⌜ PutsPacked item (now (built .entry)) pen (now (built .exit)) r ⌝ }
 {

@@ -8,3 +8,4 @@ pub mod Ahead
 pub mod Faults
 pub mod Profile
 pub mod Replay
+pub mod Shift

@@ -3,5 +3,6 @@ pub mod Pick
 pub mod Items
 pub mod Profile
 pub mod Replay
+pub mod Shift
 pub mod Laws
 pub mod Promises

@@ -2,16 +2,24 @@
 -- Laws that each names.
 use Prim.Native.Nat.{ℕ, _^_, _≤_, _<_}
 use mathlib.Core.Path.{_≡_, sym, _∙_}
-use mathlib.Core.List.{List, [], _∷_, _++_}
+use mathlib.Core.List.{List, [], _∷_, _++_, map}
 use lib.ListN.{length, take}
+use mathlib.Core.Bool.{true, false}
 use Rattle.format.specs.Lists.{Bytes, list}
 use Rattle.format.specs.Log.{fault, logOf, onNoPlan, parsed, items}
 use Rattle.format.specs.Compose.{made, refused}
 use Rattle.log_rules.specs.Pick.{inSet, keep, onBuses, picked, joined}
 use Rattle.log_rules.specs.Laws.Logs.{LogOf}
+use Rattle.log_rules.specs.Shift.{firstFailing, inLimits, itemMoves, moved, movedItem, moves, shifted, timeless}
 use Rattle.log_rules.specs.Laws.Pick as Pick
 use mathlib.Core.Logic.{_↔_}
 use Rattle.format.specs.declared.Answer.{Answer}
+use Rattle.log_rules.specs.Laws.Shift as Shift
+use Rattle.log_rules.specs.Laws.Shift.{ShiftOf}
+use Rattle.format.specs.Group.{found}
+use Rattle.format.specs.Read.{gives, refuses}
+use Rattle.format.specs.Time.{timeEnd}
+use lib.IntN.{ℤ, pos, _+ℤ_}
 use Rattle.format.specs.declared.Item.{Item}
 use Rattle.log_rules.specs.Profile.{Judged, Rules, BreaksAt}
 use Rattle.log_rules.specs.Replay.{Replay, ReplayOf, Replays, replayed}
@@ -103,3 +111,36 @@ pub replay-accounts : (log events : List ℕ) (capacity slots : ℕ) (r : Replay
     → Replays (replayed log events capacity slots (length out)) r out out′ → r .number ≡ 0
     → ReplayOf log events capacity slots (take (r .bytes) out′) (r .sent) (r .lost) (r .held)
 replay-accounts = Replaying.number-accounts
+
+-- ---- K9: a wrong clock at the aircraft
+
+-- "all time tags and frame times moved by a signed number of microseconds": the log that was lent has items, the shift is within its limits, each tag
+-- and each frame time may be moved, the new log is that of the items moved, in their order, and the new times are the old ones moved (`ShiftOf`)
+pub shifts : (log times : List ℕ) (by : ℤ) (room : ℕ) (out times′ : List ℕ) → Bytes log → shifted log times by room ≡ gives out times′
+    → (is : List Item) × ShiftOf log times by is out times′
+shifts = Shift.shift-from
+
+-- a time that may be moved is moved to the sum, which is a time
+pub shift-adds : (by : ℤ) (t : ℕ) → moves by t ≡ true → (pos (moved by t) ≡ pos t +ℤ by) × (moved by t < timeEnd)
+shift-adds = Shift.moved-sum
+
+-- ".. and log length stay."
+pub shift-keeps-length : (log times : List ℕ) (by : ℤ) (room : ℕ) (out times′ : List ℕ) → Bytes log → shifted log times by room ≡ gives out times′
+    → (length out ≡ length log) × (length times′ ≡ length times)
+shift-keeps-length = Shift.shift-length
+
+-- "Response times, item order .. stay": what is not a time is the same, item by item
+pub shift-keeps-rest : (by : ℤ) (is : List Item) → map timeless (map (movedItem by) is) ≡ map timeless is
+shift-keeps-rest = Shift.rest-stays
+
+-- "Refusals: 2, 4 as in composing; 17 for a shift out of limits (place 0), a tag that would fall below zero or reach 42,949,672,960,000 (its item's first
+-- bit)", whatever the frame times are
+pub shift-refused : (log times : List ℕ) (by : ℤ) (room n p : ℕ) → parsed onNoPlan log ≡ fault n p → shifted log times by room ≡ refuses n p
+shift-refused = Shift.shift-refuses
+
+pub shift-out-of-limits : (log times : List ℕ) (is : List Item) (by : ℤ) (room : ℕ) → LogOf log is → inLimits by ≡ false → shifted log times by room ≡ refuses 17 0
+shift-out-of-limits log times is by room = Shift.shift-beyond times by room
+
+pub shift-refused-tag : (log times : List ℕ) (is : List Item) (by : ℤ) (room p : ℕ) → LogOf log is → inLimits by ≡ true
+    → firstFailing (itemMoves by) 17 0 is ≡ found 17 p → shifted log times by room ≡ refuses 17 p
+shift-refused-tag log times is by room p = Shift.shift-unmovable times by room p

@@ -29,15 +29,15 @@ use Rattle.log_walk.proofs.Fields.{field-low}
 
 -- ---- an item whose bus and times are within their widths
 
-abbrev tagNarrow : Tag → Type 0
+abbrev pub tagNarrow : Tag → Type 0
 tagNarrow Untagged = Unit {0}
-tagNarrow (At t) = t .micro < 16384
+tagNarrow (At t) = (t .high < 65536) × (t .low < 65536) × (t .micro < 16384)
 
-abbrev responseNarrow : Response → Type 0
+abbrev pub responseNarrow : Response → Type 0
 responseNarrow Untimed = Unit {0}
 responseNarrow (After r) = r < 16384
 
-abbrev timesNarrow : Item → Type 0
+abbrev pub timesNarrow : Item → Type 0
 timesNarrow (Command bus b tag word) = tagNarrow tag
 timesNarrow (Status bus b resp word) = responseNarrow resp
 timesNarrow (Data bus b word) = Unit {0}
@@ -68,13 +68,13 @@ response-last r h = omega arith
 times-known : (i : Item) → timesNarrow i → timesIn (packedOf i) ≡ inTime i
 unfolding packedOf itemFields inTime
 times-known (Command bus b Untagged word) h = refl
-times-known (Command bus b (At t) word) h = ap (λ (n : ℕ). ltb n 10000) (micro-last (t .high) (t .low) (t .micro) h)
+times-known (Command bus b (At t) word) h = ap (λ (n : ℕ). ltb n 10000) (micro-last (t .high) (t .low) (t .micro) (h .2))
 times-known (Status bus b Untimed word) h = refl
 times-known (Status bus b (After r) word) h = ap (λ (n : ℕ). ltb n 10000) (response-last r h)
 times-known (Data bus b word) h = refl
 times-known (BusError bus b word) h = refl
 times-known (Arinc bus c Untagged word) h = refl
-times-known (Arinc bus c (At t) word) h = ap (λ (n : ℕ). ltb n 10000) (micro-last (t .high) (t .low) (t .micro) h)
+times-known (Arinc bus c (At t) word) h = ap (λ (n : ℕ). ltb n 10000) (micro-last (t .high) (t .low) (t .micro) (h .2))
 times-known (Notice bus c diag) h = refl
 times-known (User bus three word) h = refl
 times-known (Overflow bus word) h = refl
@@ -115,10 +115,10 @@ module _ (log : List ℕ) (p : ℕ) where
       go true b = g (leb-true _ _ b)
       go false b = tt
 
-  with-tag : (b : Bool) (r : ℕ) (item : Tag → Item) → Narrowed (has (item Untagged) r) → ((t : Time) → t .micro < 16384 → Narrowed (has (item (At t)) (r + 46)))
+  with-tag : (b : Bool) (r : ℕ) (item : Tag → Item) → Narrowed (has (item Untagged) r) → ((t : Time) → tagNarrow (At t) → Narrowed (has (item (At t)) (r + 46)))
       → Narrowed (tagged s b r item)
   with-tag false r item g h = g
-  with-tag true r item g h = there (r + 46) _ (λ k. h _ (low (r + 32) 14 (omega arith)))
+  with-tag true r item g h = there (r + 46) _ (λ k. h _ (low r 16 (omega arith), low (r + 16) 16 (omega arith), low (r + 32) 14 (omega arith)))
 
   with-response : (b : Bool) (r : ℕ) (item : Response → Item) → Narrowed (has (item Untimed) r) → ((t : ℕ) → t < 16384 → Narrowed (has (item (After t)) (r + 14)))
       → Narrowed (timed s b r item)
@@ -154,6 +154,7 @@ pub record Holds (log : List ℕ) (p : ℕ) (k : Packed) : Type 0 where
   pub says : Says item k
   pub bus : busIn k ≡ busOfItem item
   pub times : timesIn k ≡ inTime item
+  pub narrow : timesNarrow item
   pub many : 18 ≤ k .«first_bits»
   pub long : length (itemBits item) ≡ k .«first_bits» + k .«behind_bits»
 
@@ -188,6 +189,7 @@ holds log p r k e g = go (nextAt (bytesBits log) p) refl (narrowed log p) (sym e
           says = y;
           bus = rw w (bus-known i (z .0));
           times = rw w (times-known i (z .1));
+          narrow = z .1;
           many = rw w (first-many i);
           long = says-long i k y;
         }

@@ -5,9 +5,12 @@ ghost use mathlib.Core.Bool.{false, true};
 ghost use lib.ListN.{length};
 ghost use Rattle.format.specs.Answer.{Made};
 ghost use Rattle.compose_from_c.specs.Composing.{composedFrom};
+ghost use Rattle.from_c.specs.Numbers.{timesFrom};
 ghost use Rattle.log_rules.specs.Pick.{joined, picked};
 ghost use Rattle.log_rules.specs.Profile.{Judged};
 ghost use Rattle.log_rules.specs.Replay.{Replays, replayed};
+ghost use Rattle.log_rules.specs.Shift.{shifted};
+ghost use Rattle.log_shift.specs.Shifted.{Shifted};
 ghost use Rattle.read_from_c.specs.Reading.{GivenBytes, readingFrom};
 pub use compose::compose;
 use compose_from_c::compose_from;
@@ -17,6 +20,7 @@ pub use log_edit::join;
 pub use log_edit::pick;
 pub use log_replay::replay;
 use log_rules::Replayed;
+pub use log_shift::shift;
 pub use read::read;
 pub use read::read_closed;
 use read_from_c::read_from;
@@ -136,4 +140,16 @@ pub extern "C" fn vin_replay(
     ensures { λ r. ⌜ Replays (replayed (now (log .entry)) (now (events .entry)) capacity slots (length (now (out .entry)))) r (now (out .entry)) (now (out .exit)) ⌝ }
 {
     replay(log, events, capacity, slots, out)
+}
+
+#[no_mangle]
+pub extern "C" fn vin_shift(
+    log: &[u8],
+    microseconds: i64,
+    times: &mut [u8],
+    out: &mut [u8],
+) -> Answer
+    ensures { λ r. ⌜ Shifted (shifted (now (log .entry)) (timesFrom (now (times .entry))) microseconds (length (now (out .entry)))) r (now (out .entry)) (now (out .exit)) (now (times .entry)) (now (times .exit)) ⌝ }
+{
+    shift(log, microseconds, times, out)
 }

