@@ -71,7 +71,7 @@ fn judge(log: &[u8]) -> Answer
     requires { ⌜ parsed onNoPlan (now log) ≡ items (itemsOf (parsed onNoPlan (now log))) ⌝ }
     ensures { λ r. ⌜ r ≡ profileAnswer (firstBreak [] 0 (itemsOf (parsed onNoPlan (now (log .entry))))) ⌝ }
 {
-    let mut at = Cursor { at: 0 };
+    let mut at = Cursor { at: 0, ahead: 0 };
     let mut seen = nothing();
     loop {
         let place = at.at;

@@ -20,7 +20,7 @@ fn first_mark(log: &[u8]) -> Verdict
     requires { ⌜ parsed onNoPlan (now log) ≡ items (itemsOf (parsed onNoPlan (now log))) ⌝ }
     ensures { λ r. ⌜ r ≡ verdictOf (firstMark 0 (itemsOf (parsed onNoPlan (now (log .entry))))) ⌝ }
 {
-    let mut at = Cursor { at: 0 };
+    let mut at = Cursor { at: 0, ahead: 0 };
     loop {
         let place = at.at;
         match at.item(log) {

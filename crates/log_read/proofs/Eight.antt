@@ -9,7 +9,8 @@ use lib.Seq.{drop-at, take-at, drop-drop, getD-drop}
 use lib.Pow.{pow-pos, split, shr-lt, shr-shr}
 use Rattle.format.specs.Bits.{bitsOf, bytesBits, numOf}
 use Rattle.format.specs.Log.{field}
-use Rattle.log_read.specs.Cursor.{eight, said, windowOf, endingOf, Window, Ending}
+use Rattle.log_read.specs.Cursor.{eight, said, aheadOf, filledOf, tagFilledOf, Ahead}
+use Rattle.log_read.specs.declared.Cursor.{Cursor}
 use Rattle.format.specs.Laws.Log.Fields.{bits-num, num-bits}
 use Rattle.format.specs.Laws.Log.Forth.{bytes-low}
 use Rattle.format.specs.Laws.Bits.{length-bits, bits-cat, bits-mod, length-bytes, bytes-append, bytes-drop}
@@ -74,13 +75,6 @@ field64 w k n r e =
     ∙ num-bits 0 n (w / 2 ^ r % 2 ^ n)
     ∙ rw (mod-eq-of-lt (mod-lt (w / 2 ^ r) (pow-pos n))) (omega arith)
 
--- the bits from `at` on are those of the bytes from at / 8 on, less at % 8
-pub drop-bits : (s : List ℕ) (at : ℕ) → drop at (bytesBits s) ≡ drop (at % 8) (bytesBits (drop (at / 8) s))
-drop-bits s at =
-    ap (λ (n : ℕ). drop n (bytesBits s)) (sym (div-add-mod' at 8))
-    ∙ sym (drop-drop (at % 8) (at / 8 * 8) (bytesBits s))
-    ∙ ap (drop (at % 8)) (bytes-drop (at / 8) s)
-
 -- a number moved up by a bits, of which 64 are kept: its bits but the first a, and a zeros
 moved-bits : (w a : ℕ) → a ≤ 64 → bitsOf 64 (w * 2 ^ a % 2 ^ 64) ≡ drop a (bitsOf 64 w) ++ bitsOf a 0
 moved-bits w a h =
@@ -106,55 +100,38 @@ said-bits s i =
     let l : length (bytesBits (eight s i)) ≡ 64 = length-bytes (eight s i) in
     sym (rw l at (bits-num 0 (bytesBits (eight s i)) (bytes-low (eight s i))))
 
--- the window at a bit: its eight bytes, moved up
-window-moved : (s : List ℕ) (at w : ℕ) → bytesBits (eight s (at / 8)) ≡ bitsOf 64 w → Window (bytesBits s) at (w * 2 ^ (at % 8) % 2 ^ 64)
+-- eight bytes from i on, moved up by a bits, are ahead of a cursor a bits further on
+moved-ahead : (s : List ℕ) (i a p n w : ℕ) → p ≡ i * 8 + a → a + n ≤ 64 → bytesBits (eight s i) ≡ bitsOf 64 w
+    → Ahead (bytesBits s) p n 0 (record { at = p; ahead = w * 2 ^ a % 2 ^ 64 })
 unfolding field
-window-moved s at w e k n g h =
-    let a = at % 8 in
-    let i = at / 8 in
-    let v = w * 2 ^ a % 2 ^ 64 in
-    let l : length (bytesBits s) ≡ length s * 8 = length-bytes s in
-    let h1 : (a + k) + n ≤ length (drop i s) * 8 = rw length-drop (omega arith) in
-    let h2 : k + n ≤ length (drop a (bitsOf 64 w)) = rw (length-drop, length-bits 64 w) (omega arith) in
-    let d : drop (at + k) (bytesBits s) ≡ drop (a + k) (bytesBits (drop i s)) =
-    sym (drop-drop k at (bytesBits s)) ∙ ap (drop k) (drop-bits s at) ∙ drop-drop k a (bytesBits (drop i s)) in
-    ap (λ (l : List ℕ). numOf (take n l)) d
-    ∙ ap numOf (eight-same s i (a + k) n h1 (omega arith)
-    ∙ ap (λ (l : List ℕ). take n (drop (a + k) l)) e
-    ∙ ap (take n) (sym (drop-drop k a (bitsOf 64 w)))
-    ∙ sym (in-first n k (drop a (bitsOf 64 w)) (bitsOf a 0) h2)
-    ∙ ap (λ (l : List ℕ). take n (drop k l)) (sym (moved-bits w a (omega arith))))
-    ∙ field64 v k n (64 - k - n) (omega arith)
+moved-ahead s i a p n w z few e = record {
+  place = sym (add-zero p);
+  small = mod-lt (w * 2 ^ a) (pow-pos 64);
+  bits = λ j m g h.
+      let v = w * 2 ^ a % 2 ^ 64 in
+      let l : length (bytesBits s) ≡ length s * 8 = length-bytes s in
+      let at : p + (0 + j) ≡ i * 8 + (a + j) = omega arith in
+      let h1 : (a + j) + m ≤ length (drop i s) * 8 = rw length-drop (omega arith) in
+      let h2 : j + m ≤ length (drop a (bitsOf 64 w)) = rw (length-drop, length-bits 64 w) (omega arith) in
+      let d : drop (p + (0 + j)) (bytesBits s) ≡ drop (a + j) (bytesBits (drop i s)) =
+      ap (λ (k : ℕ). drop k (bytesBits s)) at ∙ sym (drop-drop (a + j) (i * 8) (bytesBits s)) ∙ ap (drop (a + j)) (bytes-drop i s) in
+      ap (λ (l : List ℕ). numOf (take m l)) d
+      ∙ ap numOf (eight-same s i (a + j) m h1 (omega arith)
+      ∙ ap (λ (l : List ℕ). take m (drop (a + j) l)) e
+      ∙ ap (take m) (sym (drop-drop j a (bitsOf 64 w)))
+      ∙ sym (in-first m j (drop a (bitsOf 64 w)) (bitsOf a 0) h2)
+      ∙ ap (λ (l : List ℕ). take m (drop j l)) (sym (moved-bits w a (omega arith))))
+      ∙ field64 v j m (64 - j - m) (omega arith);
+}
 
-pub window-is : (s : List ℕ) (at : ℕ) {w : ℕ} → w ≡ windowOf s at → Window (bytesBits s) at w
-unfolding windowOf
-window-is s at {w} e = rw e (window-moved s at (said s (at / 8)) (said-bits s (at / 8)))
+-- a filled cursor has 57 bits ahead, and one that is filled for a tag has 46
+pub filled-ahead : (log : List ℕ) (p : ℕ) {c : Cursor} → c ≡ filledOf log p → Ahead (bytesBits log) p 57 0 c
+unfolding aheadOf
+filled-ahead log p e = rw e (moved-ahead log (p / 8) (p % 8) p 57 (said log (p / 8)) (omega arith) (omega arith) (said-bits log (p / 8)))
 
--- a field at the window's front is its highest bits
-pub window-top : (s : List ℕ) (p w n : ℕ) → Window s p w → w < 2 ^ 64 → n ≤ 57 → p + n ≤ length s → field s p n ≡ w / 2 ^ (64 - n)
-window-top s p w n f hw h l =
-    let e : n + (64 - n) ≡ 64 = omega arith in
-    let g : w < 2 ^ (n + (64 - n)) = rw e hw in
-    ap (λ (q : ℕ). field s q n) (sym (add-zero p)) ∙ f 0 n (omega arith) (omega arith) ∙ mod-eq-of-lt (shr-lt n (64 - n) g)
-
--- the bits up to e: eight bytes of which `past` bits are behind e
-ending-at : (s : List ℕ) (i past e w : ℕ) → e + past ≡ i * 8 + 64 → past ≤ 7 → e ≤ length s * 8 → bytesBits (eight s i) ≡ bitsOf 64 w → Ending (bytesBits s) e (w / 2 ^ past)
-unfolding field
-ending-at s i past e w z few hi q k n g =
-    let j = 64 - (past + k + n) in
-    let at : e - k - n ≡ i * 8 + j = omega arith in
-    let there : j + n ≤ length (drop i s) * 8 = rw length-drop (omega arith) in
-    let d : drop (e - k - n) (bytesBits s) ≡ drop j (bytesBits (drop i s)) =
-    ap (λ (m : ℕ). drop m (bytesBits s)) at ∙ sym (drop-drop j (i * 8) (bytesBits s)) ∙ ap (drop j) (bytes-drop i s) in
-    ap (λ (l : List ℕ). numOf (take n l)) d
-    ∙ ap numOf (eight-same s i j n there (omega arith) ∙ ap (λ (l : List ℕ). take n (drop j l)) q)
-    ∙ field64 w j n (past + k) (omega arith)
-    ∙ ap (λ (m : ℕ). m % 2 ^ n) (sym (shr-shr w past k))
-
-ending-moved : (s : List ℕ) (e w : ℕ) → 64 ≤ e → e ≤ length s * 8 → bytesBits (eight s ((e + 7) / 8 - 8)) ≡ bitsOf 64 w
-    → Ending (bytesBits s) e (w / 2 ^ (8 * ((e + 7) / 8) - e))
-ending-moved s e w lo hi q = ending-at s ((e + 7) / 8 - 8) (8 * ((e + 7) / 8) - e) e w (omega arith) (omega arith) hi q
-
-pub ending-is : (s : List ℕ) (e : ℕ) {w : ℕ} → w ≡ endingOf s e → 64 ≤ e → e ≤ length s * 8 → Ending (bytesBits s) e w
-unfolding endingOf
-ending-is s e {w} z lo hi = rw z (ending-moved s e (said s ((e + 7) / 8 - 8)) lo hi (said-bits s ((e + 7) / 8 - 8)))
+pub tag-ahead : (log : List ℕ) (p : ℕ) {c : Cursor} → 18 ≤ p → c ≡ tagFilledOf log p → Ahead (bytesBits log) p 46 0 c
+unfolding aheadOf
+tag-ahead log p far e =
+    let i = (p + 53) / 8 - 8 in
+    let a = p + 64 - 8 * ((p + 53) / 8) in
+    rw e (moved-ahead log i a p 46 (said log i) (omega arith) (omega arith) (said-bits log i))

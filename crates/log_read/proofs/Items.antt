@@ -1,171 +1,195 @@
--- An item of each kind, read from the window at its first bit.
-use Prim.Native.Nat.{ℕ, suc, _+_, _*_, _-_, _/_, _%_, _^_, _≤_, _<_}
-use native.Mathlib.Nat.{add-assoc, mod-eq-of-lt}
+-- An item of each kind, by the fields that were taken behind its kind and bus: it is there if the log has the bits before its end.
+use Prim.Native.Nat.{ℕ, _+_, _-_, _/_, _^_, _≤_, _<_}
+use native.Mathlib.Nat.{add-assoc, add-zero}
 use native.Mathlib.Omega.{arith}
-use mathlib.Core.Bool.{true, false}
-use mathlib.Core.Path.{_≡_, ap, sym, _∙_}
+use native.Mathlib.Decide.{decLe}
+use mathlib.Core.Bool.{Bool, true, false, cond, _&&_}
+use mathlib.Core.Path.{_≡_, refl, ap, sym, _∙_}
 use mathlib.Core.List.{List}
 use lib.ListN.{length, drop, length-drop}
 use lib.Seq.{take-all}
-use lib.Pow.{shr-lt}
 use lib.Dec.{eqb, leb, ltb}
-use borrow.Author.Tests.{eq-eqb, ne-eqb, le-leb, lt-leb, lt-ltb, le-ltb}
-use Rattle.format.specs.Bits.{bytesBits, numOf}
-use Rattle.format.specs.Log.{field, endAt, itemAt, nextAt, has, ends, wrong}
+use borrow.Author.Tests.{eq-eqb, ne-eqb, le-leb, lt-leb, leb-true, leb-false, ltb-true, lt-ltb, le-ltb}
+use Rattle.format.specs.Bits.{numOf}
+use Rattle.format.specs.Log.{field, flag, ifThere, tagged, timed, endAt, itemAt, nextAt, Next, has, ends, wrong}
+use Rattle.format.specs.declared.Item.{Item}
+use Rattle.format.specs.declared.Tag.{Tag}
 use Rattle.format.specs.declared.Tag.the-variants.{Untagged, At}
+use Rattle.format.specs.declared.Time.{Time}
+use Rattle.format.specs.declared.Response.{Response}
 use Rattle.format.specs.declared.Response.the-variants.{Untimed, After}
 use Rattle.format.specs.declared.Item.the-variants.{Command, Status, Data, BusError, Arinc, Notice, User, Overflow}
-use Rattle.log_read.specs.Cursor.{Window}
-use Rattle.log_read.specs.Found.{timeAt}
-use Rattle.format.specs.Laws.Bits.{length-bytes}
-use Rattle.log_read.proofs.Eight.{window-top}
+use Rattle.log_read.specs.declared.Cursor.{Cursor}
+use Rattle.log_read.specs.declared.Head.{Head}
+use Rattle.log_read.specs.declared.Found.{Found}
+use Rattle.log_read.specs.Cursor.{Ahead, tookOf}
+use Rattle.log_read.specs.Fields.{Heads, sidedOf, markedOf, channelledOf, noticedOf, endsOf}
+use Rattle.log_read.specs.Found.{foundOf, timeAt, FindsIn}
+use Rattle.log_read.proofs.Table.{sided-read, marked-read, marked-ahead, channelled-read, noticed-read}
+use Rattle.log_read.proofs.Taken.{took-field}
 
-pub next-past : (log : List ℕ) (p : ℕ) → length log * 8 < p + 4 → nextAt (bytesBits log) p ≡ wrong
+-- an item where its bits are there, and nothing where it is cut
+pub there : (s : List ℕ) (e : ℕ) (x : Next) → e ≤ length s → ifThere s e x ≡ x
+there s e x l = rw (le-leb e (length s) l)
+
+pub cut : (s : List ℕ) (e : ℕ) (x : Next) → length s < e → ifThere s e x ≡ wrong
+cut s e x l = rw (lt-leb e (length s) l)
+
+-- what is said only of bits that are there
+same-there : (s : List ℕ) (e : ℕ) (x y : Next) → (e ≤ length s → x ≡ y) → ifThere s e x ≡ ifThere s e y
+same-there s e x y h = go (leb e (length s)) refl
+  where
+    go : (b : Bool) → leb e (length s) ≡ b → cond b x wrong ≡ cond b y wrong
+    go true t = h (leb-true e (length s) t)
+    go false t = refl
+
+-- of two ends the later one
+there-there : (s : List ℕ) (e k : ℕ) (x : Next) → ifThere s e (ifThere s (e + k) x) ≡ ifThere s (e + k) x
+there-there s e k x = go (leb e (length s)) refl
+  where
+    go : (b : Bool) → leb e (length s) ≡ b → cond b (ifThere s (e + k) x) wrong ≡ ifThere s (e + k) x
+    go true t = refl
+    go false t = sym (cut s (e + k) x (omega (arith, leb-false e (length s) t)))
+
+module _ {s : List ℕ} {p : ℕ} {h : Head} (g : Heads s p h) where
+  bus-is : p + 8 ≤ length s → field s (p + 4) 4 ≡ h .bus
+  bus-is l = sym (g .bus l)
+
+  -- the kinds of one word and one bit
+  one-bit : (item : ℕ → Bool → ℕ → Item)
+      → ifThere s (p + 25) (has (item (field s (p + 4) 4) (flag s (p + 8)) (field s (p + 9) 16)) (p + 25))
+      ≡ ifThere s (p + 25) (has (item (h .bus) (eqb (sidedOf (h .next) .side) 1) (sidedOf (h .next) .word)) (p + 25))
+  one-bit item =
+      same-there s (p + 25) (has (item (field s (p + 4) 4) (flag s (p + 8)) (field s (p + 9) 16)) (p + 25))
+      (has (item (h .bus) (eqb (sidedOf (h .next) .side) 1) (sidedOf (h .next) .word)) (p + 25))
+      (λ l. let f = sided-read (g .next) l in rw (bus-is (omega arith), f .0, f .1))
+
+  pub data-at : itemAt s p 3 ≡ ifThere s (p + 25) (has (Data (h .bus) (eqb (sidedOf (h .next) .side) 1) (sidedOf (h .next) .word)) (p + 25))
+  unfolding itemAt
+  data-at = one-bit Data
+
+  pub error-at : itemAt s p 4 ≡ ifThere s (p + 25) (has (BusError (h .bus) (eqb (sidedOf (h .next) .side) 1) (sidedOf (h .next) .word)) (p + 25))
+  unfolding itemAt
+  error-at = one-bit BusError
+
+  pub user-at : itemAt s p 7 ≡ ifThere s (p + 25) (has (User (h .bus) (eqb (sidedOf (h .next) .side) 1) (sidedOf (h .next) .word)) (p + 25))
+  unfolding itemAt
+  user-at = one-bit User
+
+  pub overflow-at : itemAt s p 8 ≡ ifThere s (p + 24) (has (Overflow (h .bus) (tookOf (h .next) 16 .field)) (p + 24))
+  unfolding itemAt
+  overflow-at =
+      same-there s (p + 24) (has (Overflow (field s (p + 4) 4) (field s (p + 8) 16)) (p + 24))
+      (has (Overflow (h .bus) (tookOf (h .next) 16 .field)) (p + 24))
+      (λ l. rw (bus-is (omega arith), took-field (g .next) (omega arith) 16 (omega arith) l))
+
+  pub notice-at : itemAt s p 6 ≡ ifThere s (p + 18) (has (Notice (h .bus) (noticedOf (h .next) .channel) (noticedOf (h .next) .diagnostics)) (p + 18))
+  unfolding itemAt
+  notice-at =
+      same-there s (p + 18) (has (Notice (field s (p + 4) 4) (field s (p + 8) 2) (field s (p + 10) 8)) (p + 18))
+      (has (Notice (h .bus) (noticedOf (h .next) .channel) (noticedOf (h .next) .diagnostics)) (p + 18))
+      (λ l. let f = noticed-read (g .next) l in rw (bus-is (omega arith), f .0, f .1))
+
+  -- a command and a status, by their mark
+  module _ (off : markedOf (h .next) .mark ≡ 1 → ⊥) where
+    pub command-plain : itemAt s p 1 ≡ ifThere s (p + 26) (has (Command (h .bus) (eqb (markedOf (h .next) .side) 1) Untagged (markedOf (h .next) .word)) (p + 26))
+    unfolding itemAt
+    command-plain =
+        same-there s (p + 26) (tagged s (flag s (p + 9)) (p + 26) (λ t. Command (field s (p + 4) 4) (flag s (p + 8)) t (field s (p + 10) 16)))
+        (has (Command (h .bus) (eqb (markedOf (h .next) .side) 1) Untagged (markedOf (h .next) .word)) (p + 26))
+        (λ l. let f = marked-read (g .next) l in rw (bus-is (omega arith), f .0, f .1, f .2, ne-eqb (markedOf (h .next) .mark) 1 off))
+
+    pub status-plain : itemAt s p 2 ≡ ifThere s (p + 26) (has (Status (h .bus) (eqb (markedOf (h .next) .side) 1) Untimed (markedOf (h .next) .word)) (p + 26))
+    unfolding itemAt
+    status-plain =
+        same-there s (p + 26) (timed s (flag s (p + 9)) (p + 26) (λ r. Status (field s (p + 4) 4) (flag s (p + 8)) r (field s (p + 10) 16)))
+        (has (Status (h .bus) (eqb (markedOf (h .next) .side) 1) Untimed (markedOf (h .next) .word)) (p + 26))
+        (λ l. let f = marked-read (g .next) l in rw (bus-is (omega arith), f .0, f .1, f .2, ne-eqb (markedOf (h .next) .mark) 1 off))
+
+  module _ (on : markedOf (h .next) .mark ≡ 1) where
+    pub command-tagged : (t : Time) → (p + 26 + 46 ≤ length s → timeAt s (p + 26) ≡ t)
+        → itemAt s p 1 ≡ ifThere s (p + 26 + 46) (has (Command (h .bus) (eqb (markedOf (h .next) .side) 1) (At t) (markedOf (h .next) .word)) (p + 26 + 46))
+    unfolding itemAt
+    command-tagged t e =
+        let new : Next = has (Command (h .bus) (eqb (markedOf (h .next) .side) 1) (At t) (markedOf (h .next) .word)) (p + 26 + 46) in
+        let old : Next = has (Command (field s (p + 4) 4) (flag s (p + 8)) (At (timeAt s (p + 26))) (field s (p + 10) 16)) (p + 26 + 46) in
+        same-there s (p + 26) (tagged s (flag s (p + 9)) (p + 26) (λ t. Command (field s (p + 4) 4) (flag s (p + 8)) t (field s (p + 10) 16)))
+        (ifThere s (p + 26 + 46) old)
+        (λ l. let f = marked-read (g .next) l in rw (f .1, eq-eqb (markedOf (h .next) .mark) 1 on))
+        ∙ there-there s (p + 26) 46 old
+        ∙ same-there s (p + 26 + 46) old new
+        (λ l. let f = marked-read (g .next) (omega arith) in rw (bus-is (omega arith), f .0, f .2, e l))
+
+    pub status-timed : itemAt s p 2
+        ≡ ifThere s (p + 26 + 14) (has (Status (h .bus) (eqb (markedOf (h .next) .side) 1) (After (tookOf (markedOf (h .next) .next) 14 .field)) (markedOf (h .next) .word)) (p + 26 + 14))
+    unfolding itemAt
+    status-timed =
+        let r : ℕ = tookOf (markedOf (h .next) .next) 14 .field in
+        let new : Next = has (Status (h .bus) (eqb (markedOf (h .next) .side) 1) (After r) (markedOf (h .next) .word)) (p + 26 + 14) in
+        let old : Next = has (Status (field s (p + 4) 4) (flag s (p + 8)) (After (field s (p + 26) 14)) (field s (p + 10) 16)) (p + 26 + 14) in
+        same-there s (p + 26) (timed s (flag s (p + 9)) (p + 26) (λ r. Status (field s (p + 4) 4) (flag s (p + 8)) r (field s (p + 10) 16)))
+        (ifThere s (p + 26 + 14) old)
+        (λ l. let f = marked-read (g .next) l in rw (f .1, eq-eqb (markedOf (h .next) .mark) 1 on))
+        ∙ there-there s (p + 26) 14 old
+        ∙ same-there s (p + 26 + 14) old new
+        (λ l. let f = marked-read (g .next) (omega arith) in rw (bus-is (omega arith), f .0, f .2, took-field (marked-ahead (g .next)) (omega arith) 14 (omega arith) (omega arith)))
+
+  -- an ARINC word, by its mark
+  pub arinc-plain : (channelledOf (h .next) .mark ≡ 1 → ⊥)
+      → itemAt s p 5 ≡ ifThere s (p + 43) (has (Arinc (h .bus) (channelledOf (h .next) .channel) Untagged (channelledOf (h .next) .word)) (p + 43))
+  unfolding itemAt
+  arinc-plain off =
+      same-there s (p + 43) (tagged s (flag s (p + 10)) (p + 43) (λ t. Arinc (field s (p + 4) 4) (field s (p + 8) 2) t (field s (p + 11) 32)))
+      (has (Arinc (h .bus) (channelledOf (h .next) .channel) Untagged (channelledOf (h .next) .word)) (p + 43))
+      (λ l. let f = channelled-read (g .next) l in rw (bus-is (omega arith), f .0, f .1, f .2, ne-eqb (channelledOf (h .next) .mark) 1 off))
+
+  pub arinc-tagged : (channelledOf (h .next) .mark ≡ 1) → (t : Time) → (p + 43 + 46 ≤ length s → timeAt s (p + 43) ≡ t)
+      → itemAt s p 5 ≡ ifThere s (p + 43 + 46) (has (Arinc (h .bus) (channelledOf (h .next) .channel) (At t) (channelledOf (h .next) .word)) (p + 43 + 46))
+  unfolding itemAt
+  arinc-tagged on t e =
+      let new : Next = has (Arinc (h .bus) (channelledOf (h .next) .channel) (At t) (channelledOf (h .next) .word)) (p + 43 + 46) in
+      let old : Next = has (Arinc (field s (p + 4) 4) (field s (p + 8) 2) (At (timeAt s (p + 43))) (field s (p + 11) 32)) (p + 43 + 46) in
+      same-there s (p + 43) (tagged s (flag s (p + 10)) (p + 43) (λ t. Arinc (field s (p + 4) 4) (field s (p + 8) 2) t (field s (p + 11) 32)))
+      (ifThere s (p + 43 + 46) old)
+      (λ l. let f = channelled-read (g .next) l in rw (f .1, eq-eqb (channelledOf (h .next) .mark) 1 on))
+      ∙ there-there s (p + 43) 46 old
+      ∙ same-there s (p + 43 + 46) old new
+      (λ l. let f = channelled-read (g .next) (omega arith) in rw (bus-is (omega arith), f .0, f .2, e l))
+
+-- no item is of another kind, and none where not even its kind is there
+pub none-other : (s : List ℕ) (p k : ℕ) → (k ≡ 1 → ⊥) → (k ≡ 2 → ⊥) → (k ≡ 3 → ⊥) → (k ≡ 4 → ⊥) → (k ≡ 5 → ⊥) → (k ≡ 6 → ⊥) → (k ≡ 7 → ⊥) → (k ≡ 8 → ⊥) → itemAt s p k ≡ wrong
+unfolding itemAt
+none-other s p k a b c d e f g h = simp (ne-eqb k 1 a, ne-eqb k 2 b, ne-eqb k 3 c, ne-eqb k 4 d, ne-eqb k 5 e, ne-eqb k 6 f, ne-eqb k 7 g, ne-eqb k 8 h)
+
+cond-wrong : (b : Bool) (x y : Next) → x ≡ wrong → y ≡ wrong → cond b x y ≡ wrong
+cond-wrong true x y e f = e
+cond-wrong false x y e f = f
+
+none-past : (s : List ℕ) (p k : ℕ) → length s < p + 4 → itemAt s p k ≡ wrong
+unfolding itemAt
+none-past s p k l =
+    cond-wrong (eqb k 1) _ _ (cut s (p + 26) _ (omega arith))
+    (cond-wrong (eqb k 2) _ _ (cut s (p + 26) _ (omega arith))
+    (cond-wrong (eqb k 3) _ _ (cut s (p + 25) _ (omega arith))
+    (cond-wrong (eqb k 4) _ _ (cut s (p + 25) _ (omega arith))
+    (cond-wrong (eqb k 5) _ _ (cut s (p + 43) _ (omega arith))
+    (cond-wrong (eqb k 6) _ _ (cut s (p + 18) _ (omega arith))
+    (cond-wrong (eqb k 7) _ _ (cut s (p + 25) _ (omega arith))
+    (cond-wrong (eqb k 8) _ _ (cut s (p + 24) _ (omega arith)) refl)))))))
+
+-- what stands at p, by the kind in the head
+pub next-past : (s : List ℕ) (p : ℕ) → length s < p + 4 → nextAt s p ≡ wrong
 unfolding nextAt
-next-past log p h = rw (lt-leb (p + 4) (length (bytesBits log)) (omega (arith, length-bytes log)))
+next-past s p l = cut s (p + 4) _ l
 
--- l bits are left from p on, and w is the window there
-module _ (log : List ℕ) (p l w : ℕ) (win : Window (bytesBits log) p w) (e : p + l ≡ length log * 8) where
-  there : (k : ℕ) → k ≤ l → leb (p + k) (length (bytesBits log)) ≡ true
-  there k h = le-leb (p + k) (length (bytesBits log)) (omega (arith, length-bytes log))
+pub next-item : {s : List ℕ} {p : ℕ} {h : Head} → Heads s p h → (h .kind ≡ 0 → ⊥) → nextAt s p ≡ itemAt s p (h .kind)
+unfolding nextAt
+next-item {s} {p} {h} g n = go (decLe (p + 4) (length s))
+  where
+    go : Dec (p + 4 ≤ length s) → nextAt s p ≡ itemAt s p (h .kind)
+    go (yes l) = rw (le-leb (p + 4) (length s) l, ← g .kind l, ne-eqb (h .kind) 0 n)
+    go (no l) = next-past s p (omega arith) ∙ sym (none-past s p (h .kind) (omega arith))
 
-  cut : (k : ℕ) → l < k → leb (p + k) (length (bytesBits log)) ≡ false
-  cut k h = lt-leb (p + k) (length (bytesBits log)) (omega (arith, length-bytes log))
-
-  bits : (k n : ℕ) → k + n ≤ 57 → k + n ≤ l → field (bytesBits log) (p + k) n ≡ w / 2 ^ (64 - k - n) % 2 ^ n
-  bits k n h g = win k n h (omega (arith, length-bytes log))
-
-  pub time-whole : 46 ≤ l → w < 2 ^ 64 → timeAt (bytesBits log) p ≡ record { high = w / 281474976710656; low = w / 4294967296 % 65536; micro = w / 262144 % 16384 }
-  time-whole h g = rw (window-top (bytesBits log) p w 16 win g (omega arith) (omega (arith, length-bytes log)), bits 16 16 (omega arith) (omega arith), bits 32 14 (omega arith) (omega arith))
-
-  -- the kind, in the window's highest bits
-  module _ (hw : w < 2 ^ 64) (hl : 4 ≤ l) where
-    kind-top : field (bytesBits log) p 4 ≡ w / 2 ^ 60
-    kind-top = window-top (bytesBits log) p w 4 win hw (omega arith) (omega (arith, length-bytes log))
-
-    pub next-end : w / 2 ^ 60 ≡ 0 → nextAt (bytesBits log) p ≡ endAt (bytesBits log) p
-    unfolding nextAt
-    next-end z = simp (there 4 hl, kind-top, z)
-
-    pub next-item : (k : ℕ) → 0 < k → w / 2 ^ 60 ≡ k → nextAt (bytesBits log) p ≡ itemAt (bytesBits log) p k
-    unfolding nextAt
-    next-item k h z = simp (there 4 hl, kind-top, z, ne-eqb k 0 (λ q. omega arith))
-
-    pub next-unknown : (w / 2 ^ 60 ≡ 0 → ⊥) → (w / 2 ^ 60 ≡ 1 → ⊥) → (w / 2 ^ 60 ≡ 2 → ⊥) → (w / 2 ^ 60 ≡ 3 → ⊥) → (w / 2 ^ 60 ≡ 4 → ⊥) → (w / 2 ^ 60 ≡ 5 → ⊥) → (w / 2 ^ 60 ≡ 6 → ⊥) → (w / 2 ^ 60 ≡ 7 → ⊥) → (w / 2 ^ 60 ≡ 8 → ⊥) → nextAt (bytesBits log) p ≡ wrong
-    unfolding nextAt itemAt
-    next-unknown n0 n1 n2 n3 n4 n5 n6 n7 n8 = simp (there 4 hl, kind-top, ne-eqb (w / 2 ^ 60) 0 n0, ne-eqb (w / 2 ^ 60) 1 n1, ne-eqb (w / 2 ^ 60) 2 n2, ne-eqb (w / 2 ^ 60) 3 n3, ne-eqb (w / 2 ^ 60) 4 n4, ne-eqb (w / 2 ^ 60) 5 n5, ne-eqb (w / 2 ^ 60) 6 n6, ne-eqb (w / 2 ^ 60) 7 n7, ne-eqb (w / 2 ^ 60) 8 n8)
-
-  -- "zero bits fill its last byte and nothing follows"
-  pub end-far : 12 ≤ l → endAt (bytesBits log) p ≡ wrong
-  end-far h = rw (le-ltb (length (bytesBits log)) (p + 12) (omega (arith, length-bytes log)))
-
-  module _ (lo : 4 ≤ l) (hi : l < 12) (z : w / 2 ^ 60 ≡ 0) where
-    rest-num : numOf (drop (p + 4) (bytesBits log)) ≡ w / 2 ^ (64 - l)
-    unfolding field
-    rest-num =
-        let s = bytesBits log in
-        let r : 64 - 4 - (l - 4) ≡ 64 - l = omega arith in
-        let q : l - 4 + (64 - l) ≡ 60 = omega arith in
-        let small : w < 2 ^ (l - 4 + (64 - l)) = rw q (omega arith) in
-        let all : length (drop (p + 4) s) ≤ l - 4 = simp length-drop (omega (arith, length-bytes log)) in
-        ap numOf (sym (take-all (l - 4) (drop (p + 4) s) all))
-        ∙ bits 4 (l - 4) (omega arith) (omega arith)
-        ∙ ap (λ (n : ℕ). w / 2 ^ n % 2 ^ (l - 4)) r
-        ∙ mod-eq-of-lt (shr-lt (l - 4) (64 - l) small)
-
-    near : ltb (length (bytesBits log)) (p + 12) ≡ true
-    near = lt-ltb (length (bytesBits log)) (p + 12) (omega (arith, length-bytes log))
-
-    pub end-clean : w / 2 ^ (64 - l) ≡ 0 → endAt (bytesBits log) p ≡ ends
-    end-clean h = simp (near, rest-num, h)
-
-    pub end-dirty : (w / 2 ^ (64 - l) ≡ 0 → ⊥) → endAt (bytesBits log) p ≡ wrong
-    end-dirty h = simp (near, rest-num, ne-eqb _ _ h)
-
-  pub command-cut : l < 26 → itemAt (bytesBits log) p 1 ≡ wrong
-  unfolding itemAt
-  command-cut h = simp (cut 26 h)
-
-  pub status-cut : l < 26 → itemAt (bytesBits log) p 2 ≡ wrong
-  unfolding itemAt
-  status-cut h = simp (cut 26 h)
-
-  pub data-cut : l < 25 → itemAt (bytesBits log) p 3 ≡ wrong
-  unfolding itemAt
-  data-cut h = simp (cut 25 h)
-
-  pub bus-error-cut : l < 25 → itemAt (bytesBits log) p 4 ≡ wrong
-  unfolding itemAt
-  bus-error-cut h = simp (cut 25 h)
-
-  pub arinc-cut : l < 43 → itemAt (bytesBits log) p 5 ≡ wrong
-  unfolding itemAt
-  arinc-cut h = simp (cut 43 h)
-
-  pub notice-cut : l < 18 → itemAt (bytesBits log) p 6 ≡ wrong
-  unfolding itemAt
-  notice-cut h = simp (cut 18 h)
-
-  pub user-cut : l < 25 → itemAt (bytesBits log) p 7 ≡ wrong
-  unfolding itemAt
-  user-cut h = simp (cut 25 h)
-
-  pub overflow-cut : l < 24 → itemAt (bytesBits log) p 8 ≡ wrong
-  unfolding itemAt
-  overflow-cut h = simp (cut 24 h)
-
-  pub command-plain : 26 ≤ l → (w / 18014398509481984 % 2 ≡ 1 → ⊥) → itemAt (bytesBits log) p 1 ≡ has (Command (w / 72057594037927936 % 16) (eqb (w / 36028797018963968 % 2) 1) Untagged (w / 274877906944 % 65536)) (p + 26)
-  unfolding itemAt
-  command-plain g f = simp (there 26 (omega arith), bits 9 1 (omega arith) (omega arith), ne-eqb _ _ f, bits 4 4 (omega arith) (omega arith), bits 8 1 (omega arith) (omega arith), bits 10 16 (omega arith) (omega arith))
-
-  pub command-tag-cut : 26 ≤ l → w / 18014398509481984 % 2 ≡ 1 → l < 72 → itemAt (bytesBits log) p 1 ≡ wrong
-  unfolding itemAt
-  command-tag-cut g f h = simp (there 26 (omega arith), bits 9 1 (omega arith) (omega arith), eq-eqb _ _ f, add-assoc p 26 46, cut 72 h)
-
-  pub command-tag : 72 ≤ l → w / 18014398509481984 % 2 ≡ 1 → itemAt (bytesBits log) p 1 ≡ has (Command (w / 72057594037927936 % 16) (eqb (w / 36028797018963968 % 2) 1) (At (timeAt (bytesBits log) (p + 26))) (w / 274877906944 % 65536)) (p + 26 + 46)
-  unfolding itemAt
-  command-tag g f = simp (there 26 (omega arith), bits 9 1 (omega arith) (omega arith), eq-eqb _ _ f, add-assoc p 26 46, there 72 (omega arith), bits 4 4 (omega arith) (omega arith), bits 8 1 (omega arith) (omega arith), bits 10 16 (omega arith) (omega arith))
-
-  pub status-plain : 26 ≤ l → (w / 18014398509481984 % 2 ≡ 1 → ⊥) → itemAt (bytesBits log) p 2 ≡ has (Status (w / 72057594037927936 % 16) (eqb (w / 36028797018963968 % 2) 1) Untimed (w / 274877906944 % 65536)) (p + 26)
-  unfolding itemAt
-  status-plain g f = simp (there 26 (omega arith), bits 9 1 (omega arith) (omega arith), ne-eqb _ _ f, bits 4 4 (omega arith) (omega arith), bits 8 1 (omega arith) (omega arith), bits 10 16 (omega arith) (omega arith))
-
-  pub status-response-cut : 26 ≤ l → w / 18014398509481984 % 2 ≡ 1 → l < 40 → itemAt (bytesBits log) p 2 ≡ wrong
-  unfolding itemAt
-  status-response-cut g f h = simp (there 26 (omega arith), bits 9 1 (omega arith) (omega arith), eq-eqb _ _ f, add-assoc p 26 14, cut 40 h)
-
-  pub status-response : 40 ≤ l → w / 18014398509481984 % 2 ≡ 1 → itemAt (bytesBits log) p 2 ≡ has (Status (w / 72057594037927936 % 16) (eqb (w / 36028797018963968 % 2) 1) (After (w / 16777216 % 16384)) (w / 274877906944 % 65536)) (p + 26 + 14)
-  unfolding itemAt
-  status-response g f = simp (there 26 (omega arith), bits 9 1 (omega arith) (omega arith), eq-eqb _ _ f, add-assoc p 26 14, there 40 (omega arith), bits 4 4 (omega arith) (omega arith), bits 8 1 (omega arith) (omega arith), bits 10 16 (omega arith) (omega arith), bits 26 14 (omega arith) (omega arith))
-
-  pub arinc-plain : 43 ≤ l → (w / 9007199254740992 % 2 ≡ 1 → ⊥) → itemAt (bytesBits log) p 5 ≡ has (Arinc (w / 72057594037927936 % 16) (w / 18014398509481984 % 4) Untagged (w / 2097152 % 4294967296)) (p + 43)
-  unfolding itemAt
-  arinc-plain g f = simp (there 43 (omega arith), bits 10 1 (omega arith) (omega arith), ne-eqb _ _ f, bits 4 4 (omega arith) (omega arith), bits 8 2 (omega arith) (omega arith), bits 11 32 (omega arith) (omega arith))
-
-  pub arinc-tag-cut : 43 ≤ l → w / 9007199254740992 % 2 ≡ 1 → l < 89 → itemAt (bytesBits log) p 5 ≡ wrong
-  unfolding itemAt
-  arinc-tag-cut g f h = simp (there 43 (omega arith), bits 10 1 (omega arith) (omega arith), eq-eqb _ _ f, add-assoc p 43 46, cut 89 h)
-
-  pub arinc-tag : 89 ≤ l → w / 9007199254740992 % 2 ≡ 1 → itemAt (bytesBits log) p 5 ≡ has (Arinc (w / 72057594037927936 % 16) (w / 18014398509481984 % 4) (At (timeAt (bytesBits log) (p + 43))) (w / 2097152 % 4294967296)) (p + 43 + 46)
-  unfolding itemAt
-  arinc-tag g f = simp (there 43 (omega arith), bits 10 1 (omega arith) (omega arith), eq-eqb _ _ f, add-assoc p 43 46, there 89 (omega arith), bits 4 4 (omega arith) (omega arith), bits 8 2 (omega arith) (omega arith), bits 11 32 (omega arith) (omega arith))
-
-  pub data-whole : 25 ≤ l → itemAt (bytesBits log) p 3 ≡ has (Data (w / 72057594037927936 % 16) (eqb (w / 36028797018963968 % 2) 1) (w / 549755813888 % 65536)) (p + 25)
-  unfolding itemAt
-  data-whole g = simp (there 25 (omega arith), bits 4 4 (omega arith) (omega arith), bits 8 1 (omega arith) (omega arith), bits 9 16 (omega arith) (omega arith))
-
-  pub bus-error-whole : 25 ≤ l → itemAt (bytesBits log) p 4 ≡ has (BusError (w / 72057594037927936 % 16) (eqb (w / 36028797018963968 % 2) 1) (w / 549755813888 % 65536)) (p + 25)
-  unfolding itemAt
-  bus-error-whole g = simp (there 25 (omega arith), bits 4 4 (omega arith) (omega arith), bits 8 1 (omega arith) (omega arith), bits 9 16 (omega arith) (omega arith))
-
-  pub notice-whole : 18 ≤ l → itemAt (bytesBits log) p 6 ≡ has (Notice (w / 72057594037927936 % 16) (w / 18014398509481984 % 4) (w / 70368744177664 % 256)) (p + 18)
-  unfolding itemAt
-  notice-whole g = simp (there 18 (omega arith), bits 4 4 (omega arith) (omega arith), bits 8 2 (omega arith) (omega arith), bits 10 8 (omega arith) (omega arith))
-
-  pub user-whole : 25 ≤ l → itemAt (bytesBits log) p 7 ≡ has (User (w / 72057594037927936 % 16) (eqb (w / 36028797018963968 % 2) 1) (w / 549755813888 % 65536)) (p + 25)
-  unfolding itemAt
-  user-whole g = simp (there 25 (omega arith), bits 4 4 (omega arith) (omega arith), bits 8 1 (omega arith) (omega arith), bits 9 16 (omega arith) (omega arith))
-
-  pub overflow-whole : 24 ≤ l → itemAt (bytesBits log) p 8 ≡ has (Overflow (w / 72057594037927936 % 16) (w / 1099511627776 % 65536)) (p + 24)
-  unfolding itemAt
-  overflow-whole g = simp (there 24 (omega arith), bits 4 4 (omega arith) (omega arith), bits 8 16 (omega arith) (omega arith))
+-- an item of the kind in the head is what stands there
+pub found-item : {s : List ℕ} {p : ℕ} {h : Head} {r : Found} → Heads s p h → (k : ℕ) → 0 < k → h .kind ≡ k → FindsIn s h k r → r ≡ foundOf (nextAt s p)
+found-item {s} {p} g k n e f = f p g ∙ ap foundOf (sym (next-item g (λ z. omega (arith, n, e, z)) ∙ ap (itemAt s p) e))

@@ -1,3 +1,6 @@
 pub mod Eight
+pub mod Taken
+pub mod Table
 pub mod Items
+pub mod Ending
 pub mod Parsing

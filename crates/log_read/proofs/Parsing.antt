@@ -83,7 +83,7 @@ found-has : (n : Next) (i : Item) (c : Cursor) → foundOf n ≡ Has i c → n �
 found-has ends i c e = let z : _≡_ {A = ℕ} 0 1 = cc in absurd (omega arith)
 found-has wrong i c e = let z : _≡_ {A = ℕ} 0 1 = cc in absurd (omega arith)
 found-has (has j q) i c e =
-    let d : Cursor = record { at = q } in
+    let d : Cursor = record { at = q; ahead = 0 } in
     ap₂ has (same-item j i d c e) (ap (λ (f : Cursor). f .at) (same-place j i d c e))
 
 pub found-end : (n : Next) → foundOf n ≡ End → n ≡ ends

@@ -1,18 +1,12 @@
--- Fields of a log at a bit: what is read there.
-use Prim.Native.Nat.{ℕ, _+_, _*_, _-_, _/_, _%_, _^_, _≤_}
-use mathlib.Core.Bool.{cond}
+-- The bit cursor: what is ahead of it, and what is taken from that.
+use Prim.Native.Nat.{ℕ, _+_, _*_, _-_, _/_, _%_, _^_, _≤_, _<_}
 use mathlib.Core.Path.{_≡_}
 use mathlib.Core.List.{List, [], _∷_}
 use lib.ListN.{length, getD}
-use lib.Dec.{leb}
 use Rattle.format.specs.Bits.{bytesBits, numOf}
 use Rattle.format.specs.Log.{field}
+use Rattle.log_read.specs.declared.Cursor.{Cursor}
 use Rattle.log_read.specs.declared.Took.{Took}
-use Rattle.log_read.specs.declared.Took.the-variants.{Field, Cut}
-
--- the w bits from p on, where there are as many
-abbrev pub tookOf : List ℕ → ℕ → ℕ → Took
-tookOf s p w = cond (leb (p + w) (length s)) (Field (field s p w) (record { at = p + w })) Cut
 
 -- the eight bytes from i on, zeros past the end
 abbrev pub eight : List ℕ → ℕ → List ℕ
@@ -24,19 +18,25 @@ eight s i =
 abbrev pub said : List ℕ → ℕ → ℕ
 said log i = numOf (bytesBits (eight log i))
 
--- the eight bytes in which the bit p stands, less the bits before it, and zeros behind
-unfoldable pub windowOf : List ℕ → ℕ → ℕ
-windowOf log p = said log (p / 8) * 2 ^ (p % 8) % 2 ^ 64
+-- the eight bytes from i on less their first a bits, and zeros behind
+unfoldable pub aheadOf : List ℕ → ℕ → ℕ → ℕ
+aheadOf log i a = said log i * 2 ^ a % 2 ^ 64
 
--- the eight bytes of which the last has the bit before e, less the bits from e on
-unfoldable pub endingOf : List ℕ → ℕ → ℕ
-endingOf log e = let last : ℕ = (e + 7) / 8 in said log (last - 8) / 2 ^ (8 * last - e)
+-- the cursor at p, filled from the eight bytes that begin with that of the bit p: 57 bits or more (`filled-ahead`)
+abbrev pub filledOf : List ℕ → ℕ → Cursor
+filledOf log p = record { at = p; ahead = aheadOf log (p / 8) (p % 8) }
 
--- what such a number is for: the highest of the 64 bits of w are those of s from p on, so every field within 57 bits can be read
--- from w (`window-is`)
-abbrev pub Window : List ℕ → ℕ → ℕ → Type 0
-Window s p w = (k n : ℕ) → k + n ≤ 57 → p + k + n ≤ length s → field s (p + k) n ≡ w / 2 ^ (64 - k - n) % 2 ^ n
+-- the cursor at p, filled from the eight bytes that end with that of the bit before p + 46: 46 bits or more (`tag-ahead`)
+abbrev pub tagFilledOf : List ℕ → ℕ → Cursor
+tagFilledOf log p = record { at = p; ahead = aheadOf log ((p + 53) / 8 - 8) (p + 64 - 8 * ((p + 53) / 8)) }
 
--- the lowest bits of w are those of s before e: every field within 57 bits can be read from w (`ending-is`)
-abbrev pub Ending : List ℕ → ℕ → ℕ → Type 0
-Ending s e w = (k n : ℕ) → k + n ≤ 57 → field s (e - k - n) n ≡ w / 2 ^ k % 2 ^ n
+-- the w highest of the bits ahead, and the cursor behind them
+unfoldable pub tookOf : Cursor → ℕ → Took
+tookOf c w = record { field = c .ahead / 2 ^ (64 - w); next = record { at = c .at + w; ahead = c .ahead * 2 ^ w % 2 ^ 64 } }
+
+-- what a cursor is for: c stands k bits behind the bit p of s, and the highest bits of its number are those of s from there up to
+-- the n-th behind p, as far as s has them
+pub record Ahead (s : List ℕ) (p n k : ℕ) (c : Cursor) : Type 0 where
+  pub place : c .at ≡ p + k
+  pub small : c .ahead < 2 ^ 64
+  pub bits : (j w : ℕ) → k + j + w ≤ n → p + (k + j) + w ≤ length s → field s (p + (k + j)) w ≡ c .ahead / 2 ^ (64 - j - w) % 2 ^ w

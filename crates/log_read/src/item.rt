@@ -1,262 +1,217 @@
-// The item at a cursor.
+// The item at a cursor: its fields are taken, and then it is seen whether the log has them.
 ghost use mathlib.Core.Path.{_≡_};
-ghost use Prim.Native.Nat.{_+_, _*_, _/_, _%_, _≤_, _^_};
+ghost use mathlib.Core.Bool.{cond};
+ghost use mathlib.Core.List.{List};
+ghost use Prim.Native.Nat.{ℕ, _+_, _*_, _^_, _≤_, _<_};
 ghost use lib.ListN.{length};
 ghost use Rattle.format.specs.Bits.{bytesBits};
-ghost use Rattle.format.specs.Log.{endAt, itemAt, nextAt};
-ghost use Rattle.log_read.specs.Found.{foundOf, timeAt};
-ghost use Rattle.log_read.specs.Cursor.{Window};
+ghost use Rattle.format.specs.Log.{ends, has, ifThere, nextAt, wrong};
+ghost use Rattle.log_read.specs.Fields.{endsOf};
+ghost use Rattle.log_read.specs.Found.{foundOf, timeAt, Finds, FindsIn};
 use crate::Cursor;
 use crate::Found;
+use crate::Head;
 use format::Item;
 use format::Response;
 use format::Tag;
 use format::Time;
 
-// The bus in the window of an item.
-fn bus_in(w: u64) -> u8
-    ensures { λ r. ⌜ r ≡ w / 2 ^ 56 % 2 ^ 4 ⌝ }
+// An item, if the log has the bits before `behind`.
+fn if_there(item: Item, behind: usize, total: usize) -> Found
+    ensures { λ r. ⌜ ((s : List ℕ) → length s ≡ total → r ≡ foundOf (ifThere s behind (has item behind))) ⌝ }
 {
-    (w / 72057594037927936 % 16) as u8
-}
-
-// The three parts of the tag at a bit.
-fn time_at(log: &[u8], at: usize) -> Time
-    requires { ⌜ (at + 46 ≤ length (now log) * 8) × (length (now log) ≤ 4294967296) ⌝ }
-    ensures { λ r. ⌜ r ≡ timeAt (bytesBits (now (log .entry))) at ⌝ }
-{
-    let w = Cursor { at }.window(log);
-    Time {
-        high: (w / 281474976710656) as u16,
-        low: (w / 4294967296 % 65536) as u16,
-        micro: (w / 262144 % 16384) as u16,
-    }
-}
-
-// An item of each kind, of which `left` bits are left from `at` on and w is the window there.
-fn command(log: &[u8], at: usize, left: usize, w: u64) -> Found
-    requires { ⌜ Window (bytesBits (now log)) at w ⌝ }
-    requires { ⌜ (at + left ≡ length (now log) * 8) × (length (now log) ≤ 4294967296) ⌝ }
-    ensures { λ r. ⌜ r ≡ foundOf (itemAt (bytesBits (now (log .entry))) at 1) ⌝ }
-{
-    if left < 26 {
+    if total < behind {
         return Found::Wrong;
     }
-    let bus = bus_in(w);
-    let b = w / 36028797018963968 % 2 == 1;
-    let word = (w / 274877906944 % 65536) as u16;
-    let behind = at + 26;
-    if w / 18014398509481984 % 2 == 1 {
-        if left < 72 {
-            return Found::Wrong;
-        }
-        let time = time_at(log, behind);
-        return Found::Has(
-            Item::Command {
-                bus,
-                b,
-                tag: Tag::At(time),
-                word,
-            },
-            Cursor { at: behind + 46 },
-        );
-    }
     Found::Has(
-        Item::Command {
-            bus,
-            b,
-            tag: Tag::Untagged,
-            word,
+        item,
+        Cursor {
+            at: behind,
+            ahead: 0,
         },
-        Cursor { at: behind },
     )
 }
 
-fn status(log: &[u8], at: usize, left: usize, w: u64) -> Found
-    requires { ⌜ Window (bytesBits (now log)) at w ⌝ }
-    requires { ⌜ (at + left ≡ length (now log) * 8) × (length (now log) ≤ 4294967296) ⌝ }
-    ensures { λ r. ⌜ r ≡ foundOf (itemAt (bytesBits (now (log .entry))) at 2) ⌝ }
+// The tag at a cursor.
+fn time_at(log: &[u8], at: Cursor) -> Time
+    requires { ⌜ at .at ≤ 2 ^ 40 ⌝ }
+    ensures { λ r. ⌜ (at .at + 46 ≤ length (now (log .entry)) * 8 → r ≡ timeAt (bytesBits (now (log .entry))) (at .at)) ⌝ }
 {
-    if left < 26 {
-        return Found::Wrong;
+    let tag = at.filled(log).tagged();
+    Time {
+        high: tag.high as u16,
+        low: tag.low as u16,
+        micro: tag.micro as u16,
     }
-    let bus = bus_in(w);
-    let b = w / 36028797018963968 % 2 == 1;
-    let word = (w / 274877906944 % 65536) as u16;
-    let behind = at + 26;
-    if w / 18014398509481984 % 2 == 1 {
-        if left < 40 {
-            return Found::Wrong;
-        }
-        let after = (w / 16777216 % 16384) as u16;
-        return Found::Has(
+}
+
+// An item of each kind, of which the kind and the bus were taken.
+fn command(log: &[u8], head: Head) -> Found
+    requires { ⌜ (length (now log) ≤ 4294967296) × (head .bus < 16) × (head .next .at ≤ length (now log) * 8 + 8) ⌝ }
+    ensures { λ r. ⌜ FindsIn (bytesBits (now (log .entry))) head 1 r ⌝ }
+{
+    let total = log.len() * 8;
+    let next = head.next;
+    let fields = next.marked();
+    let bus = head.bus as u8;
+    let b = fields.side == 1;
+    let word = fields.word as u16;
+    let behind = fields.next;
+    if fields.mark == 1 {
+        let tag = Tag::At(time_at(log, behind));
+        return if_there(Item::Command { bus, b, tag, word }, behind.at + 46, total);
+    }
+    let tag = Tag::Untagged;
+    if_there(Item::Command { bus, b, tag, word }, behind.at, total)
+}
+
+fn status(head: Head, total: usize) -> Found
+    requires { ⌜ (head .bus < 16) × (head .next .at ≤ 2 ^ 40) ⌝ }
+    ensures { λ r. ⌜ Finds head total 2 r ⌝ }
+{
+    let next = head.next;
+    let fields = next.marked();
+    let bus = head.bus as u8;
+    let b = fields.side == 1;
+    let word = fields.word as u16;
+    let behind = fields.next;
+    if fields.mark == 1 {
+        let after = behind.take(14);
+        let response = Response::After(after.field as u16);
+        return if_there(
             Item::Status {
                 bus,
                 b,
-                response: Response::After(after),
+                response,
                 word,
             },
-            Cursor { at: behind + 14 },
+            after.next.at,
+            total,
         );
     }
-    Found::Has(
+    let response = Response::Untimed;
+    if_there(
         Item::Status {
             bus,
             b,
-            response: Response::Untimed,
+            response,
             word,
         },
-        Cursor { at: behind },
+        behind.at,
+        total,
     )
 }
 
-fn data(log: &[u8], at: usize, left: usize, w: u64) -> Found
-    requires { ⌜ Window (bytesBits (now log)) at w ⌝ }
-    requires { ⌜ (at + left ≡ length (now log) * 8) × (length (now log) ≤ 4294967296) ⌝ }
-    ensures { λ r. ⌜ r ≡ foundOf (itemAt (bytesBits (now (log .entry))) at 3) ⌝ }
+fn data(head: Head, total: usize) -> Found
+    requires { ⌜ (head .bus < 16) × (head .next .at ≤ 2 ^ 40) ⌝ }
+    ensures { λ r. ⌜ Finds head total 3 r ⌝ }
 {
-    if left < 25 {
-        return Found::Wrong;
-    }
-    let b = w / 36028797018963968 % 2 == 1;
-    let word = (w / 549755813888 % 65536) as u16;
-    Found::Has(
-        Item::Data {
-            bus: bus_in(w),
-            b,
-            word,
-        },
-        Cursor { at: at + 25 },
-    )
+    let next = head.next;
+    let fields = next.sided();
+    let bus = head.bus as u8;
+    let b = fields.side == 1;
+    let word = fields.word as u16;
+    if_there(Item::Data { bus, b, word }, fields.next.at, total)
 }
 
-fn bus_error(log: &[u8], at: usize, left: usize, w: u64) -> Found
-    requires { ⌜ Window (bytesBits (now log)) at w ⌝ }
-    requires { ⌜ (at + left ≡ length (now log) * 8) × (length (now log) ≤ 4294967296) ⌝ }
-    ensures { λ r. ⌜ r ≡ foundOf (itemAt (bytesBits (now (log .entry))) at 4) ⌝ }
+fn bus_error(head: Head, total: usize) -> Found
+    requires { ⌜ (head .bus < 16) × (head .next .at ≤ 2 ^ 40) ⌝ }
+    ensures { λ r. ⌜ Finds head total 4 r ⌝ }
 {
-    if left < 25 {
-        return Found::Wrong;
-    }
-    let b = w / 36028797018963968 % 2 == 1;
-    let word = (w / 549755813888 % 65536) as u16;
-    Found::Has(
-        Item::BusError {
-            bus: bus_in(w),
-            b,
-            word,
-        },
-        Cursor { at: at + 25 },
-    )
+    let next = head.next;
+    let fields = next.sided();
+    let bus = head.bus as u8;
+    let b = fields.side == 1;
+    let word = fields.word as u16;
+    if_there(Item::BusError { bus, b, word }, fields.next.at, total)
 }
 
-fn arinc(log: &[u8], at: usize, left: usize, w: u64) -> Found
-    requires { ⌜ Window (bytesBits (now log)) at w ⌝ }
-    requires { ⌜ (at + left ≡ length (now log) * 8) × (length (now log) ≤ 4294967296) ⌝ }
-    ensures { λ r. ⌜ r ≡ foundOf (itemAt (bytesBits (now (log .entry))) at 5) ⌝ }
+fn arinc(log: &[u8], head: Head) -> Found
+    requires { ⌜ (length (now log) ≤ 4294967296) × (head .bus < 16) × (head .next .at ≤ length (now log) * 8 + 8) ⌝ }
+    ensures { λ r. ⌜ FindsIn (bytesBits (now (log .entry))) head 5 r ⌝ }
 {
-    if left < 43 {
-        return Found::Wrong;
-    }
-    let bus = bus_in(w);
-    let channel = (w / 18014398509481984 % 4) as u8;
-    let word = (w / 2097152 % 4294967296) as u32;
-    let behind = at + 43;
-    if w / 9007199254740992 % 2 == 1 {
-        if left < 89 {
-            return Found::Wrong;
-        }
-        let time = time_at(log, behind);
-        return Found::Has(
+    let total = log.len() * 8;
+    let next = head.next;
+    let fields = next.channelled();
+    let bus = head.bus as u8;
+    let channel = fields.channel as u8;
+    let word = fields.word;
+    let behind = fields.next;
+    if fields.mark == 1 {
+        let tag = Tag::At(time_at(log, behind));
+        return if_there(
             Item::Arinc {
                 bus,
                 channel,
-                tag: Tag::At(time),
+                tag,
                 word,
             },
-            Cursor { at: behind + 46 },
+            behind.at + 46,
+            total,
         );
     }
-    Found::Has(
+    let tag = Tag::Untagged;
+    if_there(
         Item::Arinc {
             bus,
             channel,
-            tag: Tag::Untagged,
+            tag,
             word,
         },
-        Cursor { at: behind },
+        behind.at,
+        total,
     )
 }
 
-fn notice(log: &[u8], at: usize, left: usize, w: u64) -> Found
-    requires { ⌜ Window (bytesBits (now log)) at w ⌝ }
-    requires { ⌜ (at + left ≡ length (now log) * 8) × (length (now log) ≤ 4294967296) ⌝ }
-    ensures { λ r. ⌜ r ≡ foundOf (itemAt (bytesBits (now (log .entry))) at 6) ⌝ }
+fn notice(head: Head, total: usize) -> Found
+    requires { ⌜ (head .bus < 16) × (head .next .at ≤ 2 ^ 40) ⌝ }
+    ensures { λ r. ⌜ Finds head total 6 r ⌝ }
 {
-    if left < 18 {
-        return Found::Wrong;
-    }
-    let channel = (w / 18014398509481984 % 4) as u8;
-    let diagnostics = (w / 70368744177664 % 256) as u8;
-    Found::Has(
+    let next = head.next;
+    let fields = next.noticed();
+    let bus = head.bus as u8;
+    let channel = fields.channel as u8;
+    let diagnostics = fields.diagnostics as u8;
+    if_there(
         Item::Notice {
-            bus: bus_in(w),
+            bus,
             channel,
             diagnostics,
         },
-        Cursor { at: at + 18 },
+        fields.next.at,
+        total,
     )
 }
 
-fn user(log: &[u8], at: usize, left: usize, w: u64) -> Found
-    requires { ⌜ Window (bytesBits (now log)) at w ⌝ }
-    requires { ⌜ (at + left ≡ length (now log) * 8) × (length (now log) ≤ 4294967296) ⌝ }
-    ensures { λ r. ⌜ r ≡ foundOf (itemAt (bytesBits (now (log .entry))) at 7) ⌝ }
+fn user(head: Head, total: usize) -> Found
+    requires { ⌜ (head .bus < 16) × (head .next .at ≤ 2 ^ 40) ⌝ }
+    ensures { λ r. ⌜ Finds head total 7 r ⌝ }
 {
-    if left < 25 {
-        return Found::Wrong;
-    }
-    let three = w / 36028797018963968 % 2 == 1;
-    let word = (w / 549755813888 % 65536) as u16;
-    Found::Has(
-        Item::User {
-            bus: bus_in(w),
-            three,
-            word,
-        },
-        Cursor { at: at + 25 },
-    )
+    let next = head.next;
+    let fields = next.sided();
+    let bus = head.bus as u8;
+    let three = fields.side == 1;
+    let word = fields.word as u16;
+    if_there(Item::User { bus, three, word }, fields.next.at, total)
 }
 
-fn overflow(log: &[u8], at: usize, left: usize, w: u64) -> Found
-    requires { ⌜ Window (bytesBits (now log)) at w ⌝ }
-    requires { ⌜ (at + left ≡ length (now log) * 8) × (length (now log) ≤ 4294967296) ⌝ }
-    ensures { λ r. ⌜ r ≡ foundOf (itemAt (bytesBits (now (log .entry))) at 8) ⌝ }
+fn overflow(head: Head, total: usize) -> Found
+    requires { ⌜ (head .bus < 16) × (head .next .at ≤ 2 ^ 40) ⌝ }
+    ensures { λ r. ⌜ Finds head total 8 r ⌝ }
 {
-    if left < 24 {
-        return Found::Wrong;
-    }
-    let word = (w / 1099511627776 % 65536) as u16;
-    Found::Has(
-        Item::Overflow {
-            bus: bus_in(w),
-            word,
-        },
-        Cursor { at: at + 24 },
-    )
+    let next = head.next;
+    let took = next.take(16);
+    let bus = head.bus as u8;
+    let word = took.field as u16;
+    if_there(Item::Overflow { bus, word }, took.next.at, total)
 }
 
-// The end mark at `at`: "zero bits fill its last byte and nothing follows".
-fn end_mark(log: &[u8], at: usize, left: usize, w: u64) -> Found
-    requires { ⌜ Window (bytesBits (now log)) at w ⌝ }
-    requires { ⌜ (at + left ≡ length (now log) * 8) × (length (now log) ≤ 4294967296) × (4 ≤ left) × (w / 2 ^ 60 ≡ 0) ⌝ }
-    ensures { λ r. ⌜ r ≡ foundOf (endAt (bytesBits (now (log .entry))) at) ⌝ }
+// The end mark, where the kind is 0.
+fn end_mark(at: Cursor, total: usize) -> Found
+    requires { ⌜ (at .at ≤ total) × (total ≤ 2 ^ 40) ⌝ }
+    ensures { λ r. ⌜ r ≡ foundOf (cond (endsOf at total) ends wrong) ⌝ }
 {
-    if 12 <= left {
-        return Found::Wrong;
-    }
-    let rest = w >> (64 - left as u32);
-    if rest == 0 {
+    if at.ends(total) {
         return Found::End;
     }
     Found::Wrong
@@ -268,27 +223,23 @@ impl Cursor {
         requires { ⌜ length (now log) ≤ 4294967296 ⌝ }
         ensures { λ r. ⌜ r ≡ foundOf (nextAt (bytesBits (now (log .entry))) (self .at)) ⌝ }
     {
-        let at = self.at;
         let total = log.len() * 8;
-        if total < at {
+        if total < self.at {
             return Found::Wrong;
         }
-        let left = total - at;
-        if left < 4 {
-            return Found::Wrong;
-        }
-        let w = self.window(log);
-        let kind = w >> 60;
+        let from = self.filled(log);
+        let head = from.head();
+        let kind = head.kind;
         match kind {
-            0 => end_mark(log, at, left, w),
-            1 => command(log, at, left, w),
-            2 => status(log, at, left, w),
-            3 => data(log, at, left, w),
-            4 => bus_error(log, at, left, w),
-            5 => arinc(log, at, left, w),
-            6 => notice(log, at, left, w),
-            7 => user(log, at, left, w),
-            8 => overflow(log, at, left, w),
+            0 => end_mark(from, total),
+            1 => command(log, head),
+            2 => status(head, total),
+            3 => data(head, total),
+            4 => bus_error(head, total),
+            5 => arinc(log, head),
+            6 => notice(head, total),
+            7 => user(head, total),
+            8 => overflow(head, total),
             _ => Found::Wrong,
         }
     }

@@ -47,7 +47,7 @@ pub fn parse(log: &[u8]) -> Tally
             place: 0,
         };
     }
-    let mut at = Cursor { at: 0 };
+    let mut at = Cursor { at: 0, ahead: 0 };
     let mut items: usize = 0;
     let mut words: usize = 0;
     loop {

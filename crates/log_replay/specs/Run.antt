@@ -16,7 +16,7 @@ use Rattle.log_buffer.specs.Level.{levelOf}
 use Rattle.log_store.specs.declared.State.{State}
 
 abbrev pub startState : State
-startState = record { at = record { at = 0 }; level = record { sent = 0; lost = 0; held = 0; unmarked = 0; bus = 0 }; pen = start }
+startState = record { at = record { at = 0; ahead = 0 }; level = record { sent = 0; lost = 0; held = 0; unmarked = 0; bus = 0 }; pen = start }
 
 -- what refuses a replay does not hold
 abbrev pub Ready : List ℕ → List ℕ → ℕ → ℕ → Type 0

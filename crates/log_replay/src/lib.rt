@@ -87,7 +87,7 @@ fn start() -> State
     ensures { λ r. ⌜ r ≡ startState ⌝ }
 {
     State {
-        at: Cursor { at: 0 },
+        at: Cursor { at: 0, ahead: 0 },
         level: Level {
             sent: 0,
             lost: 0,

@@ -279,7 +279,7 @@ fn lines(out: &mut [u8], log: &[u8]) -> usize
     requires { ⌜ parsed onNoPlan (now log) ≡ items (itemsOf (parsed onNoPlan (now log))) ⌝ }
     ensures { λ r. ⌜ Adds (flatMap itemLine (itemsOf (parsed onNoPlan (now (log .entry))))) (now (out .entry)) 0 (now (out .exit)) r ⌝ }
 {
-    let mut place = Cursor { at: 0 };
+    let mut place = Cursor { at: 0, ahead: 0 };
     let mut at: usize = 0;
     loop {
         match place.item(log) {

@@ -21,7 +21,7 @@ fn window(log: &[u8], at: usize) -> u64
     requires { ⌜ (at ≤ length (now log) * 8) × (length (now log) ≤ 4294967296) ⌝ }
     ensures { λ r. ⌜ Window (bytesBits (now (log .entry))) at r ⌝ }
 {
-    Cursor { at }.window(log)
+    Cursor { at, ahead: 0 }.filled(log).ahead
 }
 
 // How many bits an item of a kind has before its tag or response time.

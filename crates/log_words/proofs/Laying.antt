@@ -3,12 +3,12 @@ use Prim.Native.Nat.{ℕ, zero, suc, _+_, _*_, _/_, _%_, _^_, _-_, _≤_, _<_}
 use native.Mathlib.Omega.{arith}
 use native.Mathlib.Nat.{div-one}
 use native.Mathlib.Decide.{decLt}
-use mathlib.Core.Bool.{Bool, true, false, cond}
+use mathlib.Core.Bool.{Bool, true, false, cond, _||_}
 use mathlib.Core.Path.{_≡_, refl, ap, sym, _∙_}
 use mathlib.Core.List.{List, _++_, map}
 use lib.Dec.{eqb}
 use lib.ListN.{length, length-append}
-use borrow.Author.Tests.{ne-eqb}
+use borrow.Author.Tests.{eq-eqb}
 use Rattle.format.specs.Bits.{bytesBits}
 use Rattle.format.specs.Item.{busOfItem, inTime, itemWords, sided, standsOn, tagInTime, tagParts}
 use Rattle.format.specs.Log.{Next, field, has, itemAt, onPlan, wrong}
@@ -21,10 +21,10 @@ use Rattle.format.specs.declared.Tag.{Tag}
 use Rattle.format.specs.declared.Tag.the-variants.{At}
 use Rattle.format.specs.declared.Response.{Response}
 use Rattle.format.specs.declared.Item.the-variants.{Command, Status, Data, BusError, Arinc, Notice, User, Overflow}
-use Rattle.log_read.specs.Cursor.{Ending, Window}
 use Rattle.log_read.specs.Found.{timeAt}
-use Rattle.log_read.proofs.Items.{command-cut, command-tag-cut, status-cut, status-response-cut}
-use Rattle.log_words.specs.declared.item.Laid.{Laid}
+use Rattle.format.specs.Laws.Tests.{clash}
+use Rattle.log_read.proofs.Items.{none-other}
+use Rattle.log_words.specs.declared.put.Laid.{Laid}
 use Rattle.log_words.specs.Laid.{faulty, isArinc, isMil, Lays, laid, refused, Puts, Tags, timely, late, written}
 use Rattle.log_words.specs.Words.{beforeTag, leftBy}
 use Rattle.log_words.proofs.Row.{none-written, puts-more}
@@ -52,7 +52,8 @@ module _ (ks : List Kind) (kind : Kind) {p n e : ℕ} {next : Next} {before afte
       → 17 * length new + p ≤ q → q ≤ e → Lays (onPlan ks) p n e next before after r
   words-laid h t new w z a x d f = laid i q here (on-plan ks i kind true true bus h t) z a (rw w x) (rw w d) f
 
-  pub tag-laid : {s mid : List ℕ} {b tp k : ℕ} → standsOn i kind ≡ true → inTime i ≡ tagInTime (At (timeAt s tp)) → (head : List ℕ) → beforeTag i ≡ head → itemWords i ≡ head ++ map wordFor (tagParts b (At (timeAt s tp)))
+  pub tag-laid : {s mid : List ℕ} {b tp k : ℕ} → standsOn i kind ≡ true → inTime i ≡ tagInTime (At (timeAt s tp)) → (head : List ℕ)
+      → beforeTag i ≡ head → itemWords i ≡ head ++ map wordFor (tagParts b (At (timeAt s tp)))
       → q ≡ tp + 46 → Puts n head before mid k → n + length head ≤ length before → Tags s b tp k mid after r → 17 * (length head + 3) + p ≤ q → q ≤ e → Lays (onPlan ks) p n e next before after r
   tag-laid {s} {mid} {b} {tp} {k} h t head v w behind x room g d f = go g
     where
@@ -112,47 +113,22 @@ overflow-stands bus w Unused = refl
 overflow-stands bus w Mil1553 = refl
 overflow-stands bus w Arinc429 = refl
 
--- the parts of the tag that ends at a bit
-module _ (s : List ℕ) (p w : ℕ) (f : Ending s (p + 46) w) where
-  pub tag-high : field s p 16 ≡ w / 2 ^ 30 % 2 ^ 16
-  tag-high = let a : p + 46 - 30 - 16 ≡ p = omega arith in ap (λ (k : ℕ). field s k 16) (sym a) ∙ f 30 16 (omega arith)
-
-  pub tag-low : field s (p + 16) 16 ≡ w / 2 ^ 14 % 2 ^ 16
-  tag-low = let a : p + 46 - 14 - 16 ≡ p + 16 = omega arith in ap (λ (k : ℕ). field s k 16) (sym a) ∙ f 14 16 (omega arith)
-
-  pub tag-micro : field s (p + 32) 14 ≡ w % 2 ^ 14
-  tag-micro =
-      let a : p + 46 - 0 - 14 ≡ p + 32 = omega arith in
-      ap (λ (k : ℕ). field s k 14) (sym a) ∙ f 0 14 (omega arith) ∙ ap (λ (k : ℕ). k % 2 ^ 14) (div-one w)
-
 -- no item is of another kind
-pub unknown : (s : List ℕ) (p k : ℕ) → (k ≡ 1 → ⊥) → (k ≡ 2 → ⊥) → (k ≡ 3 → ⊥) → (k ≡ 4 → ⊥) → (k ≡ 5 → ⊥) → (k ≡ 6 → ⊥) → (k ≡ 7 → ⊥) → (k ≡ 8 → ⊥) → itemAt s p k ≡ wrong
-unfolding itemAt
-unknown s p k a b c d e f g h = simp (ne-eqb k 1 a, ne-eqb k 2 b, ne-eqb k 3 c, ne-eqb k 4 d, ne-eqb k 5 e, ne-eqb k 6 f, ne-eqb k 7 g, ne-eqb k 8 h)
-
-pub none-higher : (s : List ℕ) (p k : ℕ) → 8 < k → itemAt s p k ≡ wrong
-none-higher s p k h = unknown s p k (λ z. omega (arith, z)) (λ z. omega (arith, z)) (λ z. omega (arith, z)) (λ z. omega (arith, z)) (λ z. omega (arith, z)) (λ z. omega (arith, z)) (λ z. omega (arith, z)) (λ z. omega (arith, z))
-
 pub none-zero : (s : List ℕ) (p k : ℕ) → k ≡ 0 → itemAt s p k ≡ wrong
-none-zero s p k h = unknown s p k (λ z. omega (arith, z)) (λ z. omega (arith, z)) (λ z. omega (arith, z)) (λ z. omega (arith, z)) (λ z. omega (arith, z)) (λ z. omega (arith, z)) (λ z. omega (arith, z)) (λ z. omega (arith, z))
+none-zero s p k h =
+    none-other s p k (λ z. omega (arith, h, z)) (λ z. omega (arith, h, z)) (λ z. omega (arith, h, z)) (λ z. omega (arith, h, z))
+    (λ z. omega (arith, h, z)) (λ z. omega (arith, h, z)) (λ z. omega (arith, h, z)) (λ z. omega (arith, h, z))
 
--- a tag or a response time that is cut, or the word before it
-module _ (log : List ℕ) (p l w : ℕ) (f : Window (bytesBits log) p w) (h : p + l ≡ length log * 8) (b : w / 2 ^ 54 % 2 ≡ 1) where
-  pub tagged-cut : l < 72 → itemAt (bytesBits log) p 1 ≡ wrong
-  tagged-cut c = go (decLt l 26)
-    where
-      go : Dec (l < 26) → itemAt (bytesBits log) p 1 ≡ wrong
-      go (yes d) = command-cut log p l w f h d
-      go (no d) = command-tag-cut log p l w f h (omega arith) b c
+pub none-left-over : (s : List ℕ) (p k : ℕ) → 2 < k → (k ≡ 3 → ⊥) → (k ≡ 5 → ⊥) → (k ≡ 6 → ⊥) → (k ≡ 8 → ⊥) → (eqb k 4 || eqb k 7) ≡ false → itemAt s p k ≡ wrong
+none-left-over s p k h c e f i o =
+    none-other s p k (λ z. omega (arith, h, z)) (λ z. omega (arith, h, z)) c (λ z. clash (sym o ∙ rw (eq-eqb k 4 z))) e f
+    (λ z. go (eqb k 4) (rw (eq-eqb k 7 z) at o)) i
+  where
+    go : (b : Bool) → (b || true) ≡ false → ⊥
+    go true x = clash (sym x)
+    go false x = clash (sym x)
 
-  pub timed-cut : l < 40 → itemAt (bytesBits log) p 2 ≡ wrong
-  timed-cut c = go (decLt l 26)
-    where
-      go : Dec (l < 26) → itemAt (bytesBits log) p 2 ≡ wrong
-      go (yes d) = status-cut log p l w f h d
-      go (no d) = status-response-cut log p l w f h (omega arith) b c
-
--- a bit of the window, as a side of the bus and as a user word's label
+-- a bit, as a side of the bus and as a user word's label
 pub side-is : (label x : ℕ) → x < 2 → label - 4 * x ≡ sided label (eqb x 1)
 side-is label zero h = omega arith
 side-is label (suc zero) h = refl

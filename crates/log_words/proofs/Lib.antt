@@ -2,5 +2,6 @@
 pub mod Row
 pub mod Words
 pub mod Laying
-pub mod Single
+pub mod Same
+pub mod ByKind
 pub mod Logged

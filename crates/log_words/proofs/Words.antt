@@ -28,7 +28,7 @@ Empty Wrong = Unit {0}
 module _ (check : Item → ℕ) (log : List ℕ) where
   -- an item takes eight bits or more
   item-far : (p : ℕ) (i : Item) (q : ℕ) → nextAt (bytesBits log) p ≡ has i q → p + 8 ≤ q
-  item-far p i q e = follows log p (foundOf (nextAt (bytesBits log) p)) i (record { at = q }) refl (ap foundOf e) .far
+  item-far p i q e = follows log p (foundOf (nextAt (bytesBits log) p)) i (record { at = q; ahead = 0 }) refl (ap foundOf e) .far
 
   -- past the log there is nothing
   none-past : (p : ℕ) → length (bytesBits log) < p + 4 → nextAt (bytesBits log) p ≡ wrong

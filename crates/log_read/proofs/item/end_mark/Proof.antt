@@ -1,30 +1,17 @@
-use native.Mathlib.Omega.{arith}
-use Rattle.log_read.proofs.Items.{end-far, end-clean, end-dirty}
 use borrow.Author.Needs.{needs}
 use Rattle.log_read.proofs.item.end_mark.Statement.{statement}
 use Rattle.log_read.proofs.item.end_mark.Tie as tie
 
+ends-requires : tie.Need-ends-requires
+ends-requires c κs = search needs
+
 returns : tie.Need-returns
-returns c = rw (end-far (c .before .args .log .now) (c .before .args .at) (c .before .args .left) (c .before .args .w) (c .before .pre .0) (c .before .pre .1 .0) (c .if1 .taken))
-
-cast-rest : tie.Need-cast-rest
-cast-rest c = search needs
-
-sub-rest : tie.Need-sub-rest
-sub-rest c = search needs
-
-cast-rest-2 : tie.Need-cast-rest-2
-cast-rest-2 c = search needs
-
-shr-rest : tie.Need-shr-rest
-shr-rest c = search needs
+returns c =
+    rw (← (c .before .ends .ensures), c .if1 .taken)
 
 returns-2 : tie.Need-returns-2
-returns-2 c = rw (end-clean (c .before .before .args .log .now) (c .before .before .args .at) (c .before .before .args .left) (c .before .before .args .w) (c .before .before .pre .0) (c .before .before .pre .1 .0) (c .before .before .pre .1 .2) (c .before .if1 .left) (c .before .before .pre .1 .3) (c .if2 .taken))
-
-returns-3 : tie.Need-returns-3
-returns-3 c = rw (end-dirty (c .before .before .args .log .now) (c .before .before .args .at) (c .before .before .args .left) (c .before .before .args .w) (c .before .before .pre .0) (c .before .before .pre .1 .0) (c .before .before .pre .1 .2) (c .before .if1 .left) (c .before .before .pre .1 .3) (c .if2 .left))
+returns-2 c =
+    rw (← (c .before .ends .ensures), c .if1 .left)
 
 pub end-mark-spec : {M : Type 1} → statement M
-end-mark-spec =
-    tie.close (tie.spec returns cast-rest sub-rest cast-rest-2 shr-rest returns-2 returns-3)
+end-mark-spec = tie.close (tie.spec ends-requires returns returns-2)

@@ -1,46 +1,65 @@
+use Rattle.log_read.proofs.Items.{status-timed, status-plain}
 use native.Mathlib.Omega.{arith}
-use Rattle.log_read.proofs.Items.{status-cut, status-plain, status-response-cut, status-response}
+use mathlib.Core.Path.{_≡_}
+use Prim.Native.Nat.{_+_}
 use borrow.Author.Needs.{needs}
 use Rattle.log_read.proofs.item.status.Statement.{statement}
 use Rattle.log_read.proofs.item.status.Tie as tie
 
-returns : tie.Need-returns
-returns c = rw (status-cut (c .before .before .args .log .now) (c .before .before .args .at) (c .before .before .args .left) (c .before .before .args .w) (c .before .before .pre .0) (c .before .before .pre .1 .0) (c .if1 .taken))
+-- where the fields were read, with a response time behind them and without
+abbrev timed : tie.After-if-there → tie.After-marked
+timed c = c .before .before .before .before .before .before .before .before .before
 
-bus-in-requires : tie.Need-bus-in-requires
-bus-in-requires c κs = search needs
+abbrev plain : tie.After-if-there2 → tie.After-marked
+plain c = c .before .before .before .before .before .before .before
+
+marked-requires : tie.Need-marked-requires
+marked-requires c κs = search needs
+
+cast-bus : tie.Need-cast-bus
+cast-bus c = search needs
 
 cast-word : tie.Need-cast-word
 cast-word c = search needs
 
-add-behind : tie.Need-add-behind
-add-behind c = search needs
+take-requires : tie.Need-take-requires
+take-requires c κs = search needs
+
+cast-t13 : tie.Need-cast-t13
+cast-t13 c = search needs
+
+if-there-requires : tie.Need-if-there-requires
+if-there-requires c κs = search needs
+
+returns : tie.Need-returns
+returns c =
+    let f = timed c in
+    let r = c .before .before .take in
+    λ s e p g.
+    let q : r .result .next .at ≡ p + 26 + 14 = omega (arith, f .marked .ensures .4, r .ensures .2, g .next .place) in
+    rw (status-timed g (rw (f .marked .ensures .0) at (c .before .before .before .if1 .taken)), ← (f .marked .ensures .0), ← (r .ensures .0), ← q)
+    (c .if-there .ensures s e)
+
+if-there-requires-2 : tie.Need-if-there-requires-2
+if-there-requires-2 c κs = search needs
 
 returns-2 : tie.Need-returns-2
-returns-2 c = rw (status-response-cut (c .before .before .before .before .before .args .log .now) (c .before .before .before .before .before .args .at) (c .before .before .before .before .before .args .left) (c .before .before .before .before .before .args .w) (c .before .before .before .before .before .pre .0) (c .before .before .before .before .before .pre .1 .0) (c .before .before .before .if1 .left) (c .before .if2 .taken) (c .if3 .taken))
-
-cast-after : tie.Need-cast-after
-cast-after c = search needs
-
-add-t18 : tie.Need-add-t18
-add-t18 c = search needs
-
-returns-3 : tie.Need-returns-3
-returns-3 c = rw (status-response (c .before .before .before .before .before .args .log .now) (c .before .before .before .before .before .args .at) (c .before .before .before .before .before .args .left) (c .before .before .before .before .before .args .w) (c .before .before .before .before .before .pre .0) (c .before .before .before .before .before .pre .1 .0) (c .if3 .left) (c .before .if2 .taken), c .before .before .bus-in .ensures)
-
-returns-4 : tie.Need-returns-4
-returns-4 c = rw (status-plain (c .before .before .before .before .args .log .now) (c .before .before .before .before .args .at) (c .before .before .before .before .args .left) (c .before .before .before .before .args .w) (c .before .before .before .before .pre .0) (c .before .before .before .before .pre .1 .0) (c .before .before .if1 .left) (c .if2 .left), c .before .bus-in .ensures)
+returns-2 c =
+    let f = plain c in
+    λ s e p g.
+    let q : f .marked .result .next .at ≡ p + 26 = omega (arith, f .marked .ensures .4, g .next .place) in
+    rw (status-plain g (rw (f .marked .ensures .0) at (c .before .if1 .left)), ← (f .marked .ensures .0), ← q) (c .if-there2 .ensures s e)
 
 pub status-spec : {M : Type 1} → statement M
 status-spec =
     tie.close
     (tie.spec
-    returns
-    bus-in-requires
+    marked-requires
+    cast-bus
     cast-word
-    add-behind
-    returns-2
-    cast-after
-    add-t18
-    returns-3
-    returns-4)
+    take-requires
+    cast-t13
+    if-there-requires
+    returns
+    if-there-requires-2
+    returns-2)

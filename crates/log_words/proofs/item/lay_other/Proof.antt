@@ -1,82 +1,107 @@
-use Rattle.log_words.proofs.Laying.{none-higher, none-zero}
-use Rattle.log_words.proofs.Single.{single-left, timed-is}
+use Rattle.log_words.proofs.Laying.{none-left-over, none-zero}
 use Rattle.log_words.specs.Laid.{cut}
+use Rattle.format.specs.Laws.Bits.{length-bytes}
 use mathlib.Core.Path.{refl, sym, _∙_}
 use native.Mathlib.Omega.{arith}
-use mathlib.Core.Path.{_≡_}
 use borrow.Author.Needs.{needs}
 use Rattle.log_words.proofs.item.lay_other.Statement.{statement}
 use Rattle.log_words.proofs.item.lay_other.Tie as tie
 
-fault-requires : tie.Need-fault-requires
-fault-requires c κs = search needs
+is-plain-requires : tie.Need-is-plain-requires
+is-plain-requires c κs = search needs
 
-returns : tie.Need-returns
-returns c = λ ks h. cut (none-zero _ _ _ (c .before .if1 .taken)) (c .fault .ensures) refl
+mul-lay-plain : tie.Need-mul-lay-plain
+mul-lay-plain c = search needs
 
-is-timed-requires : tie.Need-is-timed-requires
-is-timed-requires c κs = search needs
-
-command-requires : tie.Need-command-requires
-command-requires c κs = let a = c .before .before .before .before .before .before .before .args in let q = c .before .before .before .before .before .before .before .pre in (q .0, (q .1 .0, q .1 .1, q .1 .2, timed-is (a .number) (a .w) (sym (c .before .before .before .is-timed .ensures) ∙ c .before .before .if2 .taken) .1))
+lay-plain-requires : tie.Need-lay-plain-requires
+lay-plain-requires c κs =
+    (omega arith, omega arith, omega arith, sym (c .before .before .is-plain .ensures) ∙ c .before .if1 .taken)
 
 same-length : tie.Need-same-length
 same-length c = search needs
 
-returns-2 : tie.Need-returns-2
-returns-2 c = λ ks h. rw (c .before .before .before .before .if3 .taken) (c .before .before .command .ensures ks h)
+returns : tie.Need-returns
+returns c =
+    let l = c .before .before in
+    λ ks p g b. l .lay-plain .ensures _ (length-bytes _) ks p g b
 
-status-requires : tie.Need-status-requires
-status-requires c κs = let a = c .before .before .before .before .before .before .before .args in let q = c .before .before .before .before .before .before .before .pre in (q .0, (q .1 .0, q .1 .1, q .1 .2, timed-is (a .number) (a .w) (sym (c .before .before .before .is-timed .ensures) ∙ c .before .before .if2 .taken) .1))
+fault-requires : tie.Need-fault-requires
+fault-requires c κs = search needs
+
+returns-2 : tie.Need-returns-2
+returns-2 c =
+    λ ks p g b. cut (none-zero _ p _ (c .before .if2 .taken)) (c .fault .ensures) refl
+
+lay-marked-requires : tie.Need-lay-marked-requires
+lay-marked-requires c κs = search needs
 
 same-length-2 : tie.Need-same-length-2
 same-length-2 c = search needs
 
 returns-3 : tie.Need-returns-3
-returns-3 c = let a = c .before .before .before .before .before .before .before .before .before .before .args in let q = c .before .before .before .before .before .before .before .before .before .before .pre in let t = timed-is (a .number) (a .w) (sym (c .before .before .before .before .before .before .is-timed .ensures) ∙ c .before .before .before .before .before .if2 .taken) in let e : a .number ≡ 2 = omega (arith, t .0, c .before .before .before .before .if3 .left, c .before .before .before .before .before .before .before .if1 .left) in λ ks h. rw e (c .before .before .status .ensures ks h)
+returns-3 c =
+    c .before .before .lay-marked .ensures
 
-notice-requires : tie.Need-notice-requires
-notice-requires c κs = search needs
+mul-lay-notice : tie.Need-mul-lay-notice
+mul-lay-notice c = search needs
+
+lay-notice-requires : tie.Need-lay-notice-requires
+lay-notice-requires c κs = search needs
 
 same-length-3 : tie.Need-same-length-3
 same-length-3 c = search needs
 
 returns-4 : tie.Need-returns-4
-returns-4 c = λ ks h. rw (c .before .before .before .before .if4 .taken) (c .before .before .notice .ensures ks h)
+returns-4 c =
+    let l = c .before .before in
+    λ ks p g b. rw (l .before .before .if4 .taken) (l .lay-notice .ensures _ (length-bytes _) ks p g b)
 
-fault-requires-2 : tie.Need-fault-requires-2
-fault-requires-2 c κs = search needs
+mul-lay-overflow : tie.Need-mul-lay-overflow
+mul-lay-overflow c = search needs
 
-returns-5 : tie.Need-returns-5
-returns-5 c = λ ks h. cut (none-higher _ _ _ (c .before .if5 .taken)) (c .fault2 .ensures) refl
-
-single-requires : tie.Need-single-requires
-single-requires c κs = let a = c .before .before .before .before .before .before .before .before .args in let q = c .before .before .before .before .before .before .before .before .pre in (q .0, (q .1 .0, q .1 .1, q .1 .2, single-left (a .number) (a .w) (c .before .before .before .before .before .if1 .left) (q .1 .3) (q .1 .4) (c .before .before .if4 .left) (c .before .if5 .left) (sym (c .before .before .before .before .is-timed .ensures) ∙ c .before .before .before .if2 .left)))
+lay-overflow-requires : tie.Need-lay-overflow-requires
+lay-overflow-requires c κs = search needs
 
 same-length-4 : tie.Need-same-length-4
 same-length-4 c = search needs
 
+returns-5 : tie.Need-returns-5
+returns-5 c =
+    let l = c .before .before in
+    λ ks p g b. rw (l .before .before .if5 .taken) (l .lay-overflow .ensures _ (length-bytes _) ks p g b)
+
+fault-requires-2 : tie.Need-fault-requires-2
+fault-requires-2 c κs = search needs
+
 returns-6 : tie.Need-returns-6
-returns-6 c = λ ks h. c .before .before .single .ensures ks h
+returns-6 c =
+    let a = c .before .before .before .before .before .before .before .before .before in
+    let n = c .before .before .before .before .before in
+    λ ks p g b.
+    cut (none-left-over _ p (a .args .head .kind) (c .before .before .before .if3 .left) (a .pre .1 .0) (a .pre .1 .1) (c .before .before .if4 .left) (c .before .if5 .left)
+    (sym (n .before .is-plain .ensures) ∙ n .if1 .left)) (c .fault2 .ensures) refl
 
 pub lay-other-spec : {M : Type 1} → statement M
 lay-other-spec =
     tie.close
     (tie.spec
-    fault-requires
-    returns
-    is-timed-requires
-    command-requires
+    is-plain-requires
+    mul-lay-plain
+    lay-plain-requires
     same-length
+    returns
+    fault-requires
     returns-2
-    status-requires
+    lay-marked-requires
     same-length-2
     returns-3
-    notice-requires
+    mul-lay-notice
+    lay-notice-requires
     same-length-3
     returns-4
-    fault-requires-2
-    returns-5
-    single-requires
+    mul-lay-overflow
+    lay-overflow-requires
     same-length-4
+    returns-5
+    fault-requires-2
     returns-6)
