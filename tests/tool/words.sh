@@ -1,4 +1,4 @@
-# Refusals 13 and 14 name their cause; what looks like another plan is told.
+# Refusals 13, 14 and 15 name their cause; what looks like another plan is told.
 plan "words 129" "tracks 1" "bus 2 1553" "bus 5 arinc"
 fill=$(printf '01AAAA%.0s' {1..128})
 group() { # WORD..: a frame of 129 words that holds these, then fill, as hexadecimal
@@ -59,6 +59,24 @@ bytes "$(group 2D0001 31AAAA)" >bad
 refused "vin: bad: refused by 14 at $at2: 31AAAA: misplaced fill: its bus is 3 and not 0" check p bad
 bytes "$(group 01AAAA)$(group 2D0001)" >bad
 refused "vin: bad: refused by 14 at $at1: 01AAAA: misplaced fill: data follows it, 2D0001 at word 130 (group 1, track 1, word 2)" check p bad
+
+# 15: an error notice without its ARINC word, in a capture and in a log; with it, both ways.
+open="on bus 5 without its ARINC word: the channel's next notice, or the end, comes first"
+bytes "$(group 549800)" >bad
+refused "vin: bad: refused by 15 at $at1: 549800: error notice $open" read p bad -o new
+refused "vin: bad: refused by 15 at $at1: 549800: error notice $open" check p bad
+bytes "$(group 2D0001 549800 549801 591234 585678)" >bad
+refused "vin: bad: refused by 15 at $at2: 549800: error notice $open" read p bad -o new
+bytes "$(group 549800 591234 585678)" >bad
+done_by read p bad -o new
+printf '%s\n' "are 5 1 00" "arn 5 1 12345678" | "${vin[@]}" pack >l
+same "a notice and its word, read" l new
+done_by compose p l -o new
+same "a notice and its word, composed" bad new
+echo "are 5 1 00" | "${vin[@]}" pack >l
+refused "vin: l: refused by 15 at bit 0 (byte 0, bit 0, item 1): an ARINC notice $open" compose p l -o new
+printf '%s\n' "dat 2 A 0001" "are 5 1 00" "are 5 1 01" "arn 5 1 12345678" | "${vin[@]}" pack >l
+refused "vin: l: refused by 15 at bit 25 (byte 3, bit 1, item 2): an ARINC notice $open" compose p l -o new
 
 # The CRC word and the frame time between are no data. The right CRC word is what the dump expects.
 plan "words 129" "tracks 1" "frame-time yes" "crc yes" "bus 2 1553"

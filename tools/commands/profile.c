@@ -22,7 +22,7 @@ typedef struct {
     bool tagged; /* a tag came before: its time, and the number of its item */
     uint64_t time;
     size_t tag;
-    char why[WHY_MOST];
+    char why[WHY_MOST + 100]; /* with the item's line before it */
 } looking;
 
 static void add_why(looking *l, const char *format, ...) __attribute__((format(printf, 2, 3)));
@@ -83,7 +83,7 @@ static void look_at(void *with, const item *i, size_t number, size_t bit)
         if (l->why[0]) {
             char why[WHY_MOST];
             memcpy(why, l->why, sizeof why);
-            snprintf(l->why, WHY_MOST, "\"%s\": %s", line_of_item(i).text, why);
+            snprintf(l->why, sizeof l->why, "\"%s\": %s", line_of_item(i).text, why);
         }
     }
     if (l->items++ == 0)
