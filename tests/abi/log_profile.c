@@ -320,8 +320,7 @@ static void draw_case(void)
 static void one_case(void)
 {
     draw_case();
-    call c = {.runs = {{READ_ONLY, the_log.bytes, the_log.length, 0, 0}}, .count = 1, .numbers = {draw(2)}, .library = library,
-              .independent = independent}; /* the number: a null pointer for no bytes */
+    call c = {{{READ_ONLY, the_log.bytes, the_log.length, 0, 0}}, 1, {draw(2)}, library, independent}; /* the number: a null pointer for no bytes */
     outcome o = compare(&c);
     if (meant.known && (o.of[NUMBER] != meant.number || o.of[PLACE] != meant.place)) {
         printf("vin_profile: a log drawn for %" PRIu32 " at %" PRIu64 " is answered by both with %" PRIu64 " at %" PRIu64 "\n",

@@ -93,7 +93,8 @@ add-at : tie.Need-add-at Inv-loop μ-loop
 add-at c =
     let o = c .before .before .before .before .before .before .before .before .before .before .before .before .before .before .loop in
     let i = c .before .before .before .before .before .before .before .before .before .before .before .item .given in
-    let h = holds (c .before .before .before .before .before .before .before .before .before .before .before .before .before .before .before .before .before .before .before .args .log .now) (o .at) (c .before .before .before .before .before .before .before .before .before .before .before .before .before .piece-at .result) (i .0 .0) (c .before .before .before .before .before .before .before .before .before .before .before .before .before .piece-at .ensures) (i .1) in
+    let a = c .before .before .before .before .before .before .before .before .before .before .before .before .before in
+    let h = holds (a .before .before .before .before .before .before .args .log .now) (o .at) (a .piece-at .result) (i .0 .0) (a .piece-at .ensures) (i .1) in
     omega (arith, h .says .first-few, h .says .behind-few)
 
 cast-at : tie.Need-cast-at Inv-loop μ-loop
@@ -103,21 +104,24 @@ add-at-2 : tie.Need-add-at-2 Inv-loop μ-loop
 add-at-2 c =
     let o = c .before .before .before .before .before .before .before .before .before .before .before .before .before .before .loop in
     let i = c .before .before .before .before .before .before .before .before .before .before .before .item .given in
-    let h = holds (c .before .before .before .before .before .before .before .before .before .before .before .before .before .before .before .before .before .before .before .args .log .now) (o .at) (c .before .before .before .before .before .before .before .before .before .before .before .before .before .piece-at .result) (i .0 .0) (c .before .before .before .before .before .before .before .before .before .before .before .before .before .piece-at .ensures) (i .1) in
+    let a = c .before .before .before .before .before .before .before .before .before .before .before .before .before in
+    let h = holds (a .before .before .before .before .before .before .args .log .now) (o .at) (a .piece-at .result) (i .0 .0) (a .piece-at .ensures) (i .1) in
     omega (arith, o .inv .0, next-fits (o .inv .2) h)
 
 loop-less : tie.Need-loop-less Inv-loop μ-loop
 loop-less c =
     let o = c .before .before .before .before .before .before .before .before .before .before .before .before .before .before .loop in
     let i = c .before .before .before .before .before .before .before .before .before .before .before .item .given in
-    let h = holds (c .before .before .before .before .before .before .before .before .before .before .before .before .before .before .before .before .before .before .before .args .log .now) (o .at) (c .before .before .before .before .before .before .before .before .before .before .before .before .before .piece-at .result) (i .0 .0) (c .before .before .before .before .before .before .before .before .before .before .before .before .before .piece-at .ensures) (i .1) in
+    let a = c .before .before .before .before .before .before .before .before .before .before .before .before .before in
+    let h = holds (a .before .before .before .before .before .before .args .log .now) (o .at) (a .piece-at .result) (i .0 .0) (a .piece-at .ensures) (i .1) in
     omega (arith, h .many, next-fits (o .inv .2) h)
 
 loop-again : tie.Need-loop-again Inv-loop μ-loop
 loop-again c =
     let o = c .before .before .before .before .before .before .before .before .before .before .before .before .before .before .loop in
     let i = c .before .before .before .before .before .before .before .before .before .before .before .item .given in
-    let h = holds (c .before .before .before .before .before .before .before .before .before .before .before .before .before .before .before .before .before .before .before .args .log .now) (o .at) (c .before .before .before .before .before .before .before .before .before .before .before .before .before .piece-at .result) (i .0 .0) (c .before .before .before .before .before .before .before .before .before .before .before .before .before .piece-at .ensures) (i .1) in
+    let a = c .before .before .before .before .before .before .before .before .before .before .before .before .before in
+    let h = holds (a .before .before .before .before .before .before .args .log .now) (o .at) (a .piece-at .result) (i .0 .0) (a .piece-at .ensures) (i .1) in
     let t = sym (c .before .before .before .before .before .before .before .before .before .in-time .ensures) ∙ not-false _ (c .before .before .before .before .before .before .before .before .if2 .left) in
     let x = c .before .before .before .put-packed .ensures in
     let e = c .before .before .before .before .before .before .before .moved-tag .ensures in

@@ -22,7 +22,10 @@ same-length : tie.Need-same-length
 same-length c = search needs
 
 returns : tie.Need-returns
-returns c = picked-yes (c .before .before .before .before .before .before .before .before .args .buses) _ (c .before .before .before .before .before .before .before .before .args .item) (c .before .before .before .before .before .before .bus-in .ensures .0) (c .before .before .before .before .before .in-set .ensures) (c .before .before .before .before .if1 .taken) (c .before .before .put-packed .ensures)
+returns c =
+    let t = c .before .before .before .before in
+    let s = t .before .before .before .before in
+    picked-yes (s .args .buses) _ (s .args .item) (t .before .before .bus-in .ensures .0) (t .before .in-set .ensures) (t .if1 .taken) (c .before .before .put-packed .ensures)
 
 returns-2 : tie.Need-returns-2
 returns-2 c = picked-no (c .before .before .before .before .args .buses) _ (c .before .before .before .before .args .item) _ _ (c .before .before .bus-in .ensures .0) (c .before .in-set .ensures) (c .if1 .left)

@@ -15,16 +15,30 @@ same-length : tie.Need-same-length
 same-length c = search needs
 
 returns : tie.Need-returns
-returns c = packed-one (c .before .before .before .before .before .before .before .args .item) (c .before .before .before .before .before .before .before .pre .1) _ (c .before .before .before .before .before .before .before .args .pen) (c .if1 .taken) (c .before .before .before .before .put .ensures .0) (c .before .before .before .before .put .ensures .1)
+returns c =
+    let p = c .before .before .before .before in
+    let s = p .before .before .before in
+    packed-one (s .args .item) (s .pre .1) _ (s .args .pen) (c .if1 .taken) (p .put .ensures .0) (p .put .ensures .1)
 
 put-requires-2 : tie.Need-put-requires-2
-put-requires-2 c κs = let f = c .before .before .before .before .before .before .before .before .pre .1 in (rw (c .before .before .before .before .before .put .ensures .0, first-more (c .before .before .before .before .before .before .before .before .args .item) f [] (c .before .before .before .before .before .before .before .before .args .pen)) (omega (arith, f .first-few, c .before .before .before .before .before .before .before .before .pre .0)), omega (arith, f .behind-few), f .behind-low)
+put-requires-2 c κs =
+    let p = c .before .before .before .before .before in
+    let s = p .before .before .before in
+    let f = s .pre .1 in (
+      rw (p .put .ensures .0, first-more (s .args .item) f [] (s .args .pen)) (omega (arith, f .first-few, s .pre .0)),
+      omega (arith, f .behind-few),
+      f .behind-low,
+    )
 
 same-length-2 : tie.Need-same-length-2
 same-length-2 c = search needs
 
 returns-2 : tie.Need-returns-2
-returns-2 c = packed-two (c .before .before .before .before .before .before .before .before .before .before .before .args .item) (c .before .before .before .before .before .before .before .before .before .before .before .pre .1) _ (c .before .before .before .before .before .before .before .before .before .before .before .args .pen) (c .before .before .before .before .before .before .before .before .put .ensures .0) (c .before .before .before .before .before .before .before .before .put .ensures .1) (c .before .before .put2 .ensures .0) (c .before .before .put2 .ensures .1)
+returns-2 c =
+    let p = c .before .before .before .before .before .before .before .before in
+    let s = p .before .before .before in
+    let q = c .before .before .put2 .ensures in
+    packed-two (s .args .item) (s .pre .1) _ (s .args .pen) (p .put .ensures .0) (p .put .ensures .1) (q .0) (q .1)
 
 pub put-packed-spec : {M : Type 1} → statement M
 put-packed-spec =
