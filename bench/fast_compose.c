@@ -154,7 +154,7 @@ static int parse_log(const fast_plan *p, const uint8_t *log, size_t log_len, uin
 
 /* One frame: every `tracks`-th word of a group's dealt words. With `whole` three bytes are written for the last word, not four. */
 static inline __attribute__((always_inline)) void write_frame(uint8_t *b, const uint32_t *dealt, uint32_t tracks, uint32_t rows,
-                                                              int whole, const int crc, const int parity)
+                                                              uint32_t label, int whole, const int crc, const int parity)
 {
     uint32_t r = SYNC_REMAINDER, n = 0, last = crc ? rows : rows - 1;
     store24_and_one(b, SYNC);
@@ -179,7 +179,7 @@ static inline __attribute__((always_inline)) void write_frame(uint8_t *b, const 
         store24_and_one(b, w);
         b += 3;
     }
-    r = crc ? 3 << 16 | r : *dealt;
+    r = crc ? label | r : *dealt;
     if (parity)
         r = with_parity(r);
     if (whole)
@@ -201,18 +201,19 @@ static inline __attribute__((always_inline)) void write_groups(const fast_plan *
             dealt[2] = 5 << 16 | (uint32_t)(time - 10000 * tens);
         }
         for (uint32_t track = 0; track < p->tracks; track++, out += 3 * p->length)
-            write_frame(out, dealt + track, p->tracks, p->rows, group + 1 == groups && track + 1 == p->tracks, crc, parity);
+            write_frame(out, dealt + track, p->tracks, p->rows, p->label, group + 1 == groups && track + 1 == p->tracks, crc,
+                        parity);
     }
 }
 
-vin_answer fast_compose(uint32_t words_of_frame, uint32_t tracks, uint32_t frame_time, uint32_t crc, uint32_t parity,
-                        const uint8_t *kinds, size_t kinds_len, const uint8_t *log, size_t log_len,
-                        const uint8_t *times, size_t times_len, uint8_t *out, size_t out_len)
+vin_answer fast_compose_full(uint32_t words_of_frame, uint32_t tracks, uint32_t frame_time, uint32_t crc, uint32_t parity,
+                             uint32_t crc_label, uint32_t fill_bus, const uint8_t *kinds, size_t kinds_len, const uint8_t *log,
+                             size_t log_len, const uint8_t *times, size_t times_len, uint8_t *out, size_t out_len)
 {
     fast_plan p;
     uint32_t buffer[3 + WORDS_MAX + GROUP_SLOTS_MAX + 16], *words = buffer + 3;
     size_t count = 0, groups, needed, bytes;
-    if (!fast_plan_of(&p, words_of_frame, tracks, frame_time, crc, parity, kinds, kinds_len))
+    if (!fast_plan_of(&p, words_of_frame, tracks, frame_time, crc, parity, crc_label, fill_bus, kinds, kinds_len))
         return refused(1, 0);
     if (log_len > VIN_LOG_MAX)
         return refused(2, 0);
@@ -229,10 +230,18 @@ vin_answer fast_compose(uint32_t words_of_frame, uint32_t tracks, uint32_t frame
     if (out_len < bytes)
         return refused(6, bytes);
     for (size_t n = count; n < groups * p.slots; n++)
-        words[n] = FILL;
+        words[n] = p.fill;
     if (crc)
         parity ? write_groups(&p, words, groups, times, out, 1, 1) : write_groups(&p, words, groups, times, out, 1, 0);
     else
         parity ? write_groups(&p, words, groups, times, out, 0, 1) : write_groups(&p, words, groups, times, out, 0, 0);
     return (vin_answer){0, 0, 0, bytes, 0};
+}
+
+vin_answer fast_compose(uint32_t words, uint32_t tracks, uint32_t frame_time, uint32_t crc, uint32_t parity,
+                        const uint8_t *kinds, size_t kinds_len, const uint8_t *log, size_t log_len,
+                        const uint8_t *times, size_t times_len, uint8_t *out, size_t out_len)
+{
+    return fast_compose_full(words, tracks, frame_time, crc, parity, VIN_CRC_LABEL, VIN_FILL_BUS, kinds, kinds_len, log, log_len, times,
+                             times_len, out, out_len);
 }

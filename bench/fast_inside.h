@@ -14,12 +14,14 @@ typedef struct {
     uint32_t rows;                  /* dealt words of a frame */
     uint32_t furniture;             /* frame time words of a group */
     uint32_t slots;                 /* data slots of a group */
+    uint32_t label;                 /* the CRC word without its remainder */
+    uint32_t fill;                  /* fill on its bus, without a parity bit */
     size_t group_bytes;
 } fast_plan;
 
 #define LIKELY(x) __builtin_expect(!!(x), 1)
 #define UNLIKELY(x) __builtin_expect(!!(x), 0)
-#define FILL 0x01AAAAu
+#define FILL 0x01AAAAu /* on bus 0 */
 #define SYNC 0xFAF320u
 #define SYNC_REMAINDER 0x2684u
 #define GROUP_SLOTS_MAX 2040 /* 4 x 510 */
@@ -49,8 +51,8 @@ static inline vin_answer refused(uint32_t number, uint64_t place)
     return a;
 }
 
-int fast_plan_of(fast_plan *p, uint32_t words, uint32_t tracks, uint32_t frame_time, uint32_t crc, uint32_t parity,
-                 const uint8_t *kinds, size_t kinds_len);
+int fast_plan_of(fast_plan *p, uint32_t words, uint32_t tracks, uint32_t frame_time, uint32_t crc, uint32_t parity, uint32_t crc_label,
+                 uint32_t fill_bus, const uint8_t *kinds, size_t kinds_len);
 
 /* The quick ways only find out that something is wrong; these find out what, and where. */
 vin_answer refuse_log(const fast_plan *p, const uint8_t *log, size_t log_len);

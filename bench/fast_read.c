@@ -124,7 +124,7 @@ static inline size_t take_items(const uint8_t *kinds, const uint32_t *data, size
 
 /* Checks a frame and lays its words out in dealt order, without parity bits. */
 static inline __attribute__((always_inline)) int read_frame(const uint8_t *b, uint32_t *dealt, uint32_t tracks, uint32_t rows,
-                                                            const int crc, const int parity)
+                                                            uint32_t label, const int crc, const int parity)
 {
     uint32_t r = SYNC_REMAINDER, odd = 1, n = 0, four = crc ? rows : rows - 1; /* words with a byte behind them */
     if (load24(b) != SYNC)
@@ -154,7 +154,7 @@ static inline __attribute__((always_inline)) int read_frame(const uint8_t *b, ui
         *dealt = w;
         dealt += tracks;
     }
-    if (crc && load24(b) != (parity ? with_parity(3 << 16 | r) : (3 << 16 | r)))
+    if (crc && load24(b) != (parity ? with_parity(label | r) : (label | r)))
         return 0;
     return odd != 0;
 }
@@ -170,15 +170,15 @@ static inline size_t draw_together(const uint32_t *slot, size_t slots, uint32_t 
     return n;
 }
 
-/* A closed capture: data words come first, fill is on bus 0 and only in the last group, which has a data word. */
-static int fill_in_place(const uint32_t *slot, size_t slots, size_t data, int last)
+/* A closed capture: data words come first, fill is on the plan's bus and only in the last group, which has a data word. */
+static int fill_in_place(const uint32_t *slot, size_t slots, size_t data, int last, uint32_t fill)
 {
     if (data == slots)
         return 1;
     if (!last || data == 0)
         return 0;
     for (size_t n = data; n < slots; n++)
-        if (slot[n] != FILL)
+        if (slot[n] != fill)
             return 0;
     return 1;
 }
@@ -203,12 +203,12 @@ static inline __attribute__((always_inline)) int read_groups(const fast_plan *p,
         int last = group + 1 == groups;
         size_t count, taken, stop;
         for (uint32_t track = 0; track < p->tracks; track++, capture += 3 * p->length)
-            if (!read_frame(capture, dealt + track, p->tracks, p->rows, crc, parity))
+            if (!read_frame(capture, dealt + track, p->tracks, p->rows, p->label, crc, parity))
                 return 0;
         if (p->furniture && !frame_time_of(dealt, &times[group]))
             return 0;
         count = draw_together(dealt + p->furniture, p->slots, data + held);
-        if (closed && !fill_in_place(dealt + p->furniture, p->slots, count, last))
+        if (closed && !fill_in_place(dealt + p->furniture, p->slots, count, last, p->fill))
             return 0;
         count += held;
         stop = last ? count : count < 4 ? 0 : count - 4;
@@ -224,7 +224,7 @@ static inline __attribute__((always_inline)) int read_groups(const fast_plan *p,
 }
 
 static vin_answer reading(int closed, uint32_t words, uint32_t tracks, uint32_t frame_time, uint32_t crc, uint32_t parity,
-                          const uint8_t *kinds, size_t kinds_len, const uint8_t *capture, size_t capture_len,
+                          uint32_t crc_label, uint32_t fill_bus, const uint8_t *kinds, size_t kinds_len, const uint8_t *capture, size_t capture_len,
                           uint8_t *log, size_t log_len, uint8_t *times, size_t times_len)
 {
     fast_plan p;
@@ -233,7 +233,7 @@ static vin_answer reading(int closed, uint32_t words, uint32_t tracks, uint32_t 
     writer w = {made, 0, 0};
     size_t groups, needed, bytes;
     int good;
-    if (!fast_plan_of(&p, words, tracks, frame_time, crc, parity, kinds, kinds_len))
+    if (!fast_plan_of(&p, words, tracks, frame_time, crc, parity, crc_label, fill_bus, kinds, kinds_len))
         return refused(1, 0);
     if (capture_len > VIN_CAPTURE_MAX || capture_len % p.group_bytes != 0)
         return refused(8, capture_len);
@@ -259,16 +259,34 @@ static vin_answer reading(int closed, uint32_t words, uint32_t tracks, uint32_t 
     return (vin_answer){0, 0, 0, bytes, needed};
 }
 
+vin_answer fast_read_full(uint32_t words, uint32_t tracks, uint32_t frame_time, uint32_t crc, uint32_t parity, uint32_t crc_label,
+                          uint32_t fill_bus, const uint8_t *kinds, size_t kinds_len, const uint8_t *capture, size_t capture_len,
+                          uint8_t *log, size_t log_len, uint8_t *times, size_t times_len)
+{
+    return reading(0, words, tracks, frame_time, crc, parity, crc_label, fill_bus, kinds, kinds_len, capture, capture_len, log, log_len,
+                   times, times_len);
+}
+
+vin_answer fast_read_closed_full(uint32_t words, uint32_t tracks, uint32_t frame_time, uint32_t crc, uint32_t parity, uint32_t crc_label,
+                                 uint32_t fill_bus, const uint8_t *kinds, size_t kinds_len, const uint8_t *capture, size_t capture_len,
+                                 uint8_t *log, size_t log_len, uint8_t *times, size_t times_len)
+{
+    return reading(1, words, tracks, frame_time, crc, parity, crc_label, fill_bus, kinds, kinds_len, capture, capture_len, log, log_len,
+                   times, times_len);
+}
+
 vin_answer fast_read(uint32_t words, uint32_t tracks, uint32_t frame_time, uint32_t crc, uint32_t parity,
                      const uint8_t *kinds, size_t kinds_len, const uint8_t *capture, size_t capture_len,
                      uint8_t *log, size_t log_len, uint8_t *times, size_t times_len)
 {
-    return reading(0, words, tracks, frame_time, crc, parity, kinds, kinds_len, capture, capture_len, log, log_len, times, times_len);
+    return reading(0, words, tracks, frame_time, crc, parity, VIN_CRC_LABEL, VIN_FILL_BUS, kinds, kinds_len, capture, capture_len, log,
+                   log_len, times, times_len);
 }
 
 vin_answer fast_read_closed(uint32_t words, uint32_t tracks, uint32_t frame_time, uint32_t crc, uint32_t parity,
                             const uint8_t *kinds, size_t kinds_len, const uint8_t *capture, size_t capture_len,
                             uint8_t *log, size_t log_len, uint8_t *times, size_t times_len)
 {
-    return reading(1, words, tracks, frame_time, crc, parity, kinds, kinds_len, capture, capture_len, log, log_len, times, times_len);
+    return reading(1, words, tracks, frame_time, crc, parity, VIN_CRC_LABEL, VIN_FILL_BUS, kinds, kinds_len, capture, capture_len, log,
+                   log_len, times, times_len);
 }

@@ -95,7 +95,7 @@ static vin_answer stored_fault(const fast_plan *p, const uint8_t *capture, size_
             uint32_t w = load24(capture + 3 * n);
             if (p->parity && !__builtin_parity(w))
                 return refused(10, n);
-            if (p->crc && n == first + p->length - 1 && w != (p->parity ? with_parity(3 << 16 | r) : (3 << 16 | r)))
+            if (p->crc && n == first + p->length - 1 && w != (p->parity ? with_parity(p->label | r) : (p->label | r)))
                 return refused(11, n);
             r = crc_one(r, w);
         }
@@ -185,7 +185,7 @@ static vin_answer misplaced_fill(const fast_plan *p, const uint8_t *capture, siz
     for (size_t n = 0; n < groups * p->slots; n++) {
         size_t place = place_of(p, n / p->slots, p->furniture + n % p->slots);
         uint32_t w = load24(capture + 3 * place);
-        if ((w & 0xFFFFF) == FILL && (n < end || n >= group_end || (w & (p->parity ? 0x7FFFFF : 0xFFFFFF)) != FILL))
+        if ((w & 0xFFFFF) == FILL && (n < end || n >= group_end || (w & (p->parity ? 0x7FFFFF : 0xFFFFFF)) != p->fill))
             return refused(14, place);
     }
     return refused(0, 0);

@@ -7,16 +7,23 @@ typedef struct {
 } run;
 
 #define PLAN uint32_t words, uint32_t tracks, uint32_t frame_time, uint32_t crc, uint32_t parity
+#define FULL PLAN, uint32_t crc_label, uint32_t fill_bus
 #define INNER(name) void inner_##name(vin_answer *answer, PLAN, const run *kinds, const run *a, const run *b, const run *c)
+#define INNER_FULL(name) void inner_##name(vin_answer *answer, FULL, const run *kinds, const run *a, const run *b, const run *c)
 INNER(vin_compose);
 INNER(vin_read);
 INNER(vin_read_closed);
+INNER_FULL(vin_compose_full);
+INNER_FULL(vin_read_full);
+INNER_FULL(vin_read_closed_full);
 
-#define CALL(name) \
+#define GIVE(name, ...) \
     vin_answer answer; \
     run k = {kinds, kinds_len}, ra = {a, a_len}, rb = {b, b_len}, rc = {c, c_len}; \
-    inner_##name(&answer, words, tracks, frame_time, crc, parity, &k, &ra, &rb, &rc); \
+    inner_##name(&answer, __VA_ARGS__, &k, &ra, &rb, &rc); \
     return answer
+#define CALL(name) GIVE(name, words, tracks, frame_time, crc, parity)
+#define CALL_FULL(name) GIVE(name, words, tracks, frame_time, crc, parity, crc_label, fill_bus)
 
 vin_answer vin_compose(PLAN, const uint8_t *kinds, size_t kinds_len, const uint8_t *a, size_t a_len, const uint8_t *b, size_t b_len,
                        uint8_t *c, size_t c_len)
@@ -34,6 +41,24 @@ vin_answer vin_read_closed(PLAN, const uint8_t *kinds, size_t kinds_len, const u
                            uint8_t *c, size_t c_len)
 {
     CALL(vin_read_closed);
+}
+
+vin_answer vin_compose_full(FULL, const uint8_t *kinds, size_t kinds_len, const uint8_t *a, size_t a_len, const uint8_t *b, size_t b_len,
+                            uint8_t *c, size_t c_len)
+{
+    CALL_FULL(vin_compose_full);
+}
+
+vin_answer vin_read_full(FULL, const uint8_t *kinds, size_t kinds_len, const uint8_t *a, size_t a_len, uint8_t *b, size_t b_len,
+                         uint8_t *c, size_t c_len)
+{
+    CALL_FULL(vin_read_full);
+}
+
+vin_answer vin_read_closed_full(FULL, const uint8_t *kinds, size_t kinds_len, const uint8_t *a, size_t a_len, uint8_t *b, size_t b_len,
+                                uint8_t *c, size_t c_len)
+{
+    CALL_FULL(vin_read_closed_full);
 }
 
 void inner_vin_pick(vin_answer *answer, const run *log, uint16_t buses, const run *out);

@@ -2,13 +2,14 @@
  * back.
  *
  * Composing makes a capture (PCM frames) of a house log and frame times. Reading gives log and
- * times back: vin_compose, vin_read and vin_read_closed; and over them vin_plan_compose,
+ * times back: vin_compose_full, vin_read_full and vin_read_closed_full; over them vin_plan_compose,
  * vin_plan_read and vin_plan_read_closed, which take the plan as a struct and null pointers for
- * runs of length 0. Logs alone, without a plan, are worked on by vin_pick, vin_join, vin_shift,
- * vin_profile and vin_replay; over them functions of the same names with vin_log_ in front, as
- * vin_log_pick, take null pointers for runs of length 0. C99 or later, or C++. Link with
- * libvinculampe.a (x86-64, System V calling convention; that of `make NATIVE=yes` is for the machine
- * it was made on).
+ * runs of length 0; and vin_compose, vin_read and vin_read_closed, with the usual CRC label and fill
+ * bus, as they were before these could be chosen. Logs alone, without a plan, are worked on by
+ * vin_pick, vin_join, vin_shift, vin_profile and vin_replay; over them functions of the same names
+ * with vin_log_ in front, as vin_log_pick, take null pointers for runs of length 0. C99 or later, or
+ * C++. Link with libvinculampe.a (x86-64, System V calling convention; that of `make NATIVE=yes` is
+ * for the machine it was made on).
  *
  * What every function promises
  *   - Every input is taken. Either the work is done and the answer's number is 0, or the call is
@@ -55,8 +56,8 @@
 
 /* The version of library, header and tool; and as a number, to compare: 10000 x major + 100 x minor
  * + patch. */
-#define VIN_VERSION "0.2.0"
-#define VIN_VERSION_NUMBER 200
+#define VIN_VERSION "0.3.0"
+#define VIN_VERSION_NUMBER 300
 
 #ifdef __cplusplus
 extern "C" {
@@ -70,11 +71,19 @@ extern "C" {
  *   crc         1: the last word of every frame is the CRC word; 0: it is a data slot
  *   parity      1: bit 1 of a word makes its number of ones odd, and bits 2-4 hold the bus;
  *               0: bits 1-4 hold the bus
+ *   crc_label   the label of the CRC word: 0 to 7; usually 3
+ *   fill_bus    the bus code of fill: 0 to 15, with parity 0 to 7; usually 0. It may be of an unused
+ *               bus or of a used one; fill, CRC and frame time words make no bus used
  *   kinds       sixteen bytes, one for each bus code 0 to 15: enum vin_kind
  *
+ * All functions on captures take all of these, in this order, but for vin_compose, vin_read and
+ * vin_read_closed: these take no crc_label and no fill_bus, and are vin_compose_full and so on with the
+ * usual ones.
+ *
  * Illegal, and refused by VIN_PLAN: words or tracks outside; tracks above 1 with other than exactly
- * one used bus; parity with a used bus above 7; a yes/no choice that is not 0 or 1; a kind above 2;
- * kinds_len other than 16. One track with no used bus is legal. */
+ * one used bus; parity with a used bus above 7; a crc_label above 7, also without CRC; a fill_bus
+ * above 15, or above 7 with parity; a yes/no choice that is not 0 or 1; a kind above 2; kinds_len
+ * other than 16. One track with no used bus is legal. */
 
 enum vin_kind {
     VIN_KIND_UNUSED = 0,
@@ -112,9 +121,10 @@ enum vin_kind {
  * Whole groups. A group is T frames, track 1 first; a frame is L words; a word is three bytes, bit
  * 1 first: bus (4 bits), label (4), information (16). Word 1 of each frame is the sync word FAF320.
  * The other words are dealt row by row: word 2 of track 1, of track 2 and so on, then word 3; first
- * the three frame time words, then the data slots. Behind the last item's words the slots hold
- * fill, 01AAAA. The CRC word has bus 0, label 3 and the remainder by X^16 + X^15 + X^2 + 1 over all
- * earlier words of its frame and 16 zero bits. */
+ * the three frame time words, on bus 0, then the data slots. Behind the last item's words the slots
+ * hold fill: label 1 and AAAA, on the plan's fill_bus (01AAAA on bus 0; with parity 91AAAA on bus 1).
+ * The CRC word has bus 0, the plan's crc_label and the remainder by X^16 + X^15 + X^2 + 1 over all
+ * earlier words of its frame and 16 zero bits. It is no data word and no fill, whatever it reads as. */
 
 /* ==== Answers ================================================================================= */
 
@@ -171,7 +181,7 @@ enum vin_number {
      *        word. */
     VIN_PARITY = 10,
 
-    /*   R    A CRC word is wrong in any of its 24 bits. Place: that word. */
+    /*   R    A CRC word is wrong in any of its 24 bits, its label among them. Place: that word. */
     VIN_CRC = 11,
 
     /*   R    A frame time word has a bus other than 0, another label than its own, or a micro of
@@ -183,8 +193,8 @@ enum vin_number {
     VIN_DATA_WORD = 13,
 
     /*   R    Closed reading only: misplaced fill. A data word follows it, or neither its group nor a
-     *        later one has a data word, or its bus is not 0. Place: the earliest such word in dealt
-     *        order. */
+     *        later one has a data word, or its bus is not the plan's fill_bus. Place: the earliest
+     *        such word in dealt order. */
     VIN_FILL = 14,
 
     /* C R    An error notice is open: no ARINC word of its bus and channel stands between it and their
@@ -252,6 +262,8 @@ static inline const char *vin_text(uint32_t number_)
 #define VIN_COMPOSED_GROUPS_MAX 120  /* its groups, by any plan */
 #define VIN_READ_GROUPS_MAX 2730     /* groups of a capture that is read: 1,048,576 / (3 x 128) */
 #define VIN_TIME_BYTES 8             /* bytes of a frame time */
+#define VIN_CRC_LABEL 3              /* the usual label of the CRC word */
+#define VIN_FILL_BUS 0               /* the usual bus code of fill */
 #define VIN_STACK_BYTES 73728        /* stack that a call needs: measured, tests/abi/stack.c */
 #define VIN_LOG_STACK_BYTES 36864    /* the same of a call of a function on logs alone */
 
@@ -269,9 +281,9 @@ static inline const char *vin_text(uint32_t number_)
      - ((frame_time) ? (size_t)3 : 0))
 
 /* Composing a log of log_len bytes, up to VIN_LOG_MAX: never more words, groups, bytes of capture
- * than these (none for a log of no bytes, which is refused). The exact numbers: without frame time, call with out_len 0: refused by VIN_ROOM at
- * the bytes needed (or done, if the log is empty). With frame time, call with times_len 0: refused
- * by VIN_TIMES at the number of groups. */
+ * than these (none for a log of no bytes, which is refused). The exact numbers: without frame time,
+ * call with out_len 0: refused by VIN_ROOM at the bytes needed (or done, if the log is empty). With
+ * frame time, call with times_len 0: refused by VIN_TIMES at the number of groups. */
 #define VIN_COMPOSED_WORDS(log_len) \
     ((log_len) > 0 ? (8 * (size_t)(log_len) - 4) * 5 / 89 : (size_t)0)
 #define VIN_COMPOSED_GROUPS(log_len, words, tracks, frame_time, crc) \
@@ -324,7 +336,8 @@ static inline const char *vin_text(uint32_t number_)
 /* ==== The functions =========================================================================== */
 
 /* Composes a log and frame times into a capture: the fewest groups that hold the items' words, fill
- * after the last. The empty log gives no bytes.
+ * after the last. The empty log gives no bytes. vin_compose is vin_compose_full with VIN_CRC_LABEL
+ * and VIN_FILL_BUS.
  *
  *   log, log_len       the house log
  *   times, times_len   one frame time a group, eight bytes each; times_len 0 if frame time is off
@@ -332,6 +345,13 @@ static inline const char *vin_text(uint32_t number_)
  *
  * Checks, in this order: VIN_PLAN; VIN_LOG for the length; the items in order, each for VIN_LOG,
  * VIN_BUS, VIN_LIMIT; VIN_TIMES; VIN_ROOM. */
+vin_answer vin_compose_full(uint32_t words, uint32_t tracks,
+                            uint32_t frame_time, uint32_t crc, uint32_t parity,
+                            uint32_t crc_label, uint32_t fill_bus,
+                            const uint8_t *kinds, size_t kinds_len,
+                            const uint8_t *log, size_t log_len,
+                            const uint8_t *times, size_t times_len,
+                            uint8_t *out, size_t out_len);
 vin_answer vin_compose(uint32_t words, uint32_t tracks,
                        uint32_t frame_time, uint32_t crc, uint32_t parity,
                        const uint8_t *kinds, size_t kinds_len,
@@ -339,8 +359,9 @@ vin_answer vin_compose(uint32_t words, uint32_t tracks,
                        const uint8_t *times, size_t times_len,
                        uint8_t *out, size_t out_len);
 
-/* Reads a capture. Fill is dropped on any bus in any slot. A capture of no bytes gives the empty log
- * and no times.
+/* Reads a capture. Fill is dropped on any bus in any slot, whatever the plan's fill_bus is. A capture
+ * of no bytes gives the empty log and no times. vin_read is vin_read_full with VIN_CRC_LABEL and
+ * VIN_FILL_BUS.
  *
  *   capture, capture_len   the capture
  *   log, log_len           room for the log; answer.bytes are written
@@ -352,6 +373,13 @@ vin_answer vin_compose(uint32_t words, uint32_t tracks,
  * for a frame's first word, VIN_PARITY for any other, VIN_CRC after that for a CRC word), then
  * VIN_FRAME_TIME, then VIN_DATA_WORD, both in dealt order; after the last group VIN_DATA_WORD for a
  * cut item, VIN_ROOM, VIN_TIME_ROOM. */
+vin_answer vin_read_full(uint32_t words, uint32_t tracks,
+                         uint32_t frame_time, uint32_t crc, uint32_t parity,
+                         uint32_t crc_label, uint32_t fill_bus,
+                         const uint8_t *kinds, size_t kinds_len,
+                         const uint8_t *capture, size_t capture_len,
+                         uint8_t *log, size_t log_len,
+                         uint8_t *times, size_t times_len);
 vin_answer vin_read(uint32_t words, uint32_t tracks,
                     uint32_t frame_time, uint32_t crc, uint32_t parity,
                     const uint8_t *kinds, size_t kinds_len,
@@ -359,8 +387,16 @@ vin_answer vin_read(uint32_t words, uint32_t tracks,
                     uint8_t *log, size_t log_len,
                     uint8_t *times, size_t times_len);
 
-/* Reads a capture and refuses misplaced fill: accepts exactly what vin_compose makes. As vin_read,
- * with VIN_FILL checked after the cut item and before VIN_ROOM. */
+/* Reads a capture and refuses misplaced fill: accepts exactly what composing by the same plan makes.
+ * As vin_read_full, with VIN_FILL checked after the cut item and before VIN_ROOM. vin_read_closed is
+ * vin_read_closed_full with VIN_CRC_LABEL and VIN_FILL_BUS. */
+vin_answer vin_read_closed_full(uint32_t words, uint32_t tracks,
+                                uint32_t frame_time, uint32_t crc, uint32_t parity,
+                                uint32_t crc_label, uint32_t fill_bus,
+                                const uint8_t *kinds, size_t kinds_len,
+                                const uint8_t *capture, size_t capture_len,
+                                uint8_t *log, size_t log_len,
+                                uint8_t *times, size_t times_len);
 vin_answer vin_read_closed(uint32_t words, uint32_t tracks,
                            uint32_t frame_time, uint32_t crc, uint32_t parity,
                            const uint8_t *kinds, size_t kinds_len,
@@ -489,12 +525,30 @@ typedef struct {
     uint32_t words, tracks;
     uint32_t frame_time, crc, parity; /* 0 or 1 */
     uint8_t kinds[16];                /* enum vin_kind */
+    uint32_t full;                    /* 1: the next two say what they say; VIN_PLAN_INIT sets it */
+    uint32_t crc_label, fill_bus;
 } vin_plan;
 
-/* A plan of so many words and tracks, without frame time, CRC and parity, and with no bus used. Begin
- * every plan with it: a field that a later version adds, at the struct's end, then has the value that
- * means what was so before, which need not be 0. */
-#define VIN_PLAN_INIT(words, tracks) {(uint32_t)(words), (uint32_t)(tracks), 0, 0, 0, {0}}
+/* A plan of so many words and tracks, without frame time, CRC and parity, with no bus used, and with
+ * the usual crc_label and fill_bus. Begin every plan with it: a field that a later version adds, at
+ * the struct's end, then has the value that means what was so before, which need not be 0.
+ *
+ * A program from before `full`, crc_label and fill_bus means the usual two, however it is compiled.
+ * One that is only linked again calls vin_compose, vin_read and vin_read_closed. One that is compiled
+ * again with this header begins its plans with VIN_PLAN_INIT; or, if it does not, leaves the three
+ * fields 0, and that is a plan with VIN_CRC_LABEL and VIN_FILL_BUS. A plan whose `full` is not 1 while
+ * one of the three is not 0 is refused by VIN_PLAN: no label or bus that was set is passed over. (Parts
+ * of one program that hand a vin_plan to each other are compiled with one header.) */
+#define VIN_PLAN_INIT(words, tracks) \
+    {(uint32_t)(words), (uint32_t)(tracks), 0, 0, 0, {0}, 1, VIN_CRC_LABEL, VIN_FILL_BUS}
+
+/* The label that a plan's fields mean; of a plan that is refused, one that is. */
+static inline uint32_t vin_plan_label_(const vin_plan *plan_)
+{
+    if (plan_->full == 1)
+        return plan_->crc_label;
+    return (plan_->full | plan_->crc_label | plan_->fill_bus) == 0 ? VIN_CRC_LABEL : UINT32_MAX;
+}
 
 static inline const uint8_t *vin_run_(const uint8_t *given_)
 {
@@ -513,11 +567,12 @@ static inline vin_answer vin_plan_compose(const vin_plan *plan_,
                                           const uint8_t *times_, size_t times_len_,
                                           uint8_t *out_, size_t out_len_)
 {
-    return vin_compose(plan_->words, plan_->tracks, plan_->frame_time, plan_->crc, plan_->parity,
-                       plan_->kinds, sizeof plan_->kinds,
-                       vin_run_(log_), log_len_,
-                       vin_run_(times_), times_len_,
-                       vin_room_(out_), out_len_);
+    return vin_compose_full(plan_->words, plan_->tracks, plan_->frame_time, plan_->crc, plan_->parity,
+                            vin_plan_label_(plan_), plan_->fill_bus,
+                            plan_->kinds, sizeof plan_->kinds,
+                            vin_run_(log_), log_len_,
+                            vin_run_(times_), times_len_,
+                            vin_room_(out_), out_len_);
 }
 
 static inline vin_answer vin_plan_read(const vin_plan *plan_,
@@ -525,11 +580,12 @@ static inline vin_answer vin_plan_read(const vin_plan *plan_,
                                        uint8_t *log_, size_t log_len_,
                                        uint8_t *times_, size_t times_len_)
 {
-    return vin_read(plan_->words, plan_->tracks, plan_->frame_time, plan_->crc, plan_->parity,
-                    plan_->kinds, sizeof plan_->kinds,
-                    vin_run_(capture_), capture_len_,
-                    vin_room_(log_), log_len_,
-                    vin_room_(times_), times_len_);
+    return vin_read_full(plan_->words, plan_->tracks, plan_->frame_time, plan_->crc, plan_->parity,
+                         vin_plan_label_(plan_), plan_->fill_bus,
+                         plan_->kinds, sizeof plan_->kinds,
+                         vin_run_(capture_), capture_len_,
+                         vin_room_(log_), log_len_,
+                         vin_room_(times_), times_len_);
 }
 
 static inline vin_answer vin_plan_read_closed(const vin_plan *plan_,
@@ -537,11 +593,12 @@ static inline vin_answer vin_plan_read_closed(const vin_plan *plan_,
                                               uint8_t *log_, size_t log_len_,
                                               uint8_t *times_, size_t times_len_)
 {
-    return vin_read_closed(plan_->words, plan_->tracks, plan_->frame_time, plan_->crc, plan_->parity,
-                           plan_->kinds, sizeof plan_->kinds,
-                           vin_run_(capture_), capture_len_,
-                           vin_room_(log_), log_len_,
-                           vin_room_(times_), times_len_);
+    return vin_read_closed_full(plan_->words, plan_->tracks, plan_->frame_time, plan_->crc,
+                                plan_->parity, vin_plan_label_(plan_), plan_->fill_bus,
+                                plan_->kinds, sizeof plan_->kinds,
+                                vin_run_(capture_), capture_len_,
+                                vin_room_(log_), log_len_,
+                                vin_room_(times_), times_len_);
 }
 
 static inline vin_answer vin_log_pick(const uint8_t *log_, size_t log_len_,

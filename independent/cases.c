@@ -40,11 +40,25 @@ result composing(plan_numbers p, uint32_t log_len, uint32_t times_len, uint32_t 
 {
     result r;
     untouched(out, out_len);
-    r.answer = ind_compose(p.words, p.tracks, p.frame_time, p.crc, p.parity, p.kinds, p.kinds_len,
-                           log_in, log_len, times_in, times_len, out, out_len);
+    if (p.full)
+        r.answer = ind_compose_full(p.words, p.tracks, p.frame_time, p.crc, p.parity, p.crc_label, p.fill_bus, p.kinds, p.kinds_len,
+                                    log_in, log_len, times_in, times_len, out, out_len);
+    else
+        r.answer = ind_compose(p.words, p.tracks, p.frame_time, p.crc, p.parity, p.kinds, p.kinds_len,
+                               log_in, log_len, times_in, times_len, out, out_len);
     r.first = fold_bytes(0, out, out_len);
     r.second = 0;
     return r;
+}
+
+static ind_answer read_by(int closed, plan_numbers p, uint32_t capture_len, uint32_t log_len, uint32_t times_len)
+{
+    if (p.full)
+        return (closed ? ind_read_closed_full : ind_read_full)(p.words, p.tracks, p.frame_time, p.crc, p.parity, p.crc_label, p.fill_bus,
+                                                               p.kinds, p.kinds_len, capture, capture_len, log_out, log_len, times_out,
+                                                               times_len);
+    return (closed ? ind_read_closed : ind_read)(p.words, p.tracks, p.frame_time, p.crc, p.parity, p.kinds, p.kinds_len, capture,
+                                                 capture_len, log_out, log_len, times_out, times_len);
 }
 
 result reading(int closed, plan_numbers p, uint32_t capture_len, uint32_t log_len, uint32_t times_len)
@@ -52,12 +66,7 @@ result reading(int closed, plan_numbers p, uint32_t capture_len, uint32_t log_le
     result r;
     untouched(log_out, log_len);
     untouched(times_out, times_len);
-    if (closed)
-        r.answer = ind_read_closed(p.words, p.tracks, p.frame_time, p.crc, p.parity, p.kinds, p.kinds_len,
-                                   capture, capture_len, log_out, log_len, times_out, times_len);
-    else
-        r.answer = ind_read(p.words, p.tracks, p.frame_time, p.crc, p.parity, p.kinds, p.kinds_len,
-                            capture, capture_len, log_out, log_len, times_out, times_len);
+    r.answer = read_by(closed, p, capture_len, log_len, times_len);
     r.first = fold_bytes(0, log_out, log_len);
     r.second = fold_bytes(0, times_out, times_len);
     return r;
@@ -67,8 +76,30 @@ result reading(int closed, plan_numbers p, uint32_t capture_len, uint32_t log_le
 
 plan_numbers plan(uint32_t words, uint32_t tracks, uint32_t frame_time, uint32_t crc, uint32_t parity)
 {
-    plan_numbers p = {words, tracks, frame_time, crc, parity, {0}, 16};
+    plan_numbers p = {words, tracks, frame_time, crc, parity, 0, 3, 0, {0}, 16};
     return p;
+}
+
+plan_numbers with_label(plan_numbers p, uint32_t crc_label, uint32_t fill_bus)
+{
+    p.full = 1;
+    p.crc_label = crc_label;
+    p.fill_bus = fill_bus;
+    return p;
+}
+
+uint32_t odd_parity(uint32_t bits)
+{
+    uint32_t ones = 0;
+    for (uint32_t n = 0; n < 24; n++)
+        ones = ones + ((bits >> n) & 1);
+    return ones % 2 == 1 ? bits : bits ^ 0x800000;
+}
+
+uint32_t fill_of(plan_numbers p)
+{
+    uint32_t bits = p.fill_bus % 16 * 1048576 + 0x01AAAA;
+    return p.parity == 1 ? odd_parity(bits) : bits;
 }
 
 uint32_t put(uint32_t bit, uint32_t width, uint64_t value)

@@ -13,6 +13,8 @@
 
 typedef struct {
     uint32_t words, tracks, frame_time, crc, parity;
+    int full; /* K5: the functions that take the whole plan are called; else label and code are 3 and 0 */
+    uint32_t crc_label, fill_bus;
     uint8_t kinds[16];
     uint32_t kinds_len;
 } plan_numbers;
@@ -33,6 +35,9 @@ uint64_t fold(uint64_t digest, uint64_t value);
 
 /* What cases are made of. */
 plan_numbers plan(uint32_t words, uint32_t tracks, uint32_t frame_time, uint32_t crc, uint32_t parity);
+plan_numbers with_label(plan_numbers p, uint32_t crc_label, uint32_t fill_bus);
+uint32_t odd_parity(uint32_t bits);
+uint32_t fill_of(plan_numbers p); /* the plan's fill */
 uint32_t put(uint32_t bit, uint32_t width, uint64_t value); /* bits at a bit of log_in; returns the bit behind them */
 uint32_t put_end(uint32_t bit);            /* ends the log; returns its length in bytes */
 void put_time(uint32_t index, uint64_t time);

@@ -46,7 +46,7 @@ static void put_fill(const char *line)
 {
     uint32_t words = small(line, 1);
     for (uint32_t place = 0; place < small(line, 2); place++)
-        word(place, place % words == 0 ? 0xFAF320 : 0x01AAAA);
+        word(place, place % words == 0 ? 0xFAF320 : fill_of(p));
 }
 
 static void put_words(const char *line)
@@ -95,6 +95,7 @@ static void step(const char *line)
     case '=': printf("%s:", line + 1); break;
     case '\0': printf("\n"); break;
     case 'p': plan_line(line); break;
+    case 'y': p = with_label(p, small(line, 1), small(line, 2)); break;
     case 'k': p.kinds_len = small(line, 1); break;
     case 'l': memset(log_in, 0, sizeof log_in), log_bit = 0; break;
     case 'i': put_items(line); break;

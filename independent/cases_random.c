@@ -35,6 +35,17 @@ static uint32_t draw_words(void)
     return 128 + draw(385);
 }
 
+/* K5: a label and a fill bus code; of a third of the plans the usual ones, by the functions that take none. */
+static plan_numbers draw_label(plan_numbers p, uint32_t buses)
+{
+    uint32_t crc_label, fill_bus;
+    if (one_in(3))
+        return p;
+    crc_label = draw(8);
+    fill_bus = draw(buses);
+    return with_label(p, crc_label, fill_bus);
+}
+
 /* A legal plan. */
 static plan_numbers draw_plan(void)
 {
@@ -46,6 +57,7 @@ static plan_numbers draw_plan(void)
     p.crc = draw(2);
     p.parity = draw(2);
     buses = p.parity == 1 ? 8 : 16;
+    p = draw_label(p, buses);
     if (p.tracks > 1) {
         uint32_t bus = draw(buses);
         p.kinds[bus] = (uint8_t)(1 + draw(2));
@@ -59,7 +71,7 @@ static plan_numbers draw_plan(void)
 /* Now and then a number that makes it illegal, or another legal plan. */
 static plan_numbers spoil_plan(plan_numbers p)
 {
-    uint32_t what = draw(8), bus = draw(16);
+    uint32_t what = draw(10), bus = draw(16);
     if (what == 0)
         p.words = draw(700);
     if (what == 1)
@@ -74,6 +86,10 @@ static plan_numbers spoil_plan(plan_numbers p)
         p.kinds[bus] = (uint8_t)draw(5);
     if (what == 6)
         p.kinds_len = draw(17);
+    if (what == 7)
+        p = with_label(p, draw(12), p.fill_bus);
+    if (what == 8)
+        p = with_label(p, p.crc_label, draw(20));
     return p;
 }
 
@@ -189,15 +205,7 @@ static void draw_times(uint32_t times, uint32_t faults)
 
 /* ==== Captures ==== */
 
-static uint32_t odd_parity(uint32_t bits)
-{
-    uint32_t ones = 0;
-    for (uint32_t n = 0; n < 24; n++)
-        ones = ones + ((bits >> n) & 1);
-    return ones % 2 == 1 ? bits : bits ^ 0x800000;
-}
-
-/* A word that is often lawful on a used bus. */
+/* A word that is often lawful on a used bus, or the plan's fill. */
 static uint32_t draw_word(plan_numbers p)
 {
     uint32_t bus = draw_bus(p), label = draw(16), information = draw(65536), shape = draw(4), bits;
@@ -207,7 +215,7 @@ static uint32_t draw_word(plan_numbers p)
         information = information % 12000;
     bits = bus % 16 * 1048576 + label * 65536 + information;
     if (one_in(3))
-        bits = 0x01AAAA;
+        return fill_of(p);
     return p.parity == 1 ? odd_parity(bits) : bits;
 }
 
@@ -222,7 +230,7 @@ static uint32_t draw_place(uint32_t words)
     return one_in(6) ? draw(3) : draw(words);
 }
 
-/* A word drawn, noise, fill, a bit turned, another word, or another label. */
+/* A word drawn, noise, fill on bus 0, a bit turned, another word, or another label. */
 static void damage_once(plan_numbers p, uint32_t length)
 {
     uint32_t place = draw_place(length / 3), other = draw_place(length / 3), old = word_at(place);
@@ -248,7 +256,7 @@ static uint32_t noise(plan_numbers p)
 {
     uint32_t frames = 1 + draw(8);
     for (uint32_t place = 0; place < frames * p.words; place++)
-        word(place, place % p.words == 0 ? 0xFAF320 : place % p.words < 4 ? draw_word(p) : 0x01AAAA);
+        word(place, place % p.words == 0 ? 0xFAF320 : place % p.words < 4 ? draw_word(p) : fill_of(p));
     return 3 * frames * p.words;
 }
 

@@ -1,4 +1,4 @@
-/* Document 01: composing; document 02, K2: open notices. */
+/* Document 01: composing; document 02, K2: open notices, K5: the whole plan. */
 #include "rules.h"
 
 /* The words of a log's items, in order. */
@@ -66,7 +66,7 @@ static word dealt_word(const plan *p, const word_list *list, uint64_t group, uin
         return time_word[dealt];
     }
     index = group * group_slots(p) + dealt - furniture(p);
-    return index < list->count ? list->words[index] : fill();
+    return index < list->count ? list->words[index] : fill(p);
 }
 
 /* "Each group is written to its own part of the lent output, tracks in order." */
@@ -97,18 +97,18 @@ static ind_answer check_times(uint64_t needed, const uint8_t *times, size_t time
     return passed();
 }
 
-ind_answer ind_compose(uint32_t words, uint32_t tracks, uint32_t frame_time, uint32_t crc, uint32_t parity,
-                       const uint8_t *kinds, size_t kinds_len,
-                       const uint8_t *log, size_t log_len,
-                       const uint8_t *times, size_t times_len,
-                       uint8_t *out, size_t out_len)
+ind_answer ind_compose_full(uint32_t words, uint32_t tracks, uint32_t frame_time, uint32_t crc, uint32_t parity, uint32_t crc_label,
+                            uint32_t fill_bus, const uint8_t *kinds, size_t kinds_len,
+                            const uint8_t *log, size_t log_len,
+                            const uint8_t *times, size_t times_len,
+                            uint8_t *out, size_t out_len)
 {
     plan p;
     word_list list;
     ind_answer answer;
     uint64_t groups, bytes;
 
-    if (!plan_of(&p, words, tracks, frame_time, crc, parity, kinds, kinds_len))
+    if (!plan_of(&p, words, tracks, frame_time, crc, parity, crc_label, fill_bus, kinds, kinds_len))
         return refused(1, 0);
     answer = gather(&p, log, log_len, &list);
     if (answer.number == 0)
@@ -134,4 +134,14 @@ ind_answer ind_compose(uint32_t words, uint32_t tracks, uint32_t frame_time, uin
         write_group(&p, &list, group, t, out + 3 * group * group_words(&p));
     }
     return (ind_answer){.bytes = bytes};
+}
+
+ind_answer ind_compose(uint32_t words, uint32_t tracks, uint32_t frame_time, uint32_t crc, uint32_t parity,
+                       const uint8_t *kinds, size_t kinds_len,
+                       const uint8_t *log, size_t log_len,
+                       const uint8_t *times, size_t times_len,
+                       uint8_t *out, size_t out_len)
+{
+    return ind_compose_full(words, tracks, frame_time, crc, parity, CRC_LABEL_BEFORE, FILL_BUS_BEFORE, kinds, kinds_len, log, log_len,
+                            times, times_len, out, out_len);
 }

@@ -20,6 +20,7 @@ typedef struct {
     uint64_t times;  /* reading and shifting: frame times written */
 } ind_answer;
 
+/* Plans without label and code: the CRC word has label 3, and fill is on bus 0. */
 ind_answer ind_compose(uint32_t words, uint32_t tracks, uint32_t frame_time, uint32_t crc, uint32_t parity,
                        const uint8_t *kinds, size_t kinds_len,
                        const uint8_t *log, size_t log_len,
@@ -37,6 +38,25 @@ ind_answer ind_read_closed(uint32_t words, uint32_t tracks, uint32_t frame_time,
                            const uint8_t *capture, size_t capture_len,
                            uint8_t *log, size_t log_len,
                            uint8_t *times, size_t times_len);
+
+/* Document 02, K5: the same with the whole plan, the CRC word's label and the fill bus code. */
+ind_answer ind_compose_full(uint32_t words, uint32_t tracks, uint32_t frame_time, uint32_t crc, uint32_t parity, uint32_t crc_label,
+                            uint32_t fill_bus, const uint8_t *kinds, size_t kinds_len,
+                            const uint8_t *log, size_t log_len,
+                            const uint8_t *times, size_t times_len,
+                            uint8_t *out, size_t out_len);
+
+ind_answer ind_read_full(uint32_t words, uint32_t tracks, uint32_t frame_time, uint32_t crc, uint32_t parity, uint32_t crc_label,
+                         uint32_t fill_bus, const uint8_t *kinds, size_t kinds_len,
+                         const uint8_t *capture, size_t capture_len,
+                         uint8_t *log, size_t log_len,
+                         uint8_t *times, size_t times_len);
+
+ind_answer ind_read_closed_full(uint32_t words, uint32_t tracks, uint32_t frame_time, uint32_t crc, uint32_t parity, uint32_t crc_label,
+                                uint32_t fill_bus, const uint8_t *kinds, size_t kinds_len,
+                                const uint8_t *capture, size_t capture_len,
+                                uint8_t *log, size_t log_len,
+                                uint8_t *times, size_t times_len);
 
 /* Document 02, K7: what vin_pick and vin_join must answer. Bit c of `buses` is bus code c. */
 ind_answer ind_pick(const uint8_t *log, size_t log_len, uint16_t buses, uint8_t *out, size_t out_len);

@@ -1,4 +1,4 @@
-/* Document 01, "The plan" and the dealing of "Groups". */
+/* Document 01, "The plan" and the dealing of "Groups"; document 02, K5: the CRC word's label and the fill bus code. */
 #include "rules.h"
 
 static bool choice(bool *to, uint32_t number)
@@ -40,14 +40,21 @@ static bool legal(const plan *p)
         return false;
     if (p->tracks > 1 && used != 1)
         return false;
-    return !(p->parity && used_above_7 > 0);
+    if (p->parity && used_above_7 > 0)
+        return false;
+    /* "1 also for a label above 7, a code above 15, or above 7 with parity" (K5), whether or not a CRC word or fill is written */
+    if (p->crc_label > 7 || p->fill_bus > 15)
+        return false;
+    return !(p->parity && p->fill_bus > 7);
 }
 
-bool plan_of(plan *p, uint32_t words, uint32_t tracks, uint32_t frame_time, uint32_t crc, uint32_t parity,
-             const uint8_t *kinds, size_t kinds_len)
+bool plan_of(plan *p, uint32_t words, uint32_t tracks, uint32_t frame_time, uint32_t crc, uint32_t parity, uint32_t crc_label,
+             uint32_t fill_bus, const uint8_t *kinds, size_t kinds_len)
 {
     p->length = words;
     p->tracks = tracks;
+    p->crc_label = crc_label;
+    p->fill_bus = fill_bus;
     return named(p, frame_time, crc, parity, kinds, kinds_len) && legal(p);
 }
 

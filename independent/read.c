@@ -1,4 +1,4 @@
-/* Document 01: the plain and the closed reading; document 02, K2: open notices. */
+/* Document 01: the plain and the closed reading; document 02, K2: open notices, K5: the whole plan. */
 #include <string.h>
 
 #include "rules.h"
@@ -130,8 +130,8 @@ static ind_answer check_notices(const capture *c)
     return passed();
 }
 
-/* "Fill is misplaced if a data word follows it, if neither its group nor a later one has a data word, or if its bus is not
- * 0." "14: earliest such word, dealt order" */
+/* "Fill is misplaced if a data word follows it, if neither its group nor a later one has a data word, or if its bus is not"
+ * the plan's: "Misplaced fill is judged against the plan's code" (K5). "14: earliest such word, dealt order" */
 static ind_answer check_fill(const capture *c)
 {
     uint64_t slots = group_slots(c->p);
@@ -144,14 +144,14 @@ static ind_answer check_fill(const capture *c)
         word w = word_at(c, place);
         bool data_follows = slot + 1 < data_end;
         bool data_here_or_later = data_end > 0 && slot / slots <= (data_end - 1) / slots;
-        if (is_fill(w) && (data_follows || !data_here_or_later || w.bus != 0))
+        if (is_fill(w) && (data_follows || !data_here_or_later || w.bus != c->p->fill_bus))
             return refused(14, place);
     }
     return passed();
 }
 
 static ind_answer reading(bool closed, uint32_t words, uint32_t tracks, uint32_t frame_time, uint32_t crc, uint32_t parity,
-                          const uint8_t *kinds, size_t kinds_len, const uint8_t *bytes, size_t bytes_len,
+                          uint32_t crc_label, uint32_t fill_bus, const uint8_t *kinds, size_t kinds_len, const uint8_t *bytes, size_t bytes_len,
                           uint8_t *log, size_t log_len, uint8_t *times, size_t times_len)
 {
     plan p;
@@ -161,7 +161,7 @@ static ind_answer reading(bool closed, uint32_t words, uint32_t tracks, uint32_t
     capture c = {&p, bytes, 0};
 
     /* "Reading checks 1, 8" */
-    if (!plan_of(&p, words, tracks, frame_time, crc, parity, kinds, kinds_len))
+    if (!plan_of(&p, words, tracks, frame_time, crc, parity, crc_label, fill_bus, kinds, kinds_len))
         return refused(1, 0);
     if (bytes_len > CAPTURE_MAX || bytes_len % (3 * group_words(&p)) != 0)
         return refused(8, bytes_len);
@@ -191,18 +191,34 @@ static ind_answer reading(bool closed, uint32_t words, uint32_t tracks, uint32_t
     return (ind_answer){.bytes = log_bytes, .times = times_needed};
 }
 
+ind_answer ind_read_full(uint32_t words, uint32_t tracks, uint32_t frame_time, uint32_t crc, uint32_t parity, uint32_t crc_label,
+                         uint32_t fill_bus, const uint8_t *kinds, size_t kinds_len, const uint8_t *capture, size_t capture_len,
+                         uint8_t *log, size_t log_len, uint8_t *times, size_t times_len)
+{
+    return reading(false, words, tracks, frame_time, crc, parity, crc_label, fill_bus, kinds, kinds_len, capture, capture_len,
+                   log, log_len, times, times_len);
+}
+
+ind_answer ind_read_closed_full(uint32_t words, uint32_t tracks, uint32_t frame_time, uint32_t crc, uint32_t parity, uint32_t crc_label,
+                                uint32_t fill_bus, const uint8_t *kinds, size_t kinds_len, const uint8_t *capture, size_t capture_len,
+                                uint8_t *log, size_t log_len, uint8_t *times, size_t times_len)
+{
+    return reading(true, words, tracks, frame_time, crc, parity, crc_label, fill_bus, kinds, kinds_len, capture, capture_len,
+                   log, log_len, times, times_len);
+}
+
 ind_answer ind_read(uint32_t words, uint32_t tracks, uint32_t frame_time, uint32_t crc, uint32_t parity,
                     const uint8_t *kinds, size_t kinds_len, const uint8_t *capture, size_t capture_len,
                     uint8_t *log, size_t log_len, uint8_t *times, size_t times_len)
 {
-    return reading(false, words, tracks, frame_time, crc, parity, kinds, kinds_len, capture, capture_len,
-                   log, log_len, times, times_len);
+    return reading(false, words, tracks, frame_time, crc, parity, CRC_LABEL_BEFORE, FILL_BUS_BEFORE, kinds, kinds_len, capture,
+                   capture_len, log, log_len, times, times_len);
 }
 
 ind_answer ind_read_closed(uint32_t words, uint32_t tracks, uint32_t frame_time, uint32_t crc, uint32_t parity,
                            const uint8_t *kinds, size_t kinds_len, const uint8_t *capture, size_t capture_len,
                            uint8_t *log, size_t log_len, uint8_t *times, size_t times_len)
 {
-    return reading(true, words, tracks, frame_time, crc, parity, kinds, kinds_len, capture, capture_len,
-                   log, log_len, times, times_len);
+    return reading(true, words, tracks, frame_time, crc, parity, CRC_LABEL_BEFORE, FILL_BUS_BEFORE, kinds, kinds_len, capture,
+                   capture_len, log, log_len, times, times_len);
 }

@@ -33,12 +33,17 @@ typedef struct {
     uint32_t length; /* L, words in a frame */
     uint32_t tracks; /* T */
     bool frame_time, crc, parity;
+    uint32_t crc_label; /* K5: the CRC word's label */
+    uint32_t fill_bus;  /* K5: the bus code of fill */
     uint8_t kinds[16];
 } plan;
 
+/* Before K5: "the CRC word: bus 0, label 3"; of fill "we write it on bus 0". */
+enum { CRC_LABEL_BEFORE = 3, FILL_BUS_BEFORE = 0 };
+
 /* Makes a plan of the C interface's numbers; false if it is illegal or a number names no choice or kind. */
-bool plan_of(plan *p, uint32_t words, uint32_t tracks, uint32_t frame_time, uint32_t crc, uint32_t parity,
-             const uint8_t *kinds, size_t kinds_len);
+bool plan_of(plan *p, uint32_t words, uint32_t tracks, uint32_t frame_time, uint32_t crc, uint32_t parity, uint32_t crc_label,
+             uint32_t fill_bus, const uint8_t *kinds, size_t kinds_len);
 uint64_t group_words(const plan *p);  /* stored words in a group */
 uint64_t furniture(const plan *p);    /* frame time words dealt before the first data slot: 3 or 0 */
 uint64_t group_slots(const plan *p);  /* data slots in a group */
@@ -47,7 +52,7 @@ uint64_t dealt_place(const plan *p, uint64_t group, uint64_t dealt);
 
 /* ---- The word (word.c) ---- */
 
-enum { LABEL_HIGH = 7, LABEL_LOW = 6, LABEL_MICRO = 5, LABEL_RESPONSE = 4, LABEL_NOTICE = 4, LABEL_CRC = 3,
+enum { LABEL_HIGH = 7, LABEL_LOW = 6, LABEL_MICRO = 5, LABEL_RESPONSE = 4, LABEL_NOTICE = 4,
        LABEL_USER = 2, LABEL_FILL = 1, LABEL_OVERFLOW = 0 };
 
 #define SYNC 0xFAF320u
@@ -65,7 +70,7 @@ uint32_t sent(const plan *p, word w);          /* the 24 bits, with parity if th
 word received(const plan *p, uint32_t bits);   /* and back; the parity bit is no part of a word */
 bool odd(uint32_t bits);                       /* has an odd number of ones */
 bool is_fill(word w);
-word fill(void);
+word fill(const plan *p);                      /* the fill that composing writes */
 uint32_t stored(const uint8_t *bytes, uint64_t index);       /* the word stored at three bytes */
 void store(uint8_t *bytes, uint64_t index, uint32_t bits);
 uint32_t crc_word(const plan *p, const uint8_t *frame);      /* the CRC word of a frame, from all its earlier words */

@@ -259,7 +259,7 @@ static void crc_is_no_user_word(void)
 /* docs/DECISIONS.md: "the remainder of the nine ASCII bytes 123456789 is FEE8, and of the sync word FAF320 alone 2684" */
 static void crc_by_hand(void)
 {
-    plan p = {.length = 4};
+    plan p = {.length = 4, .crc_label = CRC_LABEL_BEFORE};
     uint8_t frame[12] = "123456789";
     CHECK(crc_word(&p, frame) == 0x03FEE8);
     p.length = 2;
@@ -311,6 +311,7 @@ int main(void)
     selftest_replay();
     puts("selftest: K7, K11, K13: as document 02 says");
     selftest_shift();
-    puts("selftest: K9: as document 02 says");
+    selftest_full_plan();
+    puts("selftest: K9, K5: as document 02 says");
     return 0;
 }

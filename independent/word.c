@@ -25,15 +25,16 @@ word received(const plan *p, uint32_t bits)
     return w;
 }
 
-/* "Fill is label 1 with information AAAA; we write it on bus 0." */
+/* "Fill is label 1 with information AAAA" */
 bool is_fill(word w)
 {
     return w.label == LABEL_FILL && w.information == FILL_INFORMATION;
 }
 
-word fill(void)
+/* "we write it on" the plan's fill bus code (K5) */
+word fill(const plan *p)
 {
-    word w = {0, LABEL_FILL, FILL_INFORMATION};
+    word w = {p->fill_bus, LABEL_FILL, FILL_INFORMATION};
     return w;
 }
 
@@ -59,12 +60,12 @@ static uint32_t divide_bit(uint32_t remainder, uint32_t bit)
     return remainder & 0x10000 ? remainder ^ 0x18005 : remainder;
 }
 
-/* "the last word of every frame is the CRC word: bus 0, label 3 .., with parity like any word; its information is the
- * remainder by X^16 + X^15 + X^2 + 1 over all earlier words of that frame in sent order and then 16 zero bits, starting
- * from zero, not inverted." */
+/* "the last word of every frame is the CRC word: bus 0," the plan's "CRC word's label" (K5), "with parity like any word; its
+ * information is the remainder by X^16 + X^15 + X^2 + 1 over all earlier words of that frame in sent order and then 16 zero bits,
+ * starting from zero, not inverted." */
 uint32_t crc_word(const plan *p, const uint8_t *frame)
 {
-    word w = {0, LABEL_CRC, 0};
+    word w = {0, p->crc_label, 0};
     uint32_t remainder = 0;
     for (uint32_t index = 0; index + 1 < p->length; index++)
         for (int bit = 23; bit >= 0; bit--)

@@ -72,8 +72,8 @@ static uint32_t remainder_of(const uint8_t *bytes, size_t length)
 
 uint32_t frame_crc(const vin_plan *plan, const run *capture, uint64_t frame)
 {
-    uint32_t word = (uint32_t)LABEL_USER_3 << 16
-                    | remainder_of(capture->bytes + 3 * frame, 3 * ((size_t)plan->words - 1));
+    uint32_t word =
+        plan->crc_label << 16 | remainder_of(capture->bytes + 3 * frame, 3 * ((size_t)plan->words - 1));
     return plan->parity && count_ones(word) % 2 == 0 ? word | 1u << 23 : word;
 }
 

@@ -43,7 +43,7 @@ uint64_t dealt_place(const vin_plan *plan, uint64_t group, uint64_t n);
 bool is_fill(const stored *s);
 unsigned count_ones(uint32_t word);
 
-/* The CRC word that the frame at this place should end in. */
+/* The CRC word that the frame at this place should end in, by the plan's label. */
 uint32_t frame_crc(const vin_plan *plan, const run *capture, uint64_t frame);
 
 /* "command A", "low syllable" and the like. */

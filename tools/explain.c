@@ -14,8 +14,8 @@ static const struct {
     [VIN_PLAN] =
         {"compose, read, check, dump, info, plan", "0",
          "The plan breaks a rule. vin names the rule: the number of words or tracks is outside its\n"
-         "limits, several tracks go with other than exactly one used bus, or parity goes with a used\n"
-         "bus above 7."},
+         "limits, several tracks go with other than exactly one used bus, parity goes with a used bus\n"
+         "above 7, the CRC word's label is above 7, or fill's bus is above 15, or above 7 with parity."},
     [VIN_LOG] =
         {"compose, list, info, pick, join, shift, profile, replay", BIT,
          "The log is longer than 32768 bytes (place 0), ends inside an item or without its end mark,\n"
@@ -49,8 +49,9 @@ static const struct {
                     "The plan has parity and this word has an even number of ones: it was damaged, or the\n"
                     "capture was made without parity."},
     [VIN_CRC] = {"read, check, info; dump marks it", WORD,
-                 "The last word of this frame is not the CRC word of the words before it: the frame was\n"
-                 "damaged, or the capture was made without CRC."},
+                 "The last word of this frame is not the CRC word of the words before it, with the plan's\n"
+                 "label: the frame was damaged, or the capture was made without CRC or with another\n"
+                 "crc-label."},
     [VIN_FRAME_TIME] =
         {"read, check, info; dump marks it", WORD,
          "A group begins with three words of frame time on bus 0: label 7 (high), 6 (low) and 5\n"
@@ -67,8 +68,8 @@ static const struct {
     [VIN_FILL] =
         {"check; dump marks it", WORD,
          "Fill stands where composing puts none: before a data word, in a group after the last data\n"
-         "word's group, or on another bus than 0; vin says which. The plain reading, vin read, passes\n"
-         "over such fill."},
+         "word's group, or on another bus than the plan's fill-bus; vin says which. The plain reading,\n"
+         "vin read, passes over such fill."},
     [VIN_NOTICE] =
         {"compose, read, check, info",
          "in a log the bit where the notice begins, in a capture its word, both counted from 0",

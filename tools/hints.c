@@ -24,16 +24,50 @@ static void tell_share(share s, const char *one, char text[64])
 
 /* ==== What can be seen ==== */
 
-static share crc_words(const vin_plan *plan, const run *capture)
+/* Frames that end in their CRC word, if its label were this. */
+static share crc_words(const vin_plan *plan, const run *capture, uint32_t label)
 {
     share s = {0, capture_words(capture) / plan->words};
+    vin_plan by = *plan;
+    by.crc_label = label;
     for (uint64_t n = 0; n < s.all; n++) {
         uint64_t first = n * plan->words;
         stored last = stored_at(plan, capture, first + plan->words - 1);
-        s.seen +=
-            stored_at(plan, capture, first).word == SYNC_WORD && last.word == frame_crc(plan, capture, first);
+        s.seen += stored_at(plan, capture, first).word == SYNC_WORD && last.label == label
+                  && last.word == frame_crc(&by, capture, first);
     }
     return s;
+}
+
+/* The label by which most frames end in their CRC word, and how many do; or the plan's, if none is. */
+static uint32_t crc_label(const vin_plan *plan, const run *capture, share *s)
+{
+    for (uint32_t label = 0; label <= LABEL_MOST; label++) {
+        *s = crc_words(plan, capture, label);
+        if (is_most(*s))
+            return label;
+    }
+    *s = (share){0, 0};
+    return plan->crc_label;
+}
+
+/* The bus that most fill has, and how much of it; or the plan's, if none has. */
+static uint32_t fill_bus(const vin_plan *plan, const run *capture, share *s)
+{
+    uint64_t seen[BUSES] = {0}, all = 0;
+    for (uint64_t place = 0; place < capture_words(capture); place++) {
+        stored w = stored_at(plan, capture, place);
+        bool fill = w.slot == SLOT_DATA && is_fill(&w);
+        seen[w.bus] += fill;
+        all += fill;
+    }
+    for (uint32_t bus = 0; bus < BUSES; bus++) {
+        *s = (share){seen[bus], all};
+        if (is_most(*s))
+            return bus;
+    }
+    *s = (share){0, 0};
+    return plan->fill_bus;
 }
 
 static share frame_times(const vin_plan *plan, const run *capture)
@@ -92,6 +126,39 @@ static uint64_t other_distance(const vin_plan *plan, const run *capture)
 
 /* ==== In words ==== */
 
+/* CRC words where the plan has none, or with another label than the plan's. */
+static void say_crc(const char *word, const char *file, const vin_plan *plan, const run *capture)
+{
+    share s;
+    char text[64], with[32] = "";
+    uint32_t label = crc_label(plan, capture, &s);
+    if (!is_most(s) || (plan->crc && label == plan->crc_label))
+        return;
+    tell_share(s, "frame", text);
+    if (label != plan->crc_label)
+        snprintf(with, sizeof with, "%scrc-label %" PRIu32, plan->crc ? "" : " and ", label);
+    if (plan->crc)
+        complain("%s: %s: the last word of %s is the CRC word of its frame with label %" PRIu32
+                 "; was the capture made with %s?",
+                 file, word, text, label, with);
+    else
+        complain("%s: %s: the last data slot of %s holds the CRC word of its frame; was the capture made "
+                 "with crc yes%s?",
+                 file, word, text, with);
+}
+
+static void say_fill_bus(const char *word, const char *file, const vin_plan *plan, const run *capture)
+{
+    share s;
+    char text[64];
+    uint32_t bus = fill_bus(plan, capture, &s);
+    if (!is_most(s) || bus == plan->fill_bus)
+        return;
+    tell_share(s, "fill word", text);
+    complain("%s: %s: the bus of %s is %" PRIu32 "; was the capture made with fill-bus %" PRIu32 "?", file,
+             word, text, bus, bus);
+}
+
 void say_hints(const char *word, const char *name, const vin_plan *plan, const run *capture)
 {
     shown_name shown_file = input_name(name);
@@ -103,19 +170,15 @@ void say_hints(const char *word, const char *name, const vin_plan *plan, const r
                  word, distance, plan->words);
         return; /* then no word stands where the plan has it */
     }
-    share crc = crc_words(plan, capture), times = frame_times(plan, capture);
+    share times = frame_times(plan, capture);
     if (!plan->frame_time && is_most(times)) {
         tell_share(times, "group", text);
         complain(
             "%s: %s: the first data slots of %s hold a frame time; was the capture made with frame-time yes?",
             file, word, text);
     }
-    if (!plan->crc && is_most(crc)) {
-        tell_share(crc, "frame", text);
-        complain("%s: %s: the last data slot of %s holds the CRC word of its frame; was the capture made "
-                 "with crc yes?",
-                 file, word, text);
-    }
+    say_crc(word, file, plan, capture);
+    say_fill_bus(word, file, plan, capture);
     if (!plan->parity && all_odd(plan, capture))
         complain("%s: %s: every word has an odd number of ones; was the capture made with parity yes?", file,
                  word);

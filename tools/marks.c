@@ -110,8 +110,9 @@ static void mark_fill(const vin_plan *plan, const run *capture, mark *marks)
             if (!is_fill(&s)) {
                 last = data ? last : group;
                 data = true;
-            } else if (s.bus != 0)
-                set_fault(&marks[s.place], VIN_FILL, "its bus is %" PRIu32 " and not 0", s.bus);
+            } else if (s.bus != plan->fill_bus)
+                set_fault(&marks[s.place], VIN_FILL, "its bus is %" PRIu32 " and not %" PRIu32, s.bus,
+                          plan->fill_bus);
             else if (data)
                 set_fault(&marks[s.place], VIN_FILL, "data follows it");
         }

@@ -53,8 +53,12 @@ void draw_plan(FILE *to, const vin_plan *plan)
     fprintf(to, "  words       %u in a frame, the sync word counted\n", plan->words);
     fprintf(to, "  tracks      %u in a group\n", plan->tracks);
     fprintf(to, "  frame time  %s\n", plan->frame_time ? "yes: three words open every group" : "no");
-    fprintf(to, "  CRC         %s\n", plan->crc ? "yes: the last word of every frame" : "no");
+    if (plan->crc)
+        fprintf(to, "  CRC         yes: the last word of every frame, with label %u\n", plan->crc_label);
+    else
+        fprintf(to, "  CRC         no\n");
     fprintf(to, "  parity      %s\n", plan->parity ? "yes: bit 1 of every word but the sync word" : "no");
+    fprintf(to, "  fill        on bus %u\n", plan->fill_bus);
     for (unsigned bus = 0; bus < BUSES; bus++)
         if (plan->kinds[bus] != VIN_KIND_UNUSED)
             fprintf(to, "  bus %-7u %s\n", bus, kind_name(plan->kinds[bus]));

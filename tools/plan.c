@@ -49,6 +49,8 @@ static const struct {
     [KEY_FRAME_TIME] = {"frame-time", take_choice, offsetof(vin_plan, frame_time), false},
     [KEY_CRC] = {"crc", take_choice, offsetof(vin_plan, crc), false},
     [KEY_PARITY] = {"parity", take_choice, offsetof(vin_plan, parity), false},
+    [KEY_CRC_LABEL] = {"crc-label", take_number, offsetof(vin_plan, crc_label), false},
+    [KEY_FILL_BUS] = {"fill-bus", take_number, offsetof(vin_plan, fill_bus), false},
 };
 
 static bool is_new(const lines *at, const char *what, size_t *given)

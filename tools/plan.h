@@ -14,11 +14,21 @@ enum {
     TRACKS_MOST = 4,
     BUSES = 16,
     BUSES_WITH_PARITY = 8,
+    LABEL_MOST = 7,
     FRAME_TIME_WORDS = 3
 };
 
 /* The keys with one value. */
-enum plan_key { KEY_WORDS, KEY_TRACKS, KEY_FRAME_TIME, KEY_CRC, KEY_PARITY, KEYS };
+enum plan_key {
+    KEY_WORDS,
+    KEY_TRACKS,
+    KEY_FRAME_TIME,
+    KEY_CRC,
+    KEY_PARITY,
+    KEY_CRC_LABEL,
+    KEY_FILL_BUS,
+    KEYS
+};
 
 /* A plan, and the lines that gave it. */
 typedef struct {

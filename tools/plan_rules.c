@@ -71,9 +71,32 @@ static bool wrong_parity(const plan_file *p)
     return wrong;
 }
 
+static bool wrong_label(const plan_file *p)
+{
+    if (p->plan.crc_label <= LABEL_MOST)
+        return false;
+    say_rule(p, p->key_lines[KEY_CRC_LABEL], "crc-label is %u: the CRC word's label is 0 to %d",
+             p->plan.crc_label, LABEL_MOST);
+    return true;
+}
+
+static bool wrong_fill_bus(const plan_file *p)
+{
+    uint32_t code = p->plan.fill_bus;
+    if (code < (p->plan.parity ? BUSES_WITH_PARITY : BUSES))
+        return false;
+    if (code < BUSES)
+        say_rule(p, p->key_lines[KEY_FILL_BUS], "fill-bus is %u: with parity the buses are 0 to %d", code,
+                 BUSES_WITH_PARITY - 1);
+    else
+        say_rule(p, p->key_lines[KEY_FILL_BUS], "fill-bus is %u: a bus is 0 to %d", code, BUSES - 1);
+    return true;
+}
+
 void say_illegal(const plan_file *p)
 {
-    static bool (*const rules[])(const plan_file *) = {wrong_words, wrong_tracks, wrong_buses, wrong_parity};
+    static bool (*const rules[])(const plan_file *) = {wrong_words,  wrong_tracks, wrong_buses,
+                                                       wrong_parity, wrong_label,  wrong_fill_bus};
     bool said = false;
     for (size_t n = 0; n < sizeof rules / sizeof *rules; n++)
         said = rules[n](p) || said;

@@ -59,8 +59,9 @@ static bool next_data(const vin_plan *plan, const run *capture, const stored *fr
 static void bad_fill(const vin_plan *plan, const run *capture, const stored *s, char *why)
 {
     stored next;
-    if (s->bus != 0)
-        snprintf(why, WHY_MOST, "misplaced fill: its bus is %" PRIu32 " and not 0", s->bus);
+    if (s->bus != plan->fill_bus)
+        snprintf(why, WHY_MOST, "misplaced fill: its bus is %" PRIu32 " and not %" PRIu32, s->bus,
+                 plan->fill_bus);
     else if (next_data(plan, capture, s, &next))
         snprintf(why, WHY_MOST, "misplaced fill: data follows it, %06" PRIX32 " at %s", next.word,
                  tell_place(&next).text);
@@ -105,7 +106,7 @@ static void say_word_refused(const call *c, vin_answer a)
     bad_word(c, &s, a.number, why);
     complain("%s: refused by %" PRIu32 " at %s: %06" PRIX32 ": %s", input_name(c->capture_name).text,
              a.number, tell_place(&s).text, s.word, why);
-    if (a.number == VIN_SYNC || a.number == VIN_DATA_WORD || a.number == VIN_FILL)
+    if (a.number == VIN_SYNC || a.number == VIN_CRC || a.number == VIN_DATA_WORD || a.number == VIN_FILL)
         say_hints("hint", c->capture_name, &c->plan.plan, &c->capture);
 }
 

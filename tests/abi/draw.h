@@ -12,6 +12,8 @@
 
 typedef struct {
     uint32_t words, tracks, frame_time, crc, parity;
+    bool full;                    /* for the functions that take the whole plan (K5); else label 3 and code 0 */
+    uint32_t crc_label, fill_bus;
     uint8_t kinds[32];
     size_t kinds_len;
 } drawn_plan;

@@ -7,7 +7,8 @@
 static plan rules_plan(const drawn *d)
 {
     plan p;
-    plan_of(&p, d->plan.words, d->plan.tracks, d->plan.frame_time, d->plan.crc, d->plan.parity, d->plan.kinds, 16);
+    plan_of(&p, d->plan.words, d->plan.tracks, d->plan.frame_time, d->plan.crc, d->plan.parity, d->plan.crc_label, d->plan.fill_bus,
+            d->plan.kinds, 16);
     return p;
 }
 
@@ -28,9 +29,11 @@ static uint32_t draw_information(void)
 
 static uint32_t draw_fill(const plan *p)
 {
-    word w = fill();
+    word w = fill(p);
     if (one_in(8))
         w.bus = draw(p->parity ? 8 : 16);
+    else if (one_in(16))
+        w.bus = 0;
     return sent(p, w);
 }
 
@@ -67,7 +70,7 @@ static void one_change(drawn *d, const plan *p)
     case 1: store(d->capture, place, noise); break;
     case 2: d->capture[3 * place + n % 3] ^= (uint8_t)(1u << noise % 8); break;
     case 3: store(d->capture, dealt, drawn_word); break;
-    case 4: store(d->capture, dealt, sent(p, fill())); break;
+    case 4: store(d->capture, dealt, sent(p, fill(p))); break;
     case 5: store(d->capture, dealt, stored(d->capture, other)); break;
     case 6: store(d->capture, dealt_place(p, group, noise % 3), (4 + n) << 16 | information); break; /* a frame time word */
     case 7: store(d->capture, group * group_words(p) + n % p->tracks * p->length, one_in(2) ? 0xFAF321 : noise); break;
@@ -85,13 +88,40 @@ static void fill_group(drawn *d, const plan *p, bool front)
     if (front)
         memmove(d->capture + bytes, d->capture, d->capture_len);
     for (uint32_t n = 0; n < group_words(p); n++)
-        store(at, n, n % p->length == 0 ? SYNC : sent(p, fill()));
+        store(at, n, n % p->length == 0 ? SYNC : sent(p, fill(p)));
     for (uint64_t n = 0; n < furniture(p); n++)
         store(at, dealt_place(p, 0, n), sent(p, (word){0, LABEL_HIGH - (uint32_t)n, draw(10000)}));
     d->capture_len += bytes;
 }
 
-/* The last word of a frame, which may be its CRC word: one or two bits, or only its bus and label. */
+/* K5: a CRC word of label 1 may read as fill. The word before it becomes a user word on a used bus, with the information by which the
+ * remainder is AAAA; then words may be wrong, but none because of it. */
+static void crc_as_fill(drawn *d, const plan *p)
+{
+    uint32_t frame = draw((uint32_t)(d->capture_len / (3 * (size_t)p->length))), bus = draw_bus(p);
+    uint8_t *bytes = d->capture + 3 * (size_t)frame * p->length;
+    word as_fill = {0, LABEL_FILL, FILL_INFORMATION};
+    plan two = *p; /* the remainder over the last word but one, and over all before it: by a frame of two words, as sums of both */
+    uint8_t last[6] = {0};
+    uint32_t before;
+    if (!p->crc || p->crc_label != LABEL_FILL || d->capture_len == 0)
+        return;
+    if (p->parity && p->length % 2 == 0) /* an odd number of words with an odd number of ones: so is the remainder's */
+        return;
+    store(bytes, p->length - 2, 0);
+    before = crc_word(p, bytes) & 0xFFFF;
+    two.length = 2;
+    for (uint32_t information = 0; information < 0x10000; information++) {
+        store(last, 0, sent(p, (word){bus, LABEL_USER, information}));
+        if ((before ^ (crc_word(&two, last) & 0xFFFF)) != FILL_INFORMATION)
+            continue;
+        store(bytes, p->length - 2, stored(last, 0));
+        store(bytes, p->length - 1, sent(p, as_fill));
+        return;
+    }
+}
+
+/* The last word of a frame, which may be its CRC word: one or two bits, or only its bus and label; or fill in its place. */
 static void spoil_last_word(drawn *d, const plan *p)
 {
     uint32_t frame = draw((uint32_t)(d->capture_len / (3 * (size_t)p->length)));
@@ -101,7 +131,10 @@ static void spoil_last_word(drawn *d, const plan *p)
         bits ^= 1u << draw(24);
     if (one_in(2))
         bits = 3u << (16 + draw(7));
-    store(d->capture, place, stored(d->capture, place) ^ bits);
+    if (one_in(6))
+        store(d->capture, place, sent(p, fill(p)));
+    else
+        store(d->capture, place, stored(d->capture, place) ^ bits);
 }
 
 void draw_damage(drawn *d)
@@ -114,6 +147,8 @@ void draw_damage(drawn *d)
             one_change(d, &p);
     if (!one_in(3))
         mend(d, &p);
+    if (one_in(12))
+        crc_as_fill(d, &p);
     if (d->capture_len > 0 && one_in(6))
         spoil_last_word(d, &p);
     if (one_in(12) && d->capture_len + 8 < DRAWN_CAPTURE_MAX)

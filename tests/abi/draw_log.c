@@ -79,13 +79,27 @@ static void draw_kinds(drawn_plan *p)
         p->kinds[n] = shape < 3 ? (uint8_t)draw(3) : kind;
 }
 
+/* K5: the CRC word's label and the fill bus code; of a third of the plans the usual ones, by the functions that take none. */
+static void draw_label_and_code(drawn_plan *p)
+{
+    p->full = !one_in(3);
+    p->crc_label = 3;
+    p->fill_bus = 0;
+    if (p->full && !one_in(8))
+        p->crc_label = one_in(4) ? 1 : draw(8);
+    if (p->full && !one_in(8))
+        p->fill_bus = draw(p->parity ? 8 : 16);
+}
+
 /* A number that names no choice, or a plan that is illegal for another reason; some spoiled plans stay legal. */
 static void spoil_plan(drawn_plan *p)
 {
-    static const uint32_t numbers[] = {0, 1, 2, 3, 4, 5, 127, 128, 129, 255, 256, 257, 511, 512, 513, 65536, 0x7FFFFFFF, 0x80000000,
-                                       0x80000081, 0xFFFFFFFF};
-    uint32_t number = numbers[draw(sizeof numbers / sizeof *numbers)];
-    switch (draw(10)) {
+    static const uint32_t numbers[] = {0, 1, 2, 3, 4, 5, 7, 8, 15, 16, 127, 128, 129, 255, 256, 257, 511, 512, 513, 65536, 0x7FFFFFFF,
+                                       0x80000000, 0x80000081, 0xFFFFFFFF};
+    uint32_t number = numbers[draw(sizeof numbers / sizeof *numbers)], what = draw(14);
+    if (what >= 10)
+        p->full = true;
+    switch (what) {
     case 0: p->words = number; break;
     case 1: p->tracks = number; break;
     case 2: p->frame_time = number; break;
@@ -95,7 +109,11 @@ static void spoil_plan(drawn_plan *p)
     case 6: p->kinds_len = draw(33); break;
     case 7: p->parity = 1; p->kinds[8 + draw(8)] = (uint8_t)(1 + draw(2)); break;
     case 8: p->tracks = 2 + draw(3); p->kinds[draw(16)] = (uint8_t)(1 + draw(2)); break;
-    default: p->tracks = 2 + draw(3); memset(p->kinds, 0, 16); break;
+    case 9: p->tracks = 2 + draw(3); memset(p->kinds, 0, 16); break;
+    case 10: p->crc_label = number; break;
+    case 11: p->fill_bus = number; break;
+    case 12: p->crc_label = 8 + draw(8); break;
+    default: p->fill_bus = 8 + draw(9); break;
     }
 }
 
@@ -109,6 +127,7 @@ void draw_plan(drawn *d)
     p->parity = draw(2);
     p->kinds_len = 16;
     draw_kinds(p);
+    draw_label_and_code(p);
     d->legal = !one_in(12);
     if (!d->legal)
         spoil_plan(p);

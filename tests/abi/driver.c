@@ -18,7 +18,7 @@
 
 static struct {
     uint64_t seed, number;
-    uint64_t calls[3][16]; /* by function and answer */
+    uint64_t calls[6][16]; /* by function and answer */
 } run;
 
 static drawn the_case;
@@ -26,8 +26,8 @@ static lent kinds, in_1, in_2;           /* what is only read: kinds; log and ti
 static lent room_1, room_2;              /* what the library writes: a capture, or log and times */
 static uint8_t expected_1[ROOM_MAX], expected_2[ROOM_MAX];  /* what the independent implementation writes */
 
-enum function { COMPOSE, READ, READ_CLOSED };
-static const char *const names[] = {"vin_compose", "vin_read", "vin_read_closed"};
+enum function { COMPOSE, READ, READ_CLOSED, FUNCTIONS };
+static const char *const names[] = {"vin_compose", "vin_read", "vin_read_closed", "vin_compose_full", "vin_read_full", "vin_read_closed_full"};
 
 typedef struct {
     enum function function;
@@ -35,6 +35,12 @@ typedef struct {
     size_t in_1_len, in_2_len;
     size_t room_1_len, room_2_len;
 } call;
+
+/* The function that is called: of three with the usual label and fill code, or of three with the whole plan. */
+static int called(const call *c)
+{
+    return (int)c->function + (the_case.plan.full ? FUNCTIONS : 0);
+}
 
 /* ==== A failure ==== */
 
@@ -47,9 +53,9 @@ static void say_answer(const char *who, vin_answer a)
 static void failed(const call *c, const char *why, vin_answer ours, vin_answer theirs)
 {
     const drawn_plan *p = &the_case.plan;
-    printf("FAILED: seed %" PRIu64 " case %" PRIu64 ": %s: %s\n", run.seed, run.number, names[c->function], why);
-    printf("  plan: words %" PRIu32 " tracks %" PRIu32 " frame_time %" PRIu32 " crc %" PRIu32 " parity %" PRIu32 " kinds", p->words,
-           p->tracks, p->frame_time, p->crc, p->parity);
+    printf("FAILED: seed %" PRIu64 " case %" PRIu64 ": %s: %s\n", run.seed, run.number, names[called(c)], why);
+    printf("  plan: words %" PRIu32 " tracks %" PRIu32 " frame_time %" PRIu32 " crc %" PRIu32 " parity %" PRIu32 " crc_label %" PRIu32
+           " fill_bus %" PRIu32 " kinds", p->words, p->tracks, p->frame_time, p->crc, p->parity, p->crc_label, p->fill_bus);
     for (size_t n = 0; n < p->kinds_len; n++)
         printf(" %u", p->kinds[n]);
     printf("\n  lengths: in %zu %zu, room %zu %zu\n", c->in_1_len, c->in_2_len, c->room_1_len, c->room_2_len);
@@ -86,9 +92,22 @@ static bool same(vin_answer a, vin_answer b)
     return a.number == b.number && a.place == b.place && a.second == b.second && a.bytes == b.bytes && a.times == b.times;
 }
 
+static vin_answer library_full(const call *c)
+{
+    const drawn_plan *p = &the_case.plan;
+    if (c->function == COMPOSE)
+        return vin_compose_full(p->words, p->tracks, p->frame_time, p->crc, p->parity, p->crc_label, p->fill_bus, kinds.at, p->kinds_len,
+                                in_1.at, c->in_1_len, in_2.at, c->in_2_len, room_1.at, c->room_1_len);
+    return (c->function == READ ? vin_read_full : vin_read_closed_full)(
+        p->words, p->tracks, p->frame_time, p->crc, p->parity, p->crc_label, p->fill_bus, kinds.at, p->kinds_len, in_1.at, c->in_1_len,
+        room_1.at, c->room_1_len, room_2.at, c->room_2_len);
+}
+
 static vin_answer library(const call *c)
 {
     const drawn_plan *p = &the_case.plan;
+    if (p->full)
+        return library_full(c);
     if (c->function == COMPOSE)
         return vin_compose(p->words, p->tracks, p->frame_time, p->crc, p->parity, kinds.at, p->kinds_len, in_1.at, c->in_1_len,
                            in_2.at, c->in_2_len, room_1.at, c->room_1_len);
@@ -97,15 +116,30 @@ static vin_answer library(const call *c)
         room_1.at, c->room_1_len, room_2.at, c->room_2_len);
 }
 
-/* The same through the header's wrappers, with null pointers for runs of length 0. */
-static vin_answer library_by_plan(const call *c)
+/* The drawn plan as the header has it: begun with its macro; or, if label and code are the usual ones, begun with zeros now and then, as
+ * a program from before there were others may do it. */
+static vin_plan plan_struct(const drawn_plan *p)
 {
-    const drawn_plan *p = &the_case.plan;
     vin_plan plan = VIN_PLAN_INIT(p->words, p->tracks);
+    if (p->full) {
+        plan.crc_label = p->crc_label;
+        plan.fill_bus = p->fill_bus;
+    } else if (one_in(2)) {
+        memset(&plan, 0, sizeof plan);
+        plan.words = p->words;
+        plan.tracks = p->tracks;
+    }
     plan.frame_time = p->frame_time;
     plan.crc = p->crc;
     plan.parity = p->parity;
     memcpy(plan.kinds, p->kinds, 16);
+    return plan;
+}
+
+/* The same through the header's wrappers, with null pointers for runs of length 0. */
+static vin_answer library_by_plan(const call *c)
+{
+    vin_plan plan = plan_struct(&the_case.plan);
     const uint8_t *a = c->in_1_len ? in_1.at : NULL, *b = c->in_2_len ? in_2.at : NULL;
     uint8_t *x = c->room_1_len ? room_1.at : NULL, *y = c->room_2_len ? room_2.at : NULL;
     if (c->function == COMPOSE)
@@ -113,9 +147,22 @@ static vin_answer library_by_plan(const call *c)
     return (c->function == READ ? vin_plan_read : vin_plan_read_closed)(&plan, a, c->in_1_len, x, c->room_1_len, y, c->room_2_len);
 }
 
+static vin_answer independent_full(const call *c)
+{
+    const drawn_plan *p = &the_case.plan;
+    if (c->function == COMPOSE)
+        return as_vin(ind_compose_full(p->words, p->tracks, p->frame_time, p->crc, p->parity, p->crc_label, p->fill_bus, p->kinds,
+                                       p->kinds_len, c->in_1, c->in_1_len, c->in_2, c->in_2_len, expected_1, c->room_1_len));
+    return as_vin((c->function == READ ? ind_read_full : ind_read_closed_full)(
+        p->words, p->tracks, p->frame_time, p->crc, p->parity, p->crc_label, p->fill_bus, p->kinds, p->kinds_len, c->in_1, c->in_1_len,
+        expected_1, c->room_1_len, expected_2, c->room_2_len));
+}
+
 static vin_answer independent(const call *c)
 {
     const drawn_plan *p = &the_case.plan;
+    if (p->full)
+        return independent_full(c);
     if (c->function == COMPOSE)
         return as_vin(ind_compose(p->words, p->tracks, p->frame_time, p->crc, p->parity, p->kinds, p->kinds_len, c->in_1, c->in_1_len,
                                   c->in_2, c->in_2_len, expected_1, c->room_1_len));
@@ -154,7 +201,7 @@ static vin_answer compare(const call *c)
 
     theirs = independent(c);
     ours = by_plan ? library_by_plan(c) : library(c);
-    run.calls[c->function][theirs.number]++;
+    run.calls[called(c)][theirs.number]++;
 
     if (!same(ours, theirs))
         failed(c, "another answer", ours, theirs);
@@ -233,7 +280,7 @@ static void one_case(void)
 
 /* Document 01: "Composing checks 1; the log's length; the items in order, each for 2, 3, 4; then 5 ..; then 6. Reading checks 1, 8; then
  * group by group: .. 9 .. 10 .. 11 .., then 12, then 13 ..; after the last group the cut item, 14, 6, 7." 14 is of the closed reading
- * only. K2: 15 comes before 5 in composing, and before 14 in the readings. */
+ * only. K2: 15 comes before 5 in composing, and before 14 in the readings. K5: the functions that take the whole plan answer the same. */
 static const char can_answer[3][17] = {"yyyyyyy........y", "yy....yyyyyyyy.y", "yy....yyyyyyyyyy"};
 
 /* In a run of this many cases every answer that a function can give must occur. */
@@ -243,9 +290,9 @@ static const char can_answer[3][17] = {"yyyyyyy........y", "yy....yyyyyyyy.y", "
 static bool every_answer(uint64_t count)
 {
     bool every = true;
-    for (int f = 0; f < 3; f++)
+    for (int f = 0; f < 2 * FUNCTIONS; f++)
         for (int n = 0; n < 16; n++) {
-            bool can = can_answer[f][n] == 'y', occurred = run.calls[f][n] > 0;
+            bool can = can_answer[f % FUNCTIONS][n] == 'y', occurred = run.calls[f][n] > 0;
             if (occurred == can || (can && count < MANY_CASES))
                 continue;
             printf("FAILED: seed %" PRIu64 ": %s %s %d\n", run.seed, names[f], can ? "never answered" : "cannot answer", n);
@@ -257,12 +304,12 @@ static bool every_answer(uint64_t count)
 static void report(uint64_t count)
 {
     printf("%" PRIu64 " cases of seed %" PRIu64 ": no difference\n", count, run.seed);
-    printf("%-16s", "answers");
+    printf("%-20s", "answers");
     for (int n = 0; n < 16; n++)
         printf("%9d", n);
     printf("\n");
-    for (int f = 0; f < 3; f++) {
-        printf("%-16s", names[f]);
+    for (int f = 0; f < 2 * FUNCTIONS; f++) {
+        printf("%-20s", names[f]);
         for (int n = 0; n < 16; n++)
             printf("%9" PRIu64, run.calls[f][n]);
         printf("\n");

@@ -204,6 +204,36 @@ static void most_groups(void)
         CHECK(times[8 * group + 6] == group >> 8 && times[8 * group + 7] == (group & 255));
 }
 
+/* The whole plan: a label and a code above their limits are refused whatever else is chosen, and so is one that is set in a plan not
+ * begun with VIN_PLAN_INIT; a plan of zeros there has the usual ones. */
+static void full_plans(void)
+{
+    static const uint8_t log[] = {0x32, 0x5F, 0x77, 0x80};
+    static uint8_t capture[VIN_GROUP_BYTES(128, 1)], back[4];
+    for (uint32_t parity = 0; parity <= 1; parity++)
+        for (uint32_t label = 0; label <= 9; label++)
+            for (uint32_t code = 0; code <= 17; code++)
+                for (uint32_t full = 0; full <= 2; full++) {
+                    vin_plan plan = VIN_PLAN_INIT(128, 1);
+                    int legal = full == 1 ? label <= 7 && code <= (parity ? 7 : 15) : full == 0 && label == 0 && code == 0;
+                    vin_answer a;
+                    plan.crc = 1;
+                    plan.parity = parity;
+                    plan.kinds[2] = VIN_KIND_1553;
+                    plan.full = full;
+                    plan.crc_label = label;
+                    plan.fill_bus = code;
+                    a = vin_plan_compose(&plan, log, sizeof log, NULL, 0, capture, sizeof capture);
+                    CHECK(legal ? a.number == VIN_DONE && a.bytes == sizeof capture : a.number == VIN_PLAN && a.place == 0);
+                    CHECK(!legal || (capture[sizeof capture - 3] & 0x7F) == (full ? label : VIN_CRC_LABEL));
+                    CHECK(!legal || (capture[6] & (parity ? 0x7F : 0xFF)) == (code << 4 | 1));
+                    a = vin_plan_read(&plan, capture, sizeof capture, back, sizeof back, NULL, 0);
+                    CHECK(legal ? a.number == VIN_DONE && a.bytes == sizeof log : a.number == VIN_PLAN && a.place == 0);
+                    a = vin_plan_read_closed(&plan, capture, sizeof capture, back, sizeof back, NULL, 0);
+                    CHECK(legal ? a.number == VIN_DONE && a.bytes == sizeof log : a.number == VIN_PLAN && a.place == 0);
+                }
+}
+
 /* A plan begun with VIN_PLAN_INIT is the plan of these numbers with nothing chosen; the version's number is its text's. */
 static void names(void)
 {
@@ -212,6 +242,7 @@ static void names(void)
     vin_plan plan = VIN_PLAN_INIT(511, 4);
     CHECK(plan.words == 511 && plan.tracks == 4 && plan.frame_time == 0 && plan.crc == 0 && plan.parity == 0);
     CHECK(memcmp(plan.kinds, none, sizeof none) == 0);
+    CHECK(plan.full == 1 && plan.crc_label == 3 && plan.fill_bus == 0 && VIN_CRC_LABEL == 3 && VIN_FILL_BUS == 0);
     CHECK(sscanf(VIN_VERSION, "%u.%u.%u", &major, &minor, &patch) == 3);
     CHECK(VIN_VERSION_NUMBER == 10000 * major + 100 * minor + patch);
 }
@@ -226,6 +257,7 @@ int main(void)
     shifted();
     replaying();
     lengths();
+    full_plans();
     most_groups();
     puts("header: its sizes, its limits and its example hold");
     return 0;

@@ -1,6 +1,7 @@
 /* The stack that a call needs: each function is called in a thread whose stack is painted, and what lost its paint is measured and
- * held to VIN_STACK_BYTES of include/vinculampe.h. Plans of all tracks and choices; logs from one item to the longest; captures up to
- * the largest; calls that are refused. The functions on logs are held to VIN_LOG_STACK_BYTES: a line each in `over_logs`. */
+ * held to VIN_STACK_BYTES of include/vinculampe.h. Plans of all tracks and choices, and labels, also by the functions that take none;
+ * logs from one item to the longest; captures up to the largest; calls that are refused. The functions on logs are held to
+ * VIN_LOG_STACK_BYTES: a line each in `over_logs`. */
 #define _GNU_SOURCE
 #include <pthread.h>
 #include <stdbool.h>
@@ -66,6 +67,17 @@ typedef struct {
     size_t index;   /* in over_logs */
 } work;
 
+/* By the functions that take no CRC label and no fill bus. */
+static vin_answer called_without_label(const work *w)
+{
+    const vin_plan *p = &w->plan;
+    if (w->function == COMPOSE)
+        return vin_compose(p->words, p->tracks, p->frame_time, p->crc, p->parity, p->kinds, 16, log_bytes, w->length, times,
+                           w->times_length, capture, w->room);
+    return (w->function == READ ? vin_read : vin_read_closed)(p->words, p->tracks, p->frame_time, p->crc, p->parity, p->kinds, 16, capture,
+                                                              w->length, back, w->room, back_times, sizeof back_times);
+}
+
 static void *run(void *given)
 {
     work *w = given;
@@ -73,6 +85,8 @@ static void *run(void *given)
     w->above = &here;
     if (w->function == OVER_LOG)
         over_logs[w->index].call(w->length, w->room);
+    else if (!w->plan.full)
+        w->answer = called_without_label(w);
     else if (w->function == COMPOSE)
         w->answer = vin_plan_compose(&w->plan, log_bytes, w->length, times, w->times_length, capture, w->room);
     else
@@ -197,10 +211,14 @@ int main(void)
             for (unsigned choices = 0; choices < 8; choices++)
                 for (int longest = 0; longest < 2; longest++) {
                     vin_plan plan = VIN_PLAN_INIT(longest ? 512 : 128, tracks);
+                    plan.crc_label = choices;
+                    plan.fill_bus = 7 - choices;
                     plan.frame_time = choices & 1;
                     plan.crc = choices >> 1 & 1;
                     plan.parity = choices >> 2;
                     plan.kinds[2] = (uint8_t)kind;
+                    measure_plan(plan, make_log(longest ? VIN_LOG_MAX : 12, kind), stack);
+                    plan.full = 0;
                     measure_plan(plan, make_log(longest ? VIN_LOG_MAX : 12, kind), stack);
                 }
     for (unsigned kind = VIN_KIND_1553; kind <= VIN_KIND_ARINC; kind++)

@@ -4,7 +4,8 @@
  *   byte 0       0 composes the rest as a log; 1 reads the rest as a capture; 2 reads the rest as data words, dealt into groups with
  *                sync, frame time, parity and CRC made right; 3 as 2, then the last byte of the rest changed something; 4 works on the
  *                rest as logs: bytes 1 to 8 are a set of buses (1, 2) and a shift (all eight), byte 9 is where a second log begins
- *   bytes 1, 2   the words of a frame; byte 3 tracks, frame time, CRC, parity; bytes 4 to 7 the kinds, two bits a bus
+ *   bytes 1, 2   the words of a frame; byte 3 tracks, frame time, CRC, parity; bytes 4 to 7 the kinds, two bits a bus. With the last
+ *                bit of byte 3 the whole plan: bytes 8 and 9 are also the CRC word's label and the fill bus code
  *   byte 8       how much more or less room than needed; 192 and more: a group of fill behind
  *   byte 9       how many more bytes of times than needed, or the change of 3 */
 #include <stdlib.h>
@@ -20,11 +21,12 @@ static uint8_t run_a[CAPTURE_ROOM], made[CAPTURE_ROOM], made_too[CAPTURE_ROOM], 
     times_made_too[CAPTURE_ROOM];
 
 typedef struct {
-    uint32_t words, tracks, frame_time, crc, parity;
+    uint32_t words, tracks, frame_time, crc, parity, full, crc_label, fill_bus;
     uint8_t kinds[16];
 } numbers;
 
 #define PLAN n->words, n->tracks, n->frame_time, n->crc, n->parity, n->kinds, 16
+#define FULL n->words, n->tracks, n->frame_time, n->crc, n->parity, n->crc_label, n->fill_bus, n->kinds, 16
 
 static void must_be_same(vin_answer a, ind_answer b)
 {
@@ -36,17 +38,20 @@ static void must_be_same(vin_answer a, ind_answer b)
 
 static vin_answer compose(const numbers *n, const uint8_t *log, size_t log_len, size_t times_len, size_t room)
 {
-    vin_answer a = vin_compose(PLAN, log, log_len, times, times_len, made, room);
-    must_be_same(a, ind_compose(PLAN, log, log_len, times, times_len, made_too, room));
+    vin_answer a = n->full ? vin_compose_full(FULL, log, log_len, times, times_len, made, room)
+                           : vin_compose(PLAN, log, log_len, times, times_len, made, room);
+    must_be_same(a, ind_compose_full(FULL, log, log_len, times, times_len, made_too, room));
     return a;
 }
 
 static vin_answer read_both(const numbers *n, const uint8_t *capture, size_t length, size_t log_room, size_t times_room)
 {
-    vin_answer a = vin_read(PLAN, capture, length, made, log_room, times_made, times_room), c;
-    must_be_same(a, ind_read(PLAN, capture, length, made_too, log_room, times_made_too, times_room));
-    c = vin_read_closed(PLAN, capture, length, made, log_room, times_made, times_room);
-    must_be_same(c, ind_read_closed(PLAN, capture, length, made_too, log_room, times_made_too, times_room));
+    vin_answer a = n->full ? vin_read_full(FULL, capture, length, made, log_room, times_made, times_room)
+                           : vin_read(PLAN, capture, length, made, log_room, times_made, times_room), c;
+    must_be_same(a, ind_read_full(FULL, capture, length, made_too, log_room, times_made_too, times_room));
+    c = n->full ? vin_read_closed_full(FULL, capture, length, made, log_room, times_made, times_room)
+                : vin_read_closed(PLAN, capture, length, made, log_room, times_made, times_room);
+    must_be_same(c, ind_read_closed_full(FULL, capture, length, made_too, log_room, times_made_too, times_room));
     if (c.number == 0 && (a.number != 0 || a.bytes != c.bytes || a.times != c.times)) /* where closed accepts, plain does */
         abort();
     return c;
@@ -111,7 +116,7 @@ static void on_logs(const uint8_t *rest, size_t size, const uint8_t *by)
 
 int LLVMFuzzerTestOneInput(const uint8_t *data, size_t size)
 {
-    numbers numbers_of_plan = {0, 0, 0, 0, 0, {0}}, *n = &numbers_of_plan;
+    numbers numbers_of_plan = {0}, *n = &numbers_of_plan;
     const uint8_t *rest = data + 10;
     size_t length;
     plan p;
@@ -128,6 +133,9 @@ int LLVMFuzzerTestOneInput(const uint8_t *data, size_t size)
     n->frame_time = data[3] >> 1 & 1;
     n->crc = data[3] >> 2 & 1;
     n->parity = data[3] >> 3 & 1;
+    n->full = data[3] & 1;
+    n->crc_label = n->full ? data[8] % 9 : VIN_CRC_LABEL;
+    n->fill_bus = n->full ? data[9] % 18 : VIN_FILL_BUS;
     for (int bus = 0; bus < 16; bus++)
         n->kinds[bus] = data[4 + bus / 4] >> (6 - 2 * (bus % 4)) & 3;
     if (data[0] % 4 == 0) {
@@ -138,8 +146,9 @@ int LLVMFuzzerTestOneInput(const uint8_t *data, size_t size)
         return 0;
     memcpy(run_a, rest, size);
     length = size;
-    if (data[0] % 4 > 1 && plan_of(&p, n->words, n->tracks, n->frame_time, n->crc, n->parity, n->kinds, 16)) {
-        length = deal(n->words, n->tracks, n->frame_time, n->crc, n->parity, n->kinds, rest, size, data[8] >= 192, run_a, CAPTURE_ROOM);
+    if (data[0] % 4 > 1 && plan_of(&p, FULL)) {
+        length = deal(n->words, n->tracks, n->frame_time, n->crc, n->parity, n->crc_label, n->fill_bus, n->kinds, rest, size,
+                      data[8] >= 192, run_a, CAPTURE_ROOM);
         if (data[0] % 4 == 3 && length > 0 && size > 0)
             run_a[rest[size - 1] * (length - 1) / 255] ^= data[9] | 1;
     }

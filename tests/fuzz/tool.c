@@ -2,8 +2,9 @@
  * makes. The library is asked too, and what the tool says of a word must be what the library answers.
  *
  * The input: a byte that says what is done with the rest: 0 a plan, 1 times, 2 a listing, 3 a log, 4 a capture, 5 data words dealt into
- * a capture, 6 as 5 with a byte changed, 7 a word that is a set of buses or a shift, 8 events. For 4 to 6 seven bytes make a plan, one says whether a group of fill is behind, or which byte is
- * changed, and one how; where that one is a multiple of eight, the commands are run as well. */
+ * a capture, 6 as 5 with a byte changed, 7 a word that is a set of buses or a shift, 8 events. For 4 to 6 seven bytes make a plan, one
+ * says whether a group of fill is behind, or which byte is changed, and one how; where that one is a multiple of eight, the commands are
+ * run as well. With the last bit of the plan's third byte these two are also its CRC label and its fill bus. */
 #define _GNU_SOURCE
 #include <stdio.h>
 #include <stdlib.h>
@@ -241,8 +242,8 @@ static memory text_of(const vin_plan *p)
 {
     static const char *const kinds[] = {"unused", "1553", "arinc"}, *const choices[] = {"no", "yes"};
     char text[1024];
-    int n = snprintf(text, sizeof text, "words %u\ntracks %u\nframe-time %s\ncrc %s\nparity %s\n", p->words, p->tracks,
-                     choices[p->frame_time], choices[p->crc], choices[p->parity]);
+    int n = snprintf(text, sizeof text, "words %u\ntracks %u\nframe-time %s\ncrc %s\nparity %s\ncrc-label %u\nfill-bus %u\n", p->words,
+                     p->tracks, choices[p->frame_time], choices[p->crc], choices[p->parity], p->crc_label, p->fill_bus);
     for (int bus = 0; bus < 16; bus++)
         n += snprintf(text + n, sizeof text - (size_t)n, "bus %d %s\n", bus, kinds[p->kinds[bus]]);
     return file_of((uint8_t *)text, (size_t)n);
@@ -277,11 +278,15 @@ static void try_capture(const uint8_t *data, size_t size, int how)
     p.frame_time = data[2] >> 1 & 1;
     p.crc = data[2] >> 2 & 1;
     p.parity = data[2] >> 3 & 1;
+    if (data[2] & 1) {
+        p.crc_label = data[7] % 9;
+        p.fill_bus = data[8] % 18;
+    }
     for (int bus = 0; bus < 16; bus++)
         p.kinds[bus] = (uint8_t)((data[3 + bus / 4] >> (6 - 2 * (bus % 4)) & 3) % 3);
     if (how > 4) {
-        capture = (run){made, deal(p.words, p.tracks, p.frame_time, p.crc, p.parity, p.kinds, rest, size - 9, data[7] >= 192,
-                                   made, sizeof made)};
+        capture = (run){made, deal(p.words, p.tracks, p.frame_time, p.crc, p.parity, p.crc_label, p.fill_bus, p.kinds, rest, size - 9,
+                                   data[7] >= 192, made, sizeof made)};
         if (how == 6 && capture.length > 0)
             made[(size_t)data[7] * 4099 % capture.length] ^= data[8] | 1;
     }

@@ -67,7 +67,7 @@ wrong_line() { # LINE MESSAGE: as the third line of a plan
     plan "words 129" "tracks 1" "$1" "bus 2 1553"
     misuse "vin: p:3: $2" plan p
 }
-keys="the keys are words, tracks, frame-time, crc, parity and bus"
+keys="the keys are words, tracks, frame-time, crc, parity, crc-label, fill-bus and bus"
 wrong_line "wrods 129" "unknown key \"wrods\"; $keys"
 wrong_line "Words 129" "unknown key \"Words\"; $keys"
 wrong_line "words 130" "words is given again; line 1 has it"

@@ -17,6 +17,21 @@ refused "vin: p:1: refused by 1 at 0: words is 999999999: a frame has 128 to 512
 vin: p:2: refused by 1 at 0: tracks is 5: a group has 1 to 4 tracks
 vin: p:2: refused by 1 at 0: more than one track needs exactly one used bus; used: 2
 vin: p:5: refused by 1 at 0: bus 9 is used: with parity the buses are 0 to 7" plan p
+plan "$one" "$two" "crc-label 8" "fill-bus 16"
+refused "vin: p:3: refused by 1 at 0: crc-label is 8: the CRC word's label is 0 to 7
+vin: p:4: refused by 1 at 0: fill-bus is 16: a bus is 0 to 15" plan p
+refused "vin: p:3: refused by 1 at 0: crc-label is 8: the CRC word's label is 0 to 7
+vin: p:4: refused by 1 at 0: fill-bus is 16: a bus is 0 to 15" check p four-track.capture
+plan "$one" "$two" "fill-bus 8" "parity yes"
+refused "vin: p:3: refused by 1 at 0: fill-bus is 8: with parity the buses are 0 to 7" plan p
+for label in 0 3 7 8 999999999; do for code in 0 7 8 15 16 999999999; do for parity in no yes; do for crc in no yes; do
+    plan "$one" "$two" "crc-label $label" "fill-bus $code" "parity $parity" "crc $crc"
+    [ $label -le 7 ] && [ $code -le 15 ] && { [ $parity = no ] || [ $code -le 7 ]; }
+    legal=$?
+    "${vin[@]}" plan p >out.txt 2>err.txt
+    [ $? -eq $legal ] && ! grep -q "the plan is illegal" err.txt
+    result "a plan of crc-label $label, fill-bus $code, parity $parity, crc $crc" $?
+done; done; done; done
 # Every rule with every other: legal just when document 01 says so, and each refusal names a rule.
 for words in 127 128 512 513; do for tracks in 0 1 2 4 5; do for parity in no yes; do for buses in "" 7 8 "2 9"; do
     plan "words $words" "tracks $tracks" "parity $parity"

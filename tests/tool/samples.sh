@@ -59,8 +59,9 @@ says 0 "legal
   words       129 in a frame, the sync word counted
   tracks      4 in a group
   frame time  yes: three words open every group
-  CRC         yes: the last word of every frame
+  CRC         yes: the last word of every frame, with label 3
   parity      no
+  fill        on bus 0
   bus 2       MIL-STD-1553
 
 505 slots for data in a group, 1548 bytes a group
@@ -78,6 +79,7 @@ says 0 "legal
   frame time  yes: three words open every group
   CRC         no
   parity      yes: bit 1 of every word but the sync word
+  fill        on bus 0
   bus 0       MIL-STD-1553
   bus 1       MIL-STD-1553
   bus 5       ARINC 429
@@ -88,6 +90,12 @@ A group as it is stored, track by track; d1, d2, .. are its data slots in the or
 
            word 1    word 2    word 3    word 4    word 5    ..  word 127  word 128  word 129
   track 1  sync      high      low       micro     d1        ..  d123      d124      d125" plan composite.plan
+plan "words 128" "tracks 1" "parity yes" "crc yes" "crc-label 6" "fill-bus 7"
+"${vin[@]}" plan p | sed -n '2,7p' >have
+printf '%s\n' "  words       128 in a frame, the sync word counted" "  tracks      1 in a group" "  frame time  no" \
+    "  CRC         yes: the last word of every frame, with label 6" "  parity      yes: bit 1 of every word but the sync word" \
+    "  fill        on bus 7" >want
+same "a plan with a label and a fill bus" want have
 plan "words 511" "tracks 2" "crc yes" "" "# only a comment" "	bus	15	arinc	# tabs" "frame-time no"
 "${vin[@]}" plan p | sed -n '/track/p' >have
 printf '%s\n' "  tracks      2 in a group" \

@@ -59,6 +59,17 @@ bytes "$(group 2D0001 31AAAA)" >bad
 refused "vin: bad: refused by 14 at $at2: 31AAAA: misplaced fill: its bus is 3 and not 0" check p bad
 bytes "$(group 01AAAA)$(group 2D0001)" >bad
 refused "vin: bad: refused by 14 at $at1: 01AAAA: misplaced fill: data follows it, 2D0001 at word 130 (group 1, track 1, word 2)" check p bad
+bytes "$(group 2D0001 | sed 's/01AAAA/31AAAA/g')" >bad
+refused "vin: bad: refused by 14 at $at2: 31AAAA: misplaced fill: its bus is 3 and not 0
+vin: bad: hint: the bus of every fill word is 3; was the capture made with fill-bus 3?" check p bad
+noted "vin: bad: note: the bus of every fill word is 3; was the capture made with fill-bus 3?" read p bad -o new
+echo "fill-bus 3" >>p
+says 0 "yes: a log of 4 bytes, frame times: 0" check p bad
+bytes "$(group 2D0001 | sed 's/01AAAA/31AAAA/g; s/31AAAA/01AAAA/2')" >bad
+refused "vin: bad: refused by 14 at $at3: 01AAAA: misplaced fill: its bus is 0 and not 3" check p bad
+"${vin[@]}" dump p bad --faults | grep -q "fill              !14 its bus is 0 and not 3"
+result "the dump judges fill by the plan's bus" $?
+sed -i '$d' p
 
 # 15: an error notice without its ARINC word, in a capture and in a log; with it, both ways.
 open="on bus 5 without its ARINC word: the channel's next notice, or the end, comes first"
@@ -87,6 +98,33 @@ patched c 127 01AAAA
 mv bad c
 patched c 128 "$("${vin[@]}" dump p c --faults | sed -n 's/.*!11 expected //p')"
 refused "vin: bad: refused by 14 at word 127 (group 0, track 1, word 128): 01AAAA: misplaced fill: data follows it, 2D0001 at word 133 (group 1, track 1, word 5)" check p bad
+
+# The label of the CRC word and the bus of fill: what is composed by them reads back, and by no other label; label 1 reads as fill in no
+# data slot.
+for n in {100..299}; do echo "dat 2 A 0$n"; done | "${vin[@]}" pack >l
+for label in {0..7}; do for parity in no yes; do
+    plan "words 129" "tracks 1" "crc yes" "parity $parity" "crc-label $label" "fill-bus $((7 - label))" "bus 2 1553"
+    done_by compose p l -o c
+    done_by read p c -o new
+    same "crc-label $label, parity $parity" l new
+    says 0 "yes: a log of $(wc -c <l) bytes, frame times: 0" check p c
+    "${vin[@]}" dump p c --no-fill | awk '$10 == "CRC" { print $7, $8 }' | sort -u >have
+    echo "0 $label" >want
+    same "the CRC words have bus 0 and label $label" want have
+    "${vin[@]}" dump p c | awk '$10 == "fill" { print $7, $8, $9 }' | sort -u >have
+    echo "$((7 - label)) 1 AAAA" >want
+    same "fill has bus $((7 - label))" want have
+done; done
+plan "words 129" "tracks 1" "crc yes" "crc-label 5" "bus 2 1553"
+done_by compose p l -o c
+plan "words 129" "tracks 1" "crc yes" "bus 2 1553"
+word=$("${vin[@]}" dump p c --faults | sed -n 's/.*!11 expected //p' | head -n 1)
+refused "vin: c: refused by 11 at word 128 (group 0, track 1, word 129): 05${word#03}: the CRC word of the words before it in its frame is $word
+vin: c: hint: the last word of every frame is the CRC word of its frame with label 5; was the capture made with crc-label 5?" read p c -o new
+plan "words 129" "tracks 1" "bus 2 1553"
+refused "vin: c: refused by 13 at word 128 (group 0, track 1, word 129): 05${word#03}: it is on bus 0, which the plan does not use
+vin: c: hint: the last data slot of every frame holds the CRC word of its frame; was the capture made with crc yes and crc-label 5?" read p c -o new
+rm -f have want
 
 # Another plan: CRC words in data slots are accepted where bus 0 is used, and told.
 plan "words 129" "tracks 1" "crc yes" "bus 0 1553"

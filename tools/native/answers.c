@@ -2,12 +2,17 @@
  * size on x86-64; on another processor this stands between. */
 #include "../../include/vinculampe.h"
 
-#define PLAN uint32_t words, uint32_t tracks, uint32_t frame_time, uint32_t crc, uint32_t parity, const uint8_t *kinds, size_t kinds_len
+#define NUMBERS uint32_t words, uint32_t tracks, uint32_t frame_time, uint32_t crc, uint32_t parity
+#define PLAN NUMBERS, const uint8_t *kinds, size_t kinds_len
+#define FULL NUMBERS, uint32_t crc_label, uint32_t fill_bus, const uint8_t *kinds, size_t kinds_len
 #define RUN(kind, name) kind uint8_t *name, size_t name##_len
 
 void module_vin_compose(vin_answer *answer, PLAN, RUN(const, log), RUN(const, times), RUN(, out));
 void module_vin_read(vin_answer *answer, PLAN, RUN(const, capture), RUN(, log), RUN(, times));
 void module_vin_read_closed(vin_answer *answer, PLAN, RUN(const, capture), RUN(, log), RUN(, times));
+void module_vin_compose_full(vin_answer *answer, FULL, RUN(const, log), RUN(const, times), RUN(, out));
+void module_vin_read_full(vin_answer *answer, FULL, RUN(const, capture), RUN(, log), RUN(, times));
+void module_vin_read_closed_full(vin_answer *answer, FULL, RUN(const, capture), RUN(, log), RUN(, times));
 void module_vin_pick(vin_answer *answer, RUN(const, log), uint16_t buses, RUN(, out));
 void module_vin_join(vin_answer *answer, RUN(const, first), RUN(const, second), RUN(, out));
 void module_vin_shift(vin_answer *answer, RUN(const, log), int64_t microseconds, RUN(, times), RUN(, out));
@@ -15,6 +20,7 @@ void module_vin_profile(vin_answer *answer, RUN(const, log));
 void module_vin_replay(vin_replayed *answer, RUN(const, log), RUN(const, events), uint32_t capacity, uint32_t slots, RUN(, out));
 
 #define GIVEN words, tracks, frame_time, crc, parity, kinds, kinds_len
+#define ALL_GIVEN words, tracks, frame_time, crc, parity, crc_label, fill_bus, kinds, kinds_len
 
 vin_answer vin_compose(PLAN, RUN(const, log), RUN(const, times), RUN(, out))
 {
@@ -34,6 +40,27 @@ vin_answer vin_read_closed(PLAN, RUN(const, capture), RUN(, log), RUN(, times))
 {
     vin_answer answer;
     module_vin_read_closed(&answer, GIVEN, capture, capture_len, log, log_len, times, times_len);
+    return answer;
+}
+
+vin_answer vin_compose_full(FULL, RUN(const, log), RUN(const, times), RUN(, out))
+{
+    vin_answer answer;
+    module_vin_compose_full(&answer, ALL_GIVEN, log, log_len, times, times_len, out, out_len);
+    return answer;
+}
+
+vin_answer vin_read_full(FULL, RUN(const, capture), RUN(, log), RUN(, times))
+{
+    vin_answer answer;
+    module_vin_read_full(&answer, ALL_GIVEN, capture, capture_len, log, log_len, times, times_len);
+    return answer;
+}
+
+vin_answer vin_read_closed_full(FULL, RUN(const, capture), RUN(, log), RUN(, times))
+{
+    vin_answer answer;
+    module_vin_read_closed_full(&answer, ALL_GIVEN, capture, capture_len, log, log_len, times, times_len);
     return answer;
 }
 

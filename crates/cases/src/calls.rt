@@ -11,6 +11,10 @@ pub(crate) struct Numbers {
     pub(crate) frame_time: u32,
     pub(crate) crc: u32,
     pub(crate) parity: u32,
+    // K5: the functions that take the whole plan are called; else label and code are 3 and 0.
+    pub(crate) full: bool,
+    pub(crate) crc_label: u32,
+    pub(crate) fill_bus: u32,
     pub(crate) kinds: [u8; 16],
     pub(crate) kinds_len: usize,
 }
@@ -33,9 +37,21 @@ pub(crate) fn plan(words: u32, tracks: u32, frame_time: u32, crc: u32, parity: u
         frame_time: frame_time,
         crc: crc,
         parity: parity,
+        full: false,
+        crc_label: 3,
+        fill_bus: 0,
         kinds: [0; 16],
         kinds_len: 16,
     }
+}
+
+// The whole plan: with the CRC word's label and the fill bus code.
+pub(crate) fn with_label(p: Numbers, crc_label: u32, fill_bus: u32) -> Numbers {
+    let mut q = p;
+    q.full = true;
+    q.crc_label = crc_label;
+    q.fill_bus = fill_bus;
+    q
 }
 
 pub(crate) fn with_bus(p: Numbers, bus: usize, kind: u8) -> Numbers {
@@ -86,10 +102,24 @@ pub(crate) fn set_all(bytes: &mut [u8], byte: u8) {
     }
 }
 
-fn compose_run(p: Numbers, kinds: [u8; 16], log: &[u8], times: &[u8], out: &mut [u8]) -> Outcome {
-    set_all(out, 0xA5);
+fn compose_answer(p: Numbers, kinds: [u8; 16], log: &[u8], times: &[u8], out: &mut [u8]) -> Answer {
     let kinds_end = part(&kinds, p.kinds_len);
-    let answer = vinculampe::vin_compose(
+    if p.full {
+        return vinculampe::vin_compose_full(
+            p.words,
+            p.tracks,
+            p.frame_time,
+            p.crc,
+            p.parity,
+            p.crc_label,
+            p.fill_bus,
+            &kinds[..kinds_end],
+            log,
+            times,
+            out,
+        );
+    }
+    vinculampe::vin_compose(
         p.words,
         p.tracks,
         p.frame_time,
@@ -99,7 +129,12 @@ fn compose_run(p: Numbers, kinds: [u8; 16], log: &[u8], times: &[u8], out: &mut 
         log,
         times,
         out,
-    );
+    )
+}
+
+fn compose_run(p: Numbers, kinds: [u8; 16], log: &[u8], times: &[u8], out: &mut [u8]) -> Outcome {
+    set_all(out, 0xA5);
+    let answer = compose_answer(p, kinds, log, times, out);
     with_digests(answer, digest_of(out), 0)
 }
 
@@ -161,9 +196,55 @@ fn read_answer(
     )
 }
 
-fn read_run(closed: bool, p: Numbers, capture: &[u8], log: &mut [u8], times: &mut [u8]) -> Outcome {
+fn read_full_answer(
+    closed: bool,
+    p: Numbers,
+    kinds: [u8; 16],
+    capture: &[u8],
+    log: &mut [u8],
+    times: &mut [u8],
+) -> Answer {
+    let kinds_end = part(&kinds, p.kinds_len);
+    if closed {
+        return vinculampe::vin_read_closed_full(
+            p.words,
+            p.tracks,
+            p.frame_time,
+            p.crc,
+            p.parity,
+            p.crc_label,
+            p.fill_bus,
+            &kinds[..kinds_end],
+            capture,
+            log,
+            times,
+        );
+    }
+    vinculampe::vin_read_full(
+        p.words,
+        p.tracks,
+        p.frame_time,
+        p.crc,
+        p.parity,
+        p.crc_label,
+        p.fill_bus,
+        &kinds[..kinds_end],
+        capture,
+        log,
+        times,
+    )
+}
+
+fn read_by(closed: bool, p: Numbers, capture: &[u8], log: &mut [u8], times: &mut [u8]) -> Answer {
     let kinds = p.kinds;
-    let answer = read_answer(closed, p, kinds, capture, log, times);
+    if p.full {
+        return read_full_answer(closed, p, kinds, capture, log, times);
+    }
+    read_answer(closed, p, kinds, capture, log, times)
+}
+
+fn read_run(closed: bool, p: Numbers, capture: &[u8], log: &mut [u8], times: &mut [u8]) -> Outcome {
+    let answer = read_by(closed, p, capture, log, times);
     with_digests(answer, digest_of(log), digest_of(times))
 }
 

@@ -15,6 +15,19 @@ fn odd_parity(bits: u32) -> u32 {
     bits
 }
 
+fn fill_bits(p: Numbers) -> u32 {
+    p.fill_bus % 16 * 1048576 + 0x01AAAA
+}
+
+// The plan's fill.
+pub(crate) fn fill_of(p: Numbers) -> u32 {
+    let bits = fill_bits(p);
+    if p.parity == 1 {
+        return odd_parity(bits);
+    }
+    bits
+}
+
 // Often what fill, a micro or a response has.
 fn shaped(information: u32, shape: u32) -> u32
     requires { ⌜ information < 65536 ⌝ }
@@ -33,12 +46,12 @@ fn draw_bits(seed: &mut u64, p: Numbers) -> u32 {
     let information = draw(seed, 65536);
     let shape = draw(seed, 4);
     if one_in(seed, 3) {
-        return 0x01AAAA;
+        return fill_bits(p);
     }
     bus % 16 * 1048576 + label * 65536 + shaped(information, shape)
 }
 
-// A word that is often lawful on a used bus.
+// A word that is often lawful on a used bus, or the plan's fill.
 fn draw_word(seed: &mut u64, p: Numbers) -> u32 {
     let bits = draw_bits(seed, p);
     if p.parity == 1 {
@@ -47,7 +60,7 @@ fn draw_word(seed: &mut u64, p: Numbers) -> u32 {
     bits
 }
 
-// A word drawn, noise, fill, a bit turned, another word, or another label.
+// A word drawn, noise, fill on bus 0, a bit turned, another word, or another label.
 fn damaged(seed: &mut u64, p: Numbers, old: u32, other: u32) -> u32 {
     let what = draw(seed, 6);
     match what {
@@ -109,7 +122,7 @@ fn noise_word(seed: &mut u64, p: Numbers, position: u32) -> u32 {
     if position < 4 {
         return draw_word(seed, p);
     }
-    0x01AAAA
+    fill_of(p)
 }
 
 fn place_behind(from: u32, words: u32) -> u32

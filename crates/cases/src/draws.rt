@@ -5,6 +5,7 @@ use crate::calls::Numbers;
 use crate::calls::plan;
 use crate::calls::with_bus;
 use crate::calls::with_kinds_len;
+use crate::calls::with_label;
 
 // "minimal standard" generator: from 1 to 2147483646, and no product reaches 48 bits
 pub(crate) fn draw(seed: &mut u64, below: u32) -> u32
@@ -59,6 +60,18 @@ fn draw_buses(seed: &mut u64, p: Numbers, buses: u32) -> Numbers {
     q
 }
 
+// K5: a label and a fill bus code; of a third of the plans the usual ones, by the functions that take none.
+fn draw_label(seed: &mut u64, p: Numbers, buses: u32) -> Numbers
+    requires { ⌜ 0 < buses ⌝ }
+{
+    if one_in(seed, 3) {
+        return p;
+    }
+    let crc_label = draw(seed, 8);
+    let fill_bus = draw(seed, buses);
+    with_label(p, crc_label, fill_bus)
+}
+
 // A legal plan.
 pub(crate) fn draw_plan(seed: &mut u64) -> Numbers {
     let words = draw_words(seed);
@@ -66,8 +79,9 @@ pub(crate) fn draw_plan(seed: &mut u64) -> Numbers {
     let frame_time = draw(seed, 2);
     let crc = draw(seed, 2);
     let parity = draw(seed, 2);
-    let p = plan(words, tracks, frame_time, crc, parity);
+    let usual = plan(words, tracks, frame_time, crc, parity);
     let buses = 16 - 8 * parity;
+    let p = draw_label(seed, usual, buses);
     if 1 < tracks {
         return draw_one_bus(seed, p, buses);
     }
@@ -76,7 +90,7 @@ pub(crate) fn draw_plan(seed: &mut u64) -> Numbers {
 
 // Now and then a number that makes it illegal, or another legal plan.
 pub(crate) fn spoil_plan(seed: &mut u64, p: Numbers) -> Numbers {
-    let what = draw(seed, 8);
+    let what = draw(seed, 10);
     let bus = draw(seed, 16);
     let mut q = p;
     match what {
@@ -87,6 +101,8 @@ pub(crate) fn spoil_plan(seed: &mut u64, p: Numbers) -> Numbers {
         4 => q.parity = draw(seed, 4),
         5 => return with_bus(q, bus as usize, draw(seed, 5) as u8),
         6 => return with_kinds_len(q, draw(seed, 17) as usize),
+        7 => return with_label(q, draw(seed, 12), q.fill_bus),
+        8 => return with_label(q, q.crc_label, draw(seed, 20)),
         _ => return q,
     }
     q

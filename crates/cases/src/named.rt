@@ -9,6 +9,8 @@ use crate::calls::reading;
 use crate::calls::set_all;
 use crate::calls::with_kinds;
 use crate::calls::with_kinds_len;
+use crate::calls::with_label;
+use crate::captures::fill_of;
 use crate::lines::end_line;
 use crate::lines::say_checked;
 use crate::lines::say_name;
@@ -55,22 +57,22 @@ fn put_items(line: &[u8], log: &mut [u8], from: usize) -> usize {
     bit
 }
 
-fn fill_word(place: usize, words: usize) -> u32 {
+fn fill_word(fill: u32, place: usize, words: usize) -> u32 {
     if 0 < words {
         if place % words == 0 {
             return 0xFAF320;
         }
     }
-    0x01AAAA
+    fill
 }
 
-// f WORDS ALL: the capture's first words, frames of a sync word and fill
-fn put_fill(line: &[u8], capture: &mut [u8]) {
+// f WORDS ALL: the capture's first words, frames of a sync word and the plan's fill
+fn put_fill(line: &[u8], fill: u32, capture: &mut [u8]) {
     let words = size(line, 1);
     let end = size(line, 2);
     let mut place = 0;
     while place < end {
-        put_word(capture, place, fill_word(place, words));
+        put_word(capture, place, fill_word(fill, place, words));
         place += 1;
     }
 }
@@ -110,6 +112,7 @@ fn clear_log(log: &mut [u8]) -> usize {
 // Returns the bit behind the log's items.
 fn make_line(
     line: &[u8],
+    p: Numbers,
     log: &mut [u8],
     bit: usize,
     times: &mut [u8],
@@ -119,7 +122,7 @@ fn make_line(
         b'l' => return clear_log(log),
         b'i' => return put_items(line, log, bit),
         b't' => put_time(times, size(line, 1), number(line, 2)),
-        b'f' => put_fill(line, capture),
+        b'f' => put_fill(line, fill_of(p), capture),
         b'n' => put_words(line, capture),
         b'w' => put_four(line, capture),
         b'v' => turn_bits(line, capture),
@@ -169,11 +172,12 @@ fn read_both(line: &[u8], p: Numbers, capture: &[u8]) {
     say_checked(b" x", read, number(line, 6), number(line, 7));
 }
 
-// k LENGTH: the plan with only so many kinds lent
+// k LENGTH: the plan with only so many kinds lent; y LABEL BUS: the whole plan, with a label and a fill bus code
 fn plan_of(line: &[u8], p: Numbers) -> Numbers {
     match letter(line) {
         b'p' => plan_line(line),
         b'k' => with_kinds_len(p, size(line, 1)),
+        b'y' => with_label(p, small(line, 1), small(line, 2)),
         _ => p,
     }
 }
@@ -185,7 +189,7 @@ fn say_line(line: &[u8], p: Numbers, log: &[u8], times: &[u8], capture: &mut [u8
         b'c' => compose_line(line, p, log, times, capture),
         b'r' => read_both(line, p, capture),
         b'\n' => end_line(),
-        b'#' | b'p' | b'k' | b'l' | b'i' | b't' | b'f' | b'n' | b'w' | b'v' => (),
+        b'#' | b'p' | b'k' | b'y' | b'l' | b'i' | b't' | b'f' | b'n' | b'w' | b'v' => (),
         _ => say_unknown(),
     }
 }
@@ -199,9 +203,10 @@ pub(crate) fn named_cases(text: &[u8]) {
     let mut at = 0;
     while at < text.len() {
         let end = line_end(text, at);
-        bit = make_line(&text[at..end], &mut log, bit, &mut times, &mut capture);
+        let next = end + 1;
+        bit = make_line(&text[at..end], p, &mut log, bit, &mut times, &mut capture);
         p = plan_of(&text[at..end], p);
         say_line(&text[at..end], p, &log, &times, &mut capture);
-        at = end + 1;
+        at = next;
     }
 }

@@ -23,9 +23,9 @@ sums-more {ws} vs p q = record {
 }
 
 -- the CRC word after them
-pub sums-word : {ws : List ℕ} {s : Sum} (parity : Bool) (c : ℕ) → Sums ws s → c ≡ checkOfSum s → sent parity (wordOf 0 3 c) ≡ checkWord parity ws
+pub sums-word : {ws : List ℕ} {s : Sum} (parity : Bool) (label c : ℕ) → Sums ws s → c ≡ checkOfSum s → sent parity (wordOf 0 label c) ≡ checkWord parity label ws
 unfolding checkWord
-sums-word parity c p e = ap (λ (n : ℕ). sent parity (wordOf 0 3 n)) (e ∙ p .check)
+sums-word parity label c p e = ap (λ (n : ℕ). sent parity (wordOf 0 label n)) (e ∙ p .check)
 
 -- ---- with CRC or without it
 

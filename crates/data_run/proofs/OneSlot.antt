@@ -92,15 +92,15 @@ word-fits ks parity w x low sane e z =
     (fed-fits (feed ks (heldOf (x .held)) (busOf parity w) (labelOf w) (infoOf w)) (wordStep ks parity w x) (word-means ks parity w x low sane)) z
 
 -- fill, as the code has it
-pub word-fill : (ks : List Kind) (parity : Bool) (i number word : ℕ) (x : Pass) {bus : ℕ} {odd : Bool} {f : Fills} → isFill word ≡ true → bus ≡ busOf parity word
-    → odd ≡ oddFill i bus → f ≡ onFill (x .fills) number odd
-    → record { held = x .held; since = x .since; pen = x .pen; fills = f; bad = false } ≡ wordPass ks parity i number word x
+pub word-fill : (ks : List Kind) (parity : Bool) (code i number word : ℕ) (x : Pass) {bus : ℕ} {odd : Bool} {f : Fills} → isFill word ≡ true → bus ≡ busOf parity word
+    → odd ≡ oddFill code i bus → f ≡ onFill (x .fills) number odd
+    → record { held = x .held; since = x .since; pen = x .pen; fills = f; bad = false } ≡ wordPass ks parity code i number word x
 unfolding wordPass
-word-fill ks parity i number word x e b o f = rw (e, f, o, b) refl
+word-fill ks parity code i number word x e b o f = rw (e, f, o, b) refl
 
 -- ---- one word of a row
 
-module _ (ks : List Kind) (parity : Bool) (slots : List Slot) (x₀ : Pass) (out₀ : List ℕ) (i : ℕ) (s : Slot) (rest : List Slot) (x : Pass) (out : List ℕ) where
+module _ (ks : List Kind) (parity : Bool) (code : ℕ) (slots : List Slot) (x₀ : Pass) (out₀ : List ℕ) (i : ℕ) (s : Slot) (rest : List Slot) (x : Pass) (out : List ℕ) where
   abbrev now-run : Ran
   now-run = run ks parity (s ∷ rest) (heldOf (x .held)) (x .since)
 
@@ -113,8 +113,8 @@ module _ (ks : List Kind) (parity : Bool) (slots : List Slot) (x₀ : Pass) (out
   unfolding run
   run-data f e g = rw (e, g) refl
 
-  along-fill : isFill (s .1) ≡ true → Along ks parity slots x₀ out₀ i (s ∷ rest) x out
-      → Along ks parity slots x₀ out₀ (i + 1) rest (fillPass parity i (s .0) (s .1) x) out
+  along-fill : isFill (s .1) ≡ true → Along ks parity code slots x₀ out₀ i (s ∷ rest) x out
+      → Along ks parity code slots x₀ out₀ (i + 1) rest (fillPass parity code i (s .0) (s .1) x) out
   unfolding fillsIn
   along-fill e a = record {
     items = a .items;
@@ -129,8 +129,8 @@ module _ (ks : List Kind) (parity : Bool) (slots : List Slot) (x₀ : Pass) (out
   }
 
   along-fed : (f : Fed) → isFill (s .1) ≡ false → feed ks (heldOf (x .held)) (busOf parity (s .1)) (labelOf (s .1)) (infoOf (s .1)) ≡ f → (r : Step) → Means f r
-      → r .bad ≡ false → Along ks parity slots x₀ out₀ i (s ∷ rest) x out
-      → Along ks parity slots x₀ out₀ (i + 1) rest (stepPass (s .0) x r) (stepOut out (x .pen) r)
+      → r .bad ≡ false → Along ks parity code slots x₀ out₀ i (s ∷ rest) x out
+      → Along ks parity code slots x₀ out₀ (i + 1) rest (stepPass (s .0) x r) (stepOut out (x .pen) r)
   unfolding fillsIn
   along-fed bad e g r m z a = clash (sym z ∙ m)
   along-fed (fed is h) e g r m z a =
@@ -152,15 +152,15 @@ module _ (ks : List Kind) (parity : Bool) (slots : List Slot) (x₀ : Pass) (out
       })
 
   along-bad : (f : Fed) → isFill (s .1) ≡ false → feed ks (heldOf (x .held)) (busOf parity (s .1)) (labelOf (s .1)) (infoOf (s .1)) ≡ f → (r : Step) → Means f r
-      → r .bad ≡ true → Along ks parity slots x₀ out₀ i (s ∷ rest) x out
+      → r .bad ≡ true → Along ks parity code slots x₀ out₀ i (s ∷ rest) x out
       → run ks parity slots (heldOf (x₀ .held)) (x₀ .since) ≡ badAt (s .0)
   along-bad bad e g r m z a = a .is ∙ ap (more (a .items)) (run-data bad e g)
   along-bad (fed is h) e g r m z a = clash (sym (m .good) ∙ z)
 
   -- what the slot does, as the code has it
-  pub along-step : s .1 < 2 ^ 24 → Along ks parity slots x₀ out₀ i (s ∷ rest) x out
-      → wordPass ks parity i (s .0) (s .1) x .bad ≡ false
-      → Along ks parity slots x₀ out₀ (i + 1) rest (wordPass ks parity i (s .0) (s .1) x) (wordOut ks parity (s .1) x out)
+  pub along-step : s .1 < 2 ^ 24 → Along ks parity code slots x₀ out₀ i (s ∷ rest) x out
+      → wordPass ks parity code i (s .0) (s .1) x .bad ≡ false
+      → Along ks parity code slots x₀ out₀ (i + 1) rest (wordPass ks parity code i (s .0) (s .1) x) (wordOut ks parity (s .1) x out)
   unfolding wordPass wordOut
   along-step low a z =
       yes-or-no (isFill (s .1)) (λ e. rw e (along-fill e a))
@@ -170,8 +170,8 @@ module _ (ks : List Kind) (parity : Bool) (slots : List Slot) (x₀ : Pass) (out
       yes-or-no (r .bad) (λ b. clash (sym (rw b at y)))
       (λ b. rw e (rw b (rw b at (along-fed _ e refl r (word-means ks parity (s .1) x low (a .brought .sound .sane)) b a)))))
 
-  pub along-stop : s .1 < 2 ^ 24 → Along ks parity slots x₀ out₀ i (s ∷ rest) x out → wordPass ks parity i (s .0) (s .1) x .bad ≡ true
-      → (run ks parity slots (heldOf (x₀ .held)) (x₀ .since) ≡ badAt (s .0)) × (wordPass ks parity i (s .0) (s .1) x .since ≡ s .0)
+  pub along-stop : s .1 < 2 ^ 24 → Along ks parity code slots x₀ out₀ i (s ∷ rest) x out → wordPass ks parity code i (s .0) (s .1) x .bad ≡ true
+      → (run ks parity slots (heldOf (x₀ .held)) (x₀ .since) ≡ badAt (s .0)) × (wordPass ks parity code i (s .0) (s .1) x .since ≡ s .0)
   unfolding wordPass
   along-stop low a z =
       yes-or-no (isFill (s .1)) (λ e. clash (rw e at z))

@@ -24,9 +24,9 @@ use Rattle.data_run.specs.Fills.{oddFill, onFill, onData, fillsIn, quiet
 use Rattle.log_write.specs.Pen.{penPut, penIn, Wrote}
 
 -- fill is looked at and dropped
-abbrev pub fillPass : Bool → ℕ → ℕ → ℕ → Pass → Pass
-fillPass parity i number word x =
-    record { held = x .held; since = x .since; pen = x .pen; fills = onFill (x .fills) number (oddFill i (busOf parity word)); bad = false }
+abbrev pub fillPass : Bool → ℕ → ℕ → ℕ → ℕ → Pass → Pass
+fillPass parity code i number word x =
+    record { held = x .held; since = x .since; pen = x .pen; fills = onFill (x .fills) number (oddFill code i (busOf parity word)); bad = false }
 
 -- a step's two strings go to the log
 abbrev pub stepPen : Pen → Step → Pen
@@ -55,19 +55,19 @@ unfoldable pub wordStep : List Kind → Bool → ℕ → Pass → Step
 wordStep ks parity word x = stepOf (heldOf (x .held)) (feed ks (heldOf (x .held)) (busOf parity word) (labelOf word) (infoOf word))
 
 -- the word i of its row
-unfoldable pub wordPass : List Kind → Bool → ℕ → ℕ → ℕ → Pass → Pass
-wordPass ks parity i number word x = cond (isFill word) (fillPass parity i number word x) (stepPass number x (wordStep ks parity word x))
+unfoldable pub wordPass : List Kind → Bool → ℕ → ℕ → ℕ → ℕ → Pass → Pass
+wordPass ks parity code i number word x = cond (isFill word) (fillPass parity code i number word x) (stepPass number x (wordStep ks parity word x))
 
 unfoldable pub wordOut : List Kind → Bool → ℕ → Pass → List ℕ → List ℕ
 wordOut ks parity word x out =
     cond (isFill word) out (passOut out x (wordStep ks parity word x))
 
 -- from the word i on, up to the word r, there is only fill that changes nothing, and there it ends
-pub record PastFill (row : List ℕ) (f : Fills) (i r : ℕ) : Type 0 where
+pub record PastFill (blank : ℕ) (row : List ℕ) (f : Fills) (i r : ℕ) : Type 0 where
   pub onward : i ≤ r
   pub room : r ≤ length row
-  pub quiets : (k : ℕ) → i ≤ k → k < r → quiet f k (getD row k 0) ≡ true
-  pub ends : r < length row → quiet f r (getD row r 0) ≡ false
+  pub quiets : (k : ℕ) → i ≤ k → k < r → quiet blank f k (getD row k 0) ≡ true
+  pub ends : r < length row → quiet blank f r (getD row r 0) ≡ false
 
 -- the lesser of two
 abbrev pub leastOf : ℕ → ℕ → ℕ
@@ -113,10 +113,10 @@ pub ran-held-one : (x₀ : Pass) (out₀ : List ℕ) (is : List Item) (h : Held)
 ran-held-one x₀ out₀ is h place f x x′ out out′ a b =
     (a .0 .sound .sane .is ∙ ap flat (a .1 ∙ sym (b .1)) ∙ sym (b .0 .sound .sane .is), a .3 ∙ sym (b .3))
 
--- within the row: i words were passed, and `rest` are to come
-pub record Along (ks : List Kind) (parity : Bool) (slots : List Slot) (x₀ : Pass) (out₀ : List ℕ) (i : ℕ) (rest : List Slot) (x : Pass) (out : List ℕ) : Type 0 where
+-- within the row: i words were passed, and `rest` are to come; the plan's fill is on the bus `code`
+pub record Along (ks : List Kind) (parity : Bool) (code : ℕ) (slots : List Slot) (x₀ : Pass) (out₀ : List ℕ) (i : ℕ) (rest : List Slot) (x : Pass) (out : List ℕ) : Type 0 where
   pub items : List Item
   pub is : run ks parity slots (heldOf (x₀ .held)) (x₀ .since) ≡ more items (run ks parity rest (heldOf (x .held)) (x .since))
-  pub fill : fillsIn parity 0 slots (x₀ .fills) ≡ fillsIn parity i rest (x .fills)
+  pub fill : fillsIn parity code 0 slots (x₀ .fills) ≡ fillsIn parity code i rest (x .fills)
   pub brought : Brought x₀ out₀ items x out
   pub few : x .pen .bits ≤ x₀ .pen .bits + 128 * i

@@ -44,9 +44,9 @@ pub(crate) fn on_data(fills: Fills) -> Fills
     }
 }
 
-// Whether fill is misplaced whatever follows it.
-pub(crate) fn is_odd_fill(i: usize, bus: u32) -> bool
-    ensures { λ r. ⌜ r ≡ oddFill i bus ⌝ }
+// Whether fill is misplaced whatever follows it: the plan's fill is on the bus `code`.
+pub(crate) fn is_odd_fill(code: u32, i: usize, bus: u32) -> bool
+    ensures { λ r. ⌜ r ≡ oddFill code i bus ⌝ }
 {
-    i == 0 || bus != 0
+    i == 0 || bus != code
 }

@@ -5,7 +5,8 @@ ghost use mathlib.Core.Path.{_≡_};
 ghost use mathlib.Core.Bool.{false, true};
 ghost use Prim.Native.Nat.{_+_, _*_, _≤_, _<_, _^_};
 ghost use lib.ListN.{length, getD};
-ghost use Rattle.format.specs.Word.{fill};
+ghost use Rattle.format.specs.Lawful.{buses};
+ghost use Rattle.format.specs.Word.{fill, sent};
 ghost use Rattle.format.specs.Reader.{counted, run};
 ghost use Rattle.data_word.specs.Holding.{heldOf, Sane};
 ghost use Rattle.data_items.specs.Row.{Words};
@@ -74,19 +75,20 @@ fn on_word(
     pass: Pass,
     kinds: [Kind; 16],
     parity: bool,
+    code: u32,
     i: usize,
     number: u64,
     word: u32,
     out: &mut [u8],
 ) -> Pass
     requires { ⌜ Sound pass × (pass .pen .bits < 2 ^ 60) × (number < 2 ^ 40) × (word < 2 ^ 24) ⌝ }
-    ensures { λ r. ⌜ (r ≡ wordPass kinds parity i number word pass) × (now (out .exit) ≡ wordOut kinds parity word pass (now (out .entry))) ⌝ }
+    ensures { λ r. ⌜ (r ≡ wordPass kinds parity code i number word pass) × (now (out .exit) ≡ wordOut kinds parity word pass (now (out .entry))) ⌝ }
 {
     let bus = word::bus_of(parity, word);
     let held = pass.held;
     if word::is_fill(word) {
         let pen = pass.pen;
-        let fills = on_fill(pass.fills, number, is_odd_fill(i, bus));
+        let fills = on_fill(pass.fills, number, is_odd_fill(code, i, bus));
         return Pass {
             held: held,
             since: pass.since,
@@ -105,28 +107,28 @@ fn on_word(
     on_step(pass, number, step, out)
 }
 
-// Four words of fill on bus 0.
-fn are_fill(one: u32, two: u32, three: u32, four: u32) -> bool
-    ensures { λ r. ⌜ r ≡ allFill one two three four ⌝ }
+// Four words of the plan's fill.
+fn are_fill(blank: u32, one: u32, two: u32, three: u32, four: u32) -> bool
+    ensures { λ r. ⌜ r ≡ allFill blank one two three four ⌝ }
 {
-    let fill = word::fill();
-    if one != fill {
+    if one != blank {
         return false;
     }
-    if two != fill {
+    if two != blank {
         return false;
     }
-    if three != fill {
+    if three != blank {
         return false;
     }
-    four == fill
+    four == blank
 }
 
-// The word i, or the first one behind it that is other than fill that changes nothing: fill on bus 0, not the first of all, nor
-// the first word of its row.
-fn past_fill(fills: Fills, row: &[u32], i: usize) -> usize
-    requires { ⌜ (i ≤ length (now row)) × (length (now row) < 2 ^ 40) ⌝ }
-    ensures { λ r. ⌜ PastFill (now (row .entry)) fills i r ⌝ }
+// The word i, or the first one behind it that is other than fill that changes nothing: the plan's own, as it is sent, not the first
+// of all, nor the first word of its row. What that is as it is sent is worked out where it is needed, once or twice a row: carried
+// through the loop over the row it slows the reading of items down.
+fn past_fill(parity: bool, code: u32, fills: Fills, row: &[u32], i: usize) -> usize
+    requires { ⌜ (i ≤ length (now row)) × (length (now row) < 2 ^ 40) × (code < buses parity) ⌝ }
+    ensures { λ r. ⌜ PastFill (sent parity (fill code)) (now (row .entry)) fills i r ⌝ }
 {
     let mut slot = i;
     if fills.first == 0 {
@@ -135,15 +137,22 @@ fn past_fill(fills: Fills, row: &[u32], i: usize) -> usize
     if slot == 0 {
         return slot;
     }
+    let blank = word::fill(parity, code);
     while slot + 4 <= row.len() {
-        if are_fill(row[slot], row[slot + 1], row[slot + 2], row[slot + 3]) {
+        if are_fill(
+            blank,
+            row[slot],
+            row[slot + 1],
+            row[slot + 2],
+            row[slot + 3],
+        ) {
             slot += 4;
         } else {
             break;
         }
     }
     while slot < row.len() {
-        if row[slot] != word::fill() {
+        if row[slot] != blank {
             break;
         }
         slot += 1;
@@ -196,23 +205,24 @@ fn on_items(pass: Pass, taken: Taken, from: u64) -> Pass
     }
 }
 
-// A row of data words, the first of them the number `from`, up to a bad word.
+// A row of data words, the first of them the number `from`, up to a bad word; the plan's fill is on the bus `code`.
 pub fn on_row(
     pass: Pass,
     kinds: [Kind; 16],
     parity: bool,
+    code: u32,
     row: &[u32],
     from: u64,
     out: &mut [u8],
 ) -> Pass
-    requires { ⌜ Sound pass × Words (now row) × (pass .pen .bits ≤ 128 * from) × (from + length (now row) < 2 ^ 40) ⌝ }
-    ensures { λ r. ⌜ RanTo pass (now (out .entry)) (run kinds parity (counted from (now (row .entry))) (heldOf (pass .held)) (pass .since)) (fillsIn parity 0 (counted from (now (row .entry))) (pass .fills)) r (now (out .exit)) ⌝ }
+    requires { ⌜ Sound pass × Words (now row) × (pass .pen .bits ≤ 128 * from) × (from + length (now row) < 2 ^ 40) × (code < buses parity) ⌝ }
+    ensures { λ r. ⌜ RanTo pass (now (out .entry)) (run kinds parity (counted from (now (row .entry))) (heldOf (pass .held)) (pass .since)) (fillsIn parity code 0 (counted from (now (row .entry))) (pass .fills)) r (now (out .exit)) ⌝ }
     ensures { λ r. ⌜ (r .bad ≡ false → r .pen .bits ≤ 128 * (from + length (now (row .entry)))) ⌝ }
 {
     let mut pass = pass;
     let mut i: usize = 0;
     while i < row.len() {
-        let past = past_fill(pass.fills, row, i);
+        let past = past_fill(parity, code, pass.fills, row, i);
         if i < past {
             i = past;
             continue;
@@ -223,7 +233,7 @@ pub fn on_row(
             i = taken.slot;
             continue;
         }
-        pass = on_word(pass, kinds, parity, i, from + i as u64, row[i], out);
+        pass = on_word(pass, kinds, parity, code, i, from + i as u64, row[i], out);
         if pass.bad {
             return pass;
         }

@@ -13,6 +13,7 @@ pub mod Group
 pub mod Notices
 pub mod Compose
 pub mod Read
+pub mod Before
 pub mod Answer
 pub mod Listing
 pub mod Cases

@@ -2,28 +2,40 @@
 use Prim.Native.Nat.{ℕ, zero, suc, _+_, _<_, _≤_}
 use native.Mathlib.Numerals.{add-one}
 use native.Mathlib.Omega.{arith}
-use mathlib.Core.Bool.{true, false}
+use mathlib.Core.Bool.{Bool, true, false, _&&_}
 use mathlib.Core.Path.{_≡_, refl, sym, ap, _∙_}
 use mathlib.Core.List.{List, [], _∷_}
 use lib.ListN.{length, drop, getD}
-use borrow.Author.Tests.{le-leb, lt-leb}
+use lib.Dec.{leb}
 use Rattle.from_c.specs.Numbers.{areKinds}
 
-pub kinds-end : (s : List ℕ) (i : ℕ) → length s ≤ i → areKinds (drop i s) ≡ true
+kinds-end : (s : List ℕ) (i : ℕ) → length s ≤ i → areKinds (drop i s) ≡ true
 unfolding areKinds
 kinds-end [] zero h = refl
 kinds-end [] (suc i) h = refl
 kinds-end (n ∷ s) zero h = absurd (omega arith)
 kinds-end (n ∷ s) (suc i) h = kinds-end s i (omega arith)
 
-pub kind-bad : (s : List ℕ) (i : ℕ) → i < length s → 2 < getD s i 0 → areKinds (drop i s) ≡ false
+kind-next : (s : List ℕ) (i : ℕ) → i < length s → areKinds (drop i s) ≡ (leb (getD s i 0) 2 && areKinds (drop (i + 1) s))
 unfolding areKinds
-kind-bad [] i h k = absurd (omega arith)
-kind-bad (n ∷ s) zero h k = rw (lt-leb n 2 k)
-kind-bad (n ∷ s) (suc i) h k = kind-bad s i (omega arith) k
+kind-next [] i h = absurd (omega arith)
+kind-next (n ∷ s) zero h = refl
+kind-next (n ∷ s) (suc i) h =
+    kind-next s i (omega arith) ∙ ap (λ (m : ℕ). leb (getD s i 0) 2 && areKinds (drop m s)) (add-one i)
+    ∙ sym (ap (λ (m : ℕ). leb (getD s i 0) 2 && areKinds (drop m (n ∷ s))) (add-one (suc i)))
 
-pub kind-good : (s : List ℕ) (i : ℕ) → i < length s → getD s i 0 ≤ 2 → areKinds (drop i s) ≡ areKinds (drop (i + 1) s)
-unfolding areKinds
-kind-good [] i h k = absurd (omega arith)
-kind-good (n ∷ s) zero h k = rw (le-leb n 2 k)
-kind-good (n ∷ s) (suc i) h k = kind-good s i (omega arith) k ∙ ap (λ (m : ℕ). areKinds (drop m s)) (add-one i) ∙ sym (ap (λ (m : ℕ). areKinds (drop m (n ∷ s))) (add-one (suc i)))
+and-and : (a b d : Bool) → (a && (b && d)) ≡ ((a && b) && d)
+and-and true b d = refl
+and-and false b d = refl
+
+-- the kinds so far, and then those to come
+pub kinds-so-far : (s : List ℕ) (i : ℕ) (good : Bool) {now : Bool} → i < length s → areKinds s ≡ (good && areKinds (drop i s)) → now ≡ (good && leb (getD s i 0) 2)
+    → areKinds s ≡ (now && areKinds (drop (i + 1) s))
+kinds-so-far s i good h e n = e ∙ ap (λ (b : Bool). good && b) (kind-next s i h) ∙ and-and good (leb (getD s i 0) 2) (areKinds (drop (i + 1) s)) ∙ sym (ap (λ (b : Bool). b && areKinds (drop (i + 1) s)) n)
+
+pub kinds-all : (s : List ℕ) (i : ℕ) (good : Bool) → length s ≤ i → areKinds s ≡ (good && areKinds (drop i s)) → good ≡ areKinds s
+kinds-all s i good h e = sym (e ∙ ap (λ (b : Bool). good && b) (kinds-end s i h) ∙ and-true′ good)
+  where
+    and-true′ : (b : Bool) → (b && true) ≡ b
+    and-true′ true = refl
+    and-true′ false = refl

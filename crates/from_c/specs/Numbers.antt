@@ -25,8 +25,17 @@ isChoice n = leb n 1
 abbrev pub named : ℕ → ℕ → ℕ → List ℕ → Bool
 named time crc parity kinds = isChoice time && (isChoice crc && (isChoice parity && (eqb (length kinds) 16 && areKinds kinds)))
 
-abbrev pub planFrom : ℕ → ℕ → ℕ → ℕ → ℕ → Plan
-planFrom words tracks time crc parity = record { words = words; tracks = tracks; «frame_time» = eqb time 1; crc = eqb crc 1; parity = eqb parity 1 }
+-- seven numbers: frame length, tracks, the three choices, "the CRC word's label .. and the fill bus code" (document 02, K5)
+abbrev pub planFrom : ℕ → ℕ → ℕ → ℕ → ℕ → ℕ → ℕ → Plan
+planFrom words tracks time crc parity label code = record {
+  words = words;
+  tracks = tracks;
+  «frame_time» = eqb time 1;
+  crc = eqb crc 1;
+  parity = eqb parity 1;
+  «crc_label» = label;
+  «fill_bus» = code;
+}
 
 -- the number that the four bytes from `at` on say, most significant first
 unfoldable pub halfAt : List ℕ → ℕ → ℕ

@@ -1,5 +1,6 @@
 // A plan, kinds and times from numbers and bytes, and times as bytes (document 01, "Programs").
 
+ghost use mathlib.Core.Bool.{_&&_};
 ghost use mathlib.Core.Path.{_≡_};
 ghost use mathlib.Core.List.{_++_, flatMap, map};
 ghost use Prim.Native.Nat.{_+_, _*_, _<_, _≤_};
@@ -10,17 +11,23 @@ use format::Answer;
 use format::Kind;
 use format::Plan;
 
+fn both(a: bool, b: bool) -> bool
+    ensures { λ r. ⌜ r ≡ (a && b) ⌝ }
+{
+    if a { b } else { false }
+}
+
+// All are looked at, whatever the first ones are: sixteen at once are faster than one by one.
 fn are_kinds(kinds: &[u8]) -> bool
     ensures { λ r. ⌜ r ≡ areKinds (now (kinds .entry)) ⌝ }
 {
+    let mut good = true;
     let mut bus = 0;
     while bus < kinds.len() {
-        if 2 < kinds[bus] {
-            return false;
-        }
+        good = both(good, kinds[bus] <= 2);
         bus += 1;
     }
-    true
+    good
 }
 
 // Whether every choice and every one of sixteen kinds is named.
@@ -65,8 +72,17 @@ pub fn kinds_from(numbers: &[u8]) -> [Kind; 16]
     kinds
 }
 
-pub fn plan_from(words: u32, tracks: u32, frame_time: u32, crc: u32, parity: u32) -> Plan
-    ensures { λ r. ⌜ r ≡ planFrom words tracks «frame_time» crc parity ⌝ }
+// A label or a code that is none makes a plan that is not legal.
+pub fn plan_from(
+    words: u32,
+    tracks: u32,
+    frame_time: u32,
+    crc: u32,
+    parity: u32,
+    crc_label: u32,
+    fill_bus: u32,
+) -> Plan
+    ensures { λ r. ⌜ r ≡ planFrom words tracks «frame_time» crc parity «crc_label» «fill_bus» ⌝ }
 {
     Plan {
         words: words as usize,
@@ -74,6 +90,8 @@ pub fn plan_from(words: u32, tracks: u32, frame_time: u32, crc: u32, parity: u32
         frame_time: frame_time == 1,
         crc: crc == 1,
         parity: parity == 1,
+        crc_label,
+        fill_bus,
     }
 }
 

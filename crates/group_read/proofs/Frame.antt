@@ -37,9 +37,9 @@ earlier-none : (odd : Bool) → earlierNumber (numberUnless odd 10) 0 ≡ number
 earlier-none true = refl
 earlier-none false = refl
 
-not-due : (parity due : Bool) (r w : ℕ) → due ≡ false → wordNumber parity due r w ≡ numberUnless (not parity || isOdd w) 10
+not-due : (parity due : Bool) (label r w : ℕ) → due ≡ false → wordNumber parity due label r w ≡ numberUnless (not parity || isOdd w) 10
 unfolding wordNumber
-not-due parity due r w e = rw e (earlier-none (not parity || isOdd w))
+not-due parity due label r w e = rw e (earlier-none (not parity || isOdd w))
 
 no-check-word : (crc : Bool) (p : Plan) (j : ℕ) → p .crc ≡ crc → Shape p → j ≤ rows p → (p .crc && eqb (j + 1) (p .words)) ≡ false
 no-check-word true p j e h l = rw (e, ne-eqb (j + 1) (p .words) (λ z. omega (arith, rows-checked p h e)))
@@ -47,8 +47,8 @@ no-check-word false p j e h l = rw e
 
 -- "10 for any other": a dealt word's number
 dealt-number : (p : Plan) (j r w : ℕ) {number : ℕ} → Shape p → j ≤ rows p → number ≡ numberUnless (not (p .parity) || isOdd w) 10
-    → number ≡ wordNumber (p .parity) (p .crc && eqb (j + 1) (p .words)) r w
-dealt-number p j r w h l e = e ∙ sym (not-due (p .parity) (p .crc && eqb (j + 1) (p .words)) r w (no-check-word (p .crc) p j refl h l))
+    → number ≡ wordNumber (p .parity) (p .crc && eqb (j + 1) (p .words)) (p .«crc_label») r w
+dealt-number p j r w h l e = e ∙ sym (not-due (p .parity) (p .crc && eqb (j + 1) (p .words)) (p .«crc_label») r w (no-check-word (p .crc) p j refl h l))
 
 second-even : (parity a b : Bool) → (not parity || a && b) ≡ false → (not parity || a) ≡ true → (not parity || b) ≡ false
 second-even true true b e o = e
@@ -87,7 +87,7 @@ module _ (p : Plan) (g : List ℕ) (t : ℕ) (h : Shape p) (l : t < p .tracks) w
     }
 
   module _ (j check word number : ℕ) (low : 1 ≤ j) (i : j < p .words) (e : check ≡ checkSoFar (p .crc) g (t * p .words) j)
-      (z : word ≡ wordAt g (t * p .words + j)) (s : number ≡ wordNumber (p .parity) (p .crc && eqb (j + 1) (p .words)) check word) where
+      (z : word ≡ wordAt g (t * p .words + j)) (s : number ≡ wordNumber (p .parity) (p .crc && eqb (j + 1) (p .words)) (p .«crc_label») check word) where
     check-here : check ≡ checkSoFar (p .crc) g (0 + t * p .words) j
     check-here = e ∙ ap (λ (n : ℕ). checkSoFar (p .crc) g n j) (sym from-0)
 
@@ -190,16 +190,16 @@ module _ (p : Plan) (g : List ℕ) (h : Shape p) {t j slot : ℕ} {s : Sum} (a :
 
 -- ---- the frame's last word
 
-last-with : (parity crc : Bool) (r w : ℕ) → crc ≡ true → lastNumber parity crc r w ≡ wordNumber parity (true && true) r w
+last-with : (parity crc : Bool) (label r w : ℕ) → crc ≡ true → lastNumber parity crc label r w ≡ wordNumber parity (true && true) label r w
 unfolding lastNumber
-last-with parity crc r w e = rw e
+last-with parity crc label r w e = rw e
 
-last-without : (parity crc : Bool) (r w : ℕ) → crc ≡ false → lastNumber parity crc r w ≡ 0
+last-without : (parity crc : Bool) (label r w : ℕ) → crc ≡ false → lastNumber parity crc label r w ≡ 0
 unfolding lastNumber
-last-without parity crc r w e = rw e
+last-without parity crc label r w e = rw e
 
 module _ (p : Plan) (g : List ℕ) (h : Shape p) {t j slot : ℕ} {s : Sum} (a : Inside p g t j slot s) (z : j ≡ rows p + 1)
-    {number : ℕ} (e : number ≡ lastNumber (p .parity) (p .crc) (checkOfSum s) (wordAt g (t * p .words + (p .words - 1)))) where
+    {number : ℕ} (e : number ≡ lastNumber (p .parity) (p .crc) (p .«crc_label») (checkOfSum s) (wordAt g (t * p .words + (p .words - 1)))) where
   abbrev last : ℕ
   last = t * p .words + (p .words - 1)
 
@@ -210,8 +210,8 @@ module _ (p : Plan) (g : List ℕ) (h : Shape p) {t j slot : ℕ} {s : Sum} (a :
     place-is : last ≡ t * p .words + j
     place-is = let y : p .words - 1 ≡ j = omega (arith, at-end) in ap (λ (n : ℕ). t * p .words + n) y
 
-    number-is : number ≡ wordNumber (p .parity) (p .crc && eqb (j + 1) (p .words)) (checkOfSum s) (wordAt g last)
-    number-is = e ∙ last-with (p .parity) (p .crc) (checkOfSum s) (wordAt g last) c ∙ rw (c, eq-eqb (j + 1) (p .words) at-end) refl
+    number-is : number ≡ wordNumber (p .parity) (p .crc && eqb (j + 1) (p .words)) (p .«crc_label») (checkOfSum s) (wordAt g last)
+    number-is = e ∙ last-with (p .parity) (p .crc) (p .«crc_label») (checkOfSum s) (wordAt g last) c ∙ rw (c, eq-eqb (j + 1) (p .words) at-end) refl
 
     last-good : number ≡ 0 → restOfTrack p g 0 t j ≡ restOfTracks p g 0 (t + 1)
     last-good n =
@@ -235,7 +235,7 @@ module _ (p : Plan) (g : List ℕ) (h : Shape p) {t j slot : ℕ} {s : Sum} (a :
     where
       go : (crc : Bool) → p .crc ≡ crc → restOfTrack p g 0 t j ≡ found number last
       go true c = last-bad c n
-      go false c = absurd (n (e ∙ last-without (p .parity) (p .crc) (checkOfSum s) (wordAt g last) c))
+      go false c = absurd (n (e ∙ last-without (p .parity) (p .crc) (p .«crc_label») (checkOfSum s) (wordAt g last) c))
 
 -- ---- the track's dealt words are over: they have no fault, and stand in the row
 

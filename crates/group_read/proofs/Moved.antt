@@ -73,7 +73,7 @@ module _ (p : Plan) (c g : List ℕ) (at : ℕ) (same : (i : ℕ) → i < groupW
       list-same (wordAt c) (wordAt g) (suc j) (at + first) (0 + first) (λ i k. word-same (0 + first + i) (at + first + i) (omega arith) (omega arith)) in
       rw (x, l)
       (moved-or at (moved-unless at (not (p .parity) || isOdd w) 10 (0 + first + suc j) (at + first + suc j) e)
-      (moved-if at (p .crc && eqb (suc (suc j)) (p .words)) (moved-unless at (eqb w (checkWord (p .parity) (list (wordAt g) (0 + first) (suc j)))) 11 (0 + first + suc j) (at + first + suc j) e)))
+      (moved-if at (p .crc && eqb (suc (suc j)) (p .words)) (moved-unless at (eqb w (checkWord (p .parity) (p .«crc_label») (list (wordAt g) (0 + first) (suc j)))) 11 (0 + first + suc j) (at + first + suc j) e)))
 
   tracks-moved : (n t : ℕ) → t + n ≤ p .tracks
       → Moves at (firstOf (flatMap (λ (u : ℕ). list (faultAt p c (at + u * p .words)) 0 (p .words)) (list (λ u. u) t n)))

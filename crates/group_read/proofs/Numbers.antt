@@ -42,7 +42,7 @@ module _ (p : Plan) (g : List ℕ) (m : ℕ) where
   within-at at (suc j) h =
       let w : ℕ = wordAt g (at + suc j) in
       let odd : Bool = not (p .parity) || isOdd w in
-      let right : Bool = eqb w (checkWord (p .parity) (list (wordAt g) at (suc j))) in
+      let right : Bool = eqb w (checkWord (p .parity) (p .«crc_label») (list (wordAt g) at (suc j))) in
       let due : Bool = p .crc && eqb (suc (suc j)) (p .words) in
       within-or m (unless odd 10 (at + suc j)) (cond due (unless right 11 (at + suc j)) none) (within-unless m odd 10 (at + suc j) (omega arith) h)
       (within-if m due (unless right 11 (at + suc j)) (within-unless m right 11 (at + suc j) (omega arith) h))

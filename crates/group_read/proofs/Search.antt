@@ -54,7 +54,7 @@ due-only false last f r = refl
 
 module _ (p : Plan) (c : List ℕ) (first : ℕ) where
   fault-number : (j : ℕ) → 1 ≤ j
-      → faultAt p c first j ≡ numbered (wordNumber (p .parity) (p .crc && eqb (j + 1) (p .words)) (checkSoFar (p .crc) c first j) (wordAt c (first + j))) (first + j)
+      → faultAt p c first j ≡ numbered (wordNumber (p .parity) (p .crc && eqb (j + 1) (p .words)) (p .«crc_label») (checkSoFar (p .crc) c first j) (wordAt c (first + j))) (first + j)
   unfolding faultAt wordNumber checkWord
   fault-number zero h = absurd (omega arith)
   fault-number (suc j) h =
@@ -62,8 +62,8 @@ module _ (p : Plan) (c : List ℕ) (first : ℕ) where
       let last : Bool = eqb (suc (suc j)) (p .words) in
       let r : ℕ = checkOf (list (wordAt c) first (suc j)) in
       rw (add-one (suc j))
-      (ap (orElse (unless (not (p .parity) || isOdd w) 10 (first + suc j))) (due-only (p .crc) last (λ (x : ℕ). unless (eqb w (sent (p .parity) (wordOf 0 3 x))) 11 (first + suc j)) r)
-      ∙ two-tests (not (p .parity) || isOdd w) (p .crc && last) (eqb w (sent (p .parity) (wordOf 0 3 (cond (p .crc) r 0)))) (first + suc j))
+      (ap (orElse (unless (not (p .parity) || isOdd w) 10 (first + suc j))) (due-only (p .crc) last (λ (x : ℕ). unless (eqb w (sent (p .parity) (wordOf 0 (p .«crc_label») x))) 11 (first + suc j)) r)
+      ∙ two-tests (not (p .parity) || isOdd w) (p .crc && last) (eqb w (sent (p .parity) (wordOf 0 (p .«crc_label») (cond (p .crc) r 0)))) (first + suc j))
 
   fault-sync : faultAt p c first 0 ≡ unless (eqb (wordAt c first) sync) 9 first
   unfolding faultAt
@@ -97,9 +97,9 @@ check-of-sync crc c first e h =
     let z : first ≡ first + 0 = omega arith in
     check-of-more crc c first 0 (e ∙ ap (wordAt c) z) (sym (check-starts crc c first)) h
 
-pub check-word-low : (r : ℕ) → r < 2 ^ 16 → wordOf 0 3 r < 2 ^ 24
+pub check-word-low : (label r : ℕ) → label ≤ 7 → r < 2 ^ 16 → wordOf 0 label r < 2 ^ 24
 unfolding wordOf
-check-word-low r h = omega arith
+check-word-low label r l h = omega arith
 
 -- ---- two words
 
@@ -165,7 +165,7 @@ module _ (p : Plan) (c : List ℕ) (at : ℕ) where
     sync-good {w} {s} h k e z n = sync-first h k ∙ rw (← e, ← z, eq-eqb w s n)
 
     module _ (j check word number : ℕ) (low : 1 ≤ j) (h : j < p .words) (e : check ≡ checkSoFar (p .crc) c (at + t * p .words) j)
-        (z : word ≡ wordAt c (at + t * p .words + j)) (s : number ≡ wordNumber (p .parity) (p .crc && eqb (j + 1) (p .words)) check word) where
+        (z : word ≡ wordAt c (at + t * p .words + j)) (s : number ≡ wordNumber (p .parity) (p .crc && eqb (j + 1) (p .words)) (p .«crc_label») check word) where
       word-first : restOfTrack t j ≡ orElse (numbered number (at + t * p .words + j)) (restOfTrack t (j + 1))
       word-first = rest-word t j h ∙ rw (s, e, z) (ap (λ (f : Fault). orElse f (restOfTrack t (j + 1))) (fault-number p c (at + t * p .words) j low))
 

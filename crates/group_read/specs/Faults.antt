@@ -27,17 +27,17 @@ numberUnless false n = n
 abbrev pub earlierNumber : ℕ → ℕ → ℕ
 earlierNumber a b = cond (eqb a 0) b a
 
--- "CRC word wrong", where one is due after words whose check is r
-abbrev pub dueNumber : Bool → Bool → ℕ → ℕ → ℕ
-dueNumber parity due r w = cond due (numberUnless (eqb w (sent parity (wordOf 0 3 r))) 11) 0
+-- "CRC word wrong", where one of this label is due after words whose check is r
+abbrev pub dueNumber : Bool → Bool → ℕ → ℕ → ℕ → ℕ
+dueNumber parity due label r w = cond due (numberUnless (eqb w (sent parity (wordOf 0 label r))) 11) 0
 
 -- "10 for any other, 11 after 10 for a CRC word"
-unfoldable pub wordNumber : Bool → Bool → ℕ → ℕ → ℕ
-wordNumber parity due r w = earlierNumber (numberUnless (not parity || isOdd w) 10) (dueNumber parity due r w)
+unfoldable pub wordNumber : Bool → Bool → ℕ → ℕ → ℕ → ℕ
+wordNumber parity due label r w = earlierNumber (numberUnless (not parity || isOdd w) 10) (dueNumber parity due label r w)
 
 -- the last word of a frame after words whose check is r, if it is a CRC word
-unfoldable pub lastNumber : Bool → Bool → ℕ → ℕ → ℕ
-lastNumber parity crc r w = cond crc (wordNumber parity true r w) 0
+unfoldable pub lastNumber : Bool → Bool → ℕ → ℕ → ℕ → ℕ
+lastNumber parity crc label r w = cond crc (wordNumber parity true label r w) 0
 
 -- of two words of which one is even, with parity, the place of that: the first stands at `place`
 abbrev pub evenPlace : Bool → ℕ → ℕ → ℕ

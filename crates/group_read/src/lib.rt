@@ -139,11 +139,11 @@ fn parity_number(parity: bool, word: u32) -> u32
     }
 }
 
-fn check_number(parity: bool, check: u32, word: u32) -> u32
-    requires { ⌜ check < 2 ^ 16 ⌝ }
-    ensures { λ r. ⌜ r ≡ numberUnless (eqb word (sent parity (wordOf 0 3 check))) 11 ⌝ }
+fn check_number(parity: bool, label: u32, check: u32, word: u32) -> u32
+    requires { ⌜ (label ≤ 7) × (check < 2 ^ 16) ⌝ }
+    ensures { λ r. ⌜ r ≡ numberUnless (eqb word (sent parity (wordOf 0 label check))) 11 ⌝ }
 {
-    if word == word::sent(parity, word::join(0, 3, check)) {
+    if word == word::sent(parity, word::join(0, label, check)) {
         0
     } else {
         11
@@ -158,13 +158,14 @@ fn earlier_number(first: u32, then: u32) -> u32
 
 // "11 after 10 for a CRC word", which is the last of a frame, the words before it having this sum; 0 without CRC.
 fn last_number(group: &[u8], plan: Plan, place: usize, sum: Sum) -> u32
-    requires { ⌜ Small sum × (3 * (place + 1) ≤ length (now group)) ⌝ }
-    ensures { λ r. ⌜ r ≡ lastNumber (plan .parity) (plan .crc) (checkOfSum sum) (wordAt (now (group .entry)) place) ⌝ }
+    requires { ⌜ (plan .«crc_label» ≤ 7) × Small sum × (3 * (place + 1) ≤ length (now group)) ⌝ }
+    ensures { λ r. ⌜ r ≡ lastNumber (plan .parity) (plan .crc) (plan .«crc_label») (checkOfSum sum) (wordAt (now (group .entry)) place) ⌝ }
 {
     if plan.crc {
         let word = stored_word(group, place);
         let even = parity_number(plan.parity, word);
-        return earlier_number(even, check_number(plan.parity, sum.check(), word));
+        let check = check_number(plan.parity, plan.crc_label, sum.check(), word);
+        return earlier_number(even, check);
     }
     0
 }

@@ -5,7 +5,7 @@ use mathlib.Core.Bool.{Bool, true, false, cond}
 use mathlib.Core.Path.{_≡_, refl, ap, _∙_}
 use mathlib.Core.List.{List, [], _∷_, _++_}
 use lib.ListN.{length, take, getD}
-use Rattle.format.specs.Word.{wordOf, fill}
+use Rattle.format.specs.Word.{wordOf}
 use Rattle.format.specs.Plan.{lead}
 use Rattle.format.specs.Group.{timeWords}
 use Rattle.format.specs.Time.{timeEnd, highPart, lowPart, microPart}
@@ -55,10 +55,6 @@ buses-some false = omega arith
 pub on-bus-0 : (parity : Bool) (label info : ℕ) → label < 16 → info < 2 ^ 16 → wordOf 0 label info < buses parity * 2 ^ 20
 on-bus-0 parity label info l i = word-below (buses parity) 0 label info (buses-some parity) l i
 
-pub unsent-below : (parity : Bool) (w : ℕ) → w < buses parity * 2 ^ 20 → w < 2 ^ 24
-unsent-below true w h = omega arith
-unsent-below false w h = h
-
 pub time-words-three : (time : ℕ) → length (timeWords time) ≡ 3
 unfolding timeWords
 time-words-three time = refl
@@ -69,7 +65,3 @@ time-words-unsent p time h =
     cons (on-bus-0 (p .parity) 7 (highPart time) (omega arith) (omega arith))
     (cons (on-bus-0 (p .parity) 6 (lowPart time) (omega arith) (omega arith))
     (cons (on-bus-0 (p .parity) 5 (microPart time) (omega arith) (omega arith)) nil))
-
-pub fill-unsent : (parity : Bool) → fill < buses parity * 2 ^ 20
-unfolding fill
-fill-unsent parity = on-bus-0 parity 1 0xAAAA (omega arith) (omega arith)

@@ -24,7 +24,7 @@ module _ (p : Plan) (dealt : List ℕ) (t : ℕ) where
   front-count n = ap suc (length-list (rowWord p dealt t) 0 n) ∙ omega arith
 
   -- with the check word, or without it
-  pub frame-checked : p .crc ≡ true → frame p dealt t ≡ front p dealt t (rows p) ++ (checkWord (p .parity) (front p dealt t (rows p)) ∷ [])
+  pub frame-checked : p .crc ≡ true → frame p dealt t ≡ front p dealt t (rows p) ++ (checkWord (p .parity) (p .«crc_label») (front p dealt t (rows p)) ∷ [])
   unfolding frame front
   frame-checked e = rw e
 

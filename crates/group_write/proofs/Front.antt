@@ -86,25 +86,28 @@ module _ (p : Plan) (t l a b n : ℕ) (times words : List ℕ) (q : Parted (p .t
 
   -- what a row holds: a time word, data, or fill
   module _ (e : length times ≡ 3) where
-    in-timed : (r : ℕ) → r < a → rowWord p times t r ≡ rowWord p (take l times ++ words) t r
-    in-timed r h = ap (sent (p .parity)) (sym (dealt-time fill words l times (r * p .tracks + t) fill (omega (arith, q .timed, mul-le-mul-right (p .tracks) h)) (omega (arith, q .few))))
+    abbrev blank : ℕ
+    blank = fill (p .«fill_bus»)
 
-    past-timed : (r : ℕ) → a ≤ r → rowWord p (take l times ++ words) t r ≡ sent (p .parity) (getD words (r * p .tracks + t - l) fill)
-    past-timed r h = ap (sent (p .parity)) (dealt-past fill words l times (r * p .tracks + t) (omega (arith, q .timed, mul-le-mul-right (p .tracks) h)) (omega (arith, q .few)))
+    in-timed : (r : ℕ) → r < a → rowWord p times t r ≡ rowWord p (take l times ++ words) t r
+    in-timed r h = ap (sent (p .parity)) (sym (dealt-time blank words l times (r * p .tracks + t) blank (omega (arith, q .timed, mul-le-mul-right (p .tracks) h)) (omega (arith, q .few))))
+
+    past-timed : (r : ℕ) → a ≤ r → rowWord p (take l times ++ words) t r ≡ sent (p .parity) (getD words (r * p .tracks + t - l) blank)
+    past-timed r h = ap (sent (p .parity)) (dealt-past blank words l times (r * p .tracks + t) (omega (arith, q .timed, mul-le-mul-right (p .tracks) h)) (omega (arith, q .few)))
 
     in-data : (i : ℕ) → rowWord p words (a * p .tracks + t - l) i ≡ rowWord p (take l times ++ words) t (a + i)
     in-data i =
         let at : i * p .tracks + (a * p .tracks + t - l) ≡ (a + i) * p .tracks + t - l = omega (arith, q .timed) in
-        ap (λ (s : ℕ). sent (p .parity) (getD words s fill)) at ∙ sym (past-timed (a + i) (omega arith))
+        ap (λ (s : ℕ). sent (p .parity) (getD words s blank)) at ∙ sym (past-timed (a + i) (omega arith))
 
-    in-fill : (r : ℕ) → b ≤ r → sent (p .parity) fill ≡ rowWord p (take l times ++ words) t r
+    in-fill : (r : ℕ) → b ≤ r → sent (p .parity) blank ≡ rowWord p (take l times ++ words) t r
     in-fill r h =
         let past : length words ≤ r * p .tracks + t - l = omega (arith, q .dealt, mul-le-mul-right (p .tracks) h) in
-        sym (past-timed r (omega (arith, q .order)) ∙ ap (sent (p .parity)) (List·getD-eq-default words fill past))
+        sym (past-timed r (omega (arith, q .order)) ∙ ap (sent (p .parity)) (List·getD-eq-default words blank past))
 
     -- the sync word and the three runs
     pub front-runs : (k j : ℕ) → a + k ≡ b → b + j ≡ n
-        → (((sync ∷ []) ++ sentRows p times t a) ++ sentRows p words (a * p .tracks + t - l) k) ++ sameRows (sent (p .parity) fill) j ≡ front p (take l times ++ words) t n
+        → (((sync ∷ []) ++ sentRows p times t a) ++ sentRows p words (a * p .tracks + t - l) k) ++ sameRows (sent (p .parity) blank) j ≡ front p (take l times ++ words) t n
     unfolding front
     front-runs k j ek ej =
         let f : ℕ → ℕ = rowWord p (take l times ++ words) t in
@@ -113,5 +116,5 @@ module _ (p : Plan) (t l a b n : ℕ) (times words : List ℕ) (q : Parted (p .t
         (ap₂ _++_ (list-same (rowWord p times t) f a 0 0 (λ i h. in-timed (0 + i) (omega arith)))
         (list-same (rowWord p words (a * p .tracks + t - l)) f k 0 a (λ i h. ap (rowWord p words (a * p .tracks + t - l)) (zero-add i) ∙ in-data i) ∙ ap (λ (i : ℕ). list f i k) (sym (zero-add a)))
         ∙ sym (list-split f 0 a k) ∙ ap (list f 0) ek)
-        (list-same (λ r. sent (p .parity) fill) f j 0 b (λ i h. in-fill (b + i) (omega arith)) ∙ ap (λ (i : ℕ). list f i j) (sym (zero-add b)))
+        (list-same (λ r. sent (p .parity) blank) f j 0 b (λ i h. in-fill (b + i) (omega arith)) ∙ ap (λ (i : ℕ). list f i j) (sym (zero-add b)))
         ∙ sym (list-split f 0 b j) ∙ ap (list f 0) ej)

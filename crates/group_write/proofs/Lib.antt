@@ -5,3 +5,4 @@ pub mod Dealt
 pub mod Runs
 pub mod Frames
 pub mod Front
+pub mod Tops

@@ -49,7 +49,7 @@ module _ (p : Plan) (ws : List ℕ) (first : ℕ) where
   run-low s u = all-getD (λ w. w < buses (p .parity) * 2 ^ 20) 0 (omega (arith, buses-some (p .parity))) ws u s
 
   pub run-word : (row s v : ℕ) → s < length ws → s ≡ row * p .tracks + first → v ≡ sent (p .parity) (getD ws s 0) → v ≡ rowWord p ws first row
-  run-word row s v h e ev = ev ∙ ap (sent (p .parity)) (within ws s fill 0 h ∙ ap (λ (i : ℕ). getD ws i fill) e)
+  run-word row s v h e ev = ev ∙ ap (sent (p .parity)) (within ws s (fill (p .«fill_bus»)) 0 h ∙ ap (λ (i : ℕ). getD ws i (fill (p .«fill_bus»))) e)
 
 -- the first rows of a run are put: the next row's word is at s, and they are summed and written
 pub record Put (p : Plan) (ws : List ℕ) (first n : ℕ) (before : Sum) (d : List ℕ) (row s : ℕ) (sum : Sum) (out : List ℕ) : Type 0 where

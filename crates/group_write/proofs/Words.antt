@@ -32,7 +32,7 @@ pub written-is : {ws vs d xs : List ℕ} {n m : ℕ} → Written ws n d xs → w
 written-is {ws} {vs} {d} {xs} {n} {m} w e c = w .is ∙ ap₂ (λ (l : List ℕ) (i : ℕ). flatMap bytesOf l ++ drop (3 * i) d) e c
 
 -- the bytes past the words are as they were
-written-past : {ws d xs : List ℕ} {n : ℕ} → Written ws n d xs → drop (3 * n) xs ≡ drop (3 * n) d
+pub written-past : {ws d xs : List ℕ} {n : ℕ} → Written ws n d xs → drop (3 * n) xs ≡ drop (3 * n) d
 written-past {ws} {d} {xs} {n} w = rw (w .is) (drop-at (flatMap bytesOf ws) (drop (3 * n) d) (3 * n) (bytes-count ws n (w .count)))
 
 pub written-again : {ws d xs : List ℕ} {n : ℕ} → Written ws n d xs → Written ws n xs xs

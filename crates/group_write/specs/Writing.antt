@@ -1,5 +1,5 @@
 -- What the parts of the writer cite: runs of a track's rows, and a frame up to its row n.
-use Prim.Native.Nat.{ℕ, _+_, _*_, _/_, _-_, _^_, _<_, _≤_}
+use Prim.Native.Nat.{ℕ, _+_, _*_, _/_, _%_, _-_, _^_, _<_, _≤_}
 use mathlib.Core.Path.{_≡_}
 use mathlib.Core.List.{List, _∷_}
 use lib.ListN.{getD, length}
@@ -19,7 +19,7 @@ Timed p ts = Unsent p ts × (length ts ≡ 3)
 
 -- the track's dealt word in row r, as it is sent
 abbrev pub rowWord : Plan → List ℕ → ℕ → ℕ → ℕ
-rowWord p dealt t r = sent (p .parity) (getD dealt (r * p .tracks + t) fill)
+rowWord p dealt t r = sent (p .parity) (getD dealt (r * p .tracks + t) (fill (p .«fill_bus»)))
 
 -- the first n rows of the track
 abbrev pub sentRows : Plan → List ℕ → ℕ → ℕ → List ℕ
@@ -28,6 +28,10 @@ sentRows p dealt t n = list (rowWord p dealt t) 0 n
 -- n rows of the same word
 abbrev pub sameRows : ℕ → ℕ → List ℕ
 sameRows w n = list (λ r. w) 0 n
+
+-- n rows whose second and third bytes are those of the word w
+abbrev pub Tails : ℕ → ℕ → List ℕ → Type 0
+Tails w n out = (r : ℕ) → r < n → (getD out (3 * r + 1) 0 ≡ w / 2 ^ 8 % 256) × (getD out (3 * r + 2) 0 ≡ w % 256)
 
 -- the sync word and the first n rows of the track's frame
 unfoldable pub front : Plan → List ℕ → ℕ → ℕ → List ℕ

@@ -13,7 +13,7 @@ ghost use Rattle.format.specs.Group.{timeWords, frame, group};
 ghost use Rattle.crc.specs.Sum.{Small, Sums, Added, Summed};
 ghost use Rattle.format.specs.Laws.Limits.{Shape, mostRows};
 ghost use Rattle.format.specs.Group.{dealtOf};
-ghost use Rattle.group_write.specs.Writing.{Run, Unsent, Timed, front, sentRows, sameRows, rowsWith};
+ghost use Rattle.group_write.specs.Writing.{Run, Unsent, Timed, Tails, front, sentRows, sameRows, rowsWith};
 use crc::Sum;
 use format::Plan;
 use narrow;
@@ -152,14 +152,35 @@ fn put_sync(out: &mut [u8]) -> Sum
     Sum::start().add(sync)
 }
 
-// Rows of fill, as it is sent.
-fn put_fill(out: &mut [u8], plan: Plan, rows: usize, before: Sum) -> Sum
-    requires { ⌜ (3 * rows ≤ length (now out)) × (rows ≤ mostRows) × Small before ⌝ }
-    ensures { λ r. ⌜ Summed (plan .crc) before (sameRows (sent (plan .parity) fill) rows) r
-        × (now (out .exit) ≡ flatMap bytesOf (sameRows (sent (plan .parity) fill) rows) ++ drop (3 * rows) (now (out .entry))) ⌝ }
+// The first byte of each row, where the other two are those of this word already.
+fn top_rows(out: &mut [u8], fill: u32, rows: usize)
+    requires { ⌜ (3 * rows ≤ length (now out)) × (rows ≤ mostRows) × (fill < 2 ^ 24) × Tails fill rows (now out) ⌝ }
+    ensures { λ _. ⌜ now (out .exit) ≡ flatMap bytesOf (sameRows fill rows) ++ drop (3 * rows) (now (out .entry)) ⌝ }
 {
-    let fill = word::sent(plan.parity, word::fill());
-    fill_rows(out, fill, rows);
+    let top = (fill / 0x10000) as u8;
+    let mut row = 0;
+    while row < rows {
+        out[3 * row] = top;
+        row += 1;
+    }
+}
+
+// Fill on bus 0, as it is sent with parity or without.
+const BLANK: u32 = 0x01AAAA;
+
+// Rows of fill on the plan's code, as it is sent. A word that is the same in each call is written and summed faster, so code 0 has its
+// own way, and on another code only the first bytes differ.
+fn put_fill(out: &mut [u8], plan: Plan, rows: usize, before: Sum) -> Sum
+    requires { ⌜ Shape plan × (3 * rows ≤ length (now out)) × (rows ≤ mostRows) × Small before ⌝ }
+    ensures { λ r. ⌜ Summed (plan .crc) before (sameRows (sent (plan .parity) (fill (plan .«fill_bus»))) rows) r
+        × (now (out .exit) ≡ flatMap bytesOf (sameRows (sent (plan .parity) (fill (plan .«fill_bus»))) rows) ++ drop (3 * rows) (now (out .entry))) ⌝ }
+{
+    fill_rows(out, BLANK, rows);
+    if plan.fill_bus == 0 {
+        return before.with_same(plan.crc, BLANK, rows);
+    }
+    let fill = word::fill(plan.parity, plan.fill_bus);
+    top_rows(out, fill, rows);
     before.with_same(plan.crc, fill, rows)
 }
 
@@ -189,7 +210,7 @@ fn write_frame(out: &mut [u8], plan: Plan, times: &[u32; 3], words: &[u32], trac
 {
     let sum = write_front(out, plan, times, words, track);
     if plan.crc {
-        let word = word::sent(plan.parity, word::join(0, 3, sum.check()));
+        let word = word::sent(plan.parity, word::join(0, plan.crc_label, sum.check()));
         word::put_word(out, 3 * (plan.words - 1), word);
     }
 }

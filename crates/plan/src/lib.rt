@@ -2,8 +2,8 @@
 
 ghost use mathlib.Core.Path.{_≡_};
 ghost use Prim.Native.Nat.{_<_, _≤_};
-ghost use mathlib.Core.Bool.{_||_, not};
-ghost use lib.Dec.{eqb};
+ghost use mathlib.Core.Bool.{_&&_, _||_, not};
+ghost use lib.Dec.{eqb, leb};
 ghost use lib.ListN.{drop};
 ghost use Rattle.format.specs.Plan.{groupWords, kindOn, legal, rows, slots, usedBuses};
 ghost use Rattle.format.specs.Compose.{groupsFor};
@@ -56,6 +56,22 @@ fn parity_fits(parity: bool, kinds: [Kind; 16]) -> bool
     true
 }
 
+// Not "a label above 7, a code above 15, or above 7 with parity", whatever is chosen besides (document 02, K5).
+fn label_and_code_fit(label: u32, code: u32, parity: bool) -> bool
+    ensures { λ r. ⌜ r ≡ (leb label 7 && leb code 15 && (not parity || leb code 7)) ⌝ }
+{
+    if 7 < label {
+        return false;
+    }
+    if 15 < code {
+        return false;
+    }
+    if parity {
+        return code <= 7;
+    }
+    true
+}
+
 // The limits of a frame's length in words.
 const LEAST_WORDS: usize = 128;
 
@@ -77,7 +93,9 @@ pub fn legal(plan: Plan, kinds: [Kind; 16]) -> bool
         return false;
     }
     if tracks_fit(plan.tracks, kinds) {
-        return parity_fits(plan.parity, kinds);
+        if parity_fits(plan.parity, kinds) {
+            return label_and_code_fit(plan.crc_label, plan.fill_bus, plan.parity);
+        }
     }
     false
 }

@@ -10,10 +10,10 @@ use Rattle.format.specs.Read.{Reading, gives, refuses, reading}
 use Rattle.from_c.specs.Numbers.{kindOf, named, planFrom, timeBytes}
 
 -- "in a reading's room the spare bytes count for nothing": a room of so many bytes for the times
-unfoldable pub readingFrom : Bool → ℕ → ℕ → ℕ → ℕ → ℕ → List ℕ → List ℕ → ℕ → ℕ → Reading
-readingFrom closed words tracks time crc parity kinds capture logRoom timeBytesRoom =
+unfoldable pub readingFrom : Bool → ℕ → ℕ → ℕ → ℕ → ℕ → ℕ → ℕ → List ℕ → List ℕ → ℕ → ℕ → Reading
+readingFrom closed words tracks time crc parity label code kinds capture logRoom timeBytesRoom =
     cond (named time crc parity kinds)
-    (reading closed (planFrom words tracks time crc parity) (map kindOf kinds) capture logRoom (timeBytesRoom / 8))
+    (reading closed (planFrom words tracks time crc parity label code) (map kindOf kinds) capture logRoom (timeBytesRoom / 8))
     (refuses 1 0)
 
 -- the lent bytes for the times after a reading; the spare ones "stay"

@@ -95,15 +95,18 @@ pub fn read_from(
     frame_time: u32,
     crc: u32,
     parity: u32,
+    crc_label: u32,
+    fill_bus: u32,
     kinds: &[u8],
     capture: &[u8],
     log: &mut [u8],
     times: &mut [u8],
 ) -> Answer
-    ensures { λ r. ⌜ GivenBytes (readingFrom closed words tracks «frame_time» crc parity (now (kinds .entry)) (now (capture .entry)) (length (now (log .entry))) (length (now (times .entry)))) r (now (log .entry)) (now (log .exit)) (now (times .entry)) (now (times .exit)) ⌝ }
+    ensures { λ r. ⌜ GivenBytes (readingFrom closed words tracks «frame_time» crc parity «crc_label» «fill_bus» (now (kinds .entry)) (now (capture .entry)) (length (now (log .entry))) (length (now (times .entry))))
+        r (now (log .entry)) (now (log .exit)) (now (times .entry)) (now (times .exit)) ⌝ }
 {
     if named(frame_time, crc, parity, kinds) {
-        let plan = plan_from(words, tracks, frame_time, crc, parity);
+        let plan = plan_from(words, tracks, frame_time, crc, parity, crc_label, fill_bus);
         return read_bytes(closed, plan, kinds_from(kinds), capture, log, times);
     }
     unnamed()

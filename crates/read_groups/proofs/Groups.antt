@@ -35,7 +35,7 @@ use Rattle.data_run.specs.Fills.{fillsIn}
 use Rattle.data_run.specs.Pass.{Brought, RanTo}
 use Rattle.read_groups.specs.Misplaced.{noFill, fillsOver, numbersOf, numbersOn}
 use Rattle.read_groups.specs.Groups.{startPass, Over, Through}
-use Rattle.read_groups.proofs.Numbered.{counted-below, counted-within, fills-few, ran-low}
+use Rattle.read_groups.proofs.Numbered.{Few, counted-below, counted-within, fills-few, ran-low}
 
 -- ---- from group to group
 
@@ -114,7 +114,7 @@ module _ (ks : List Kind) (p : Plan) (c : List ℕ) (n : ℕ) (out₀ : List ℕ
     sound-next : groupFault p c first ≡ none → readGroups p ks c n 0 Nothing 0 ≡ before (a .items) (onward (renamed (storedAt p) here) behind)
     sound-next e = a .is ∙ ap (before (a .items)) (group-next ∙ ap (λ (f : Fault). ifSound f (onward (renamed (storedAt p) here) behind)) e)
 
-    fill-next : fillsOver p (numbersOn p c 0 n) noFill ≡ fillsOver p (numbersOn p c (g + 1) (n - (g + 1))) (fillsIn (p .parity) 0 (numbersOf p c g) (x .fills))
+    fill-next : fillsOver p (numbersOn p c 0 n) noFill ≡ fillsOver p (numbersOn p c (g + 1) (n - (g + 1))) (fillsIn (p .parity) (p .«fill_bus») 0 (numbersOf p c g) (x .fills))
     unfolding fillsOver
     fill-next = a .fill ∙ rw slots-next refl
 
@@ -122,20 +122,20 @@ module _ (ks : List Kind) (p : Plan) (c : List ℕ) (n : ℕ) (out₀ : List ℕ
     upto : g * slots p + length (wordsIn (groupSlots p c first)) ≤ (g + 1) * slots p
     upto = omega (arith, words-length p c first)
 
-    fill-low : (fillsIn (p .parity) 0 (numbersOf p c g) (x .fills) .first ≤ (g + 1) * slots p) × (fillsIn (p .parity) 0 (numbersOf p c g) (x .fills) .misplaced ≤ (g + 1) * slots p)
+    fill-low : Few ((g + 1) * slots p) (fillsIn (p .parity) (p .«fill_bus») 0 (numbersOf p c g) (x .fills))
     fill-low =
-        fills-few ((g + 1) * slots p) (p .parity) 0 (numbersOf p c g) (x .fills) (counted-below ((g + 1) * slots p) (g * slots p) (wordsIn (groupSlots p c first)) upto)
+        fills-few ((g + 1) * slots p) (p .parity) (p .«fill_bus») 0 (numbersOf p c g) (x .fills) (counted-below ((g + 1) * slots p) (g * slots p) (wordsIn (groupSlots p c first)) upto)
         (omega (arith, a .fill-low .0), omega (arith, a .fill-low .1))
 
     -- the slots that were run over are the group's, told by numbers
     module _ (ss : List Slot) (t : ss ≡ numbersOf p c g) (sound : groupFault p c first ≡ none) (r : Pass) (out′ : List ℕ)
-        (m : RanTo x out (run ks (p .parity) ss (heldOf (x .held)) (x .since)) (fillsIn (p .parity) 0 ss (x .fills)) r out′) where
+        (m : RanTo x out (run ks (p .parity) ss (heldOf (x .held)) (x .since)) (fillsIn (p .parity) (p .«fill_bus») 0 ss (x .fills)) r out′) where
       abbrev fills : Fills
-      fills = fillsIn (p .parity) 0 (numbersOf p c g) (x .fills)
+      fills = fillsIn (p .parity) (p .«fill_bus») 0 (numbersOf p c g) (x .fills)
 
       ran-to : RanTo x out here fills r out′
       ran-to =
-          subst (λ (l : List Slot). RanTo x out (run ks (p .parity) l (heldOf (x .held)) (x .since)) (fillsIn (p .parity) 0 l (x .fills)) r out′) t m
+          subst (λ (l : List Slot). RanTo x out (run ks (p .parity) l (heldOf (x .held)) (x .since)) (fillsIn (p .parity) (p .«fill_bus») 0 l (x .fills)) r out′) t m
 
       pub since-low : r .since ≤ (g + 1) * slots p
       since-low =

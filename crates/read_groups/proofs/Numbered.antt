@@ -42,12 +42,12 @@ fill-placed f x here true =
     ap₂ (λ (a b : ℕ). record { first = a; misplaced = b }) (or-placed f (x .first) here) (or-placed f (x .misplaced) here)
 fill-placed f x here false = ap (λ (a : ℕ). record { first = a; misplaced = placeUp f (x .misplaced) }) (or-placed f (x .first) here)
 
-module _ (parity : Bool) (f : ℕ → ℕ) where
-  slot-placed : (i : ℕ) (s : Slot) (x : Fills) → onSlot parity i (named f s) (placed f x) ≡ placed f (onSlot parity i s x)
+module _ (parity : Bool) (code : ℕ) (f : ℕ → ℕ) where
+  slot-placed : (i : ℕ) (s : Slot) (x : Fills) → onSlot parity code i (named f s) (placed f x) ≡ placed f (onSlot parity code i s x)
   slot-placed i s x = go (isFill (s .1))
     where
       odd : Bool
-      odd = oddFill i (busOf parity (s .1))
+      odd = oddFill code i (busOf parity (s .1))
 
       go : (b : Bool)
           → cond b (onFill (placed f x) (f (s .0)) odd) (record { first = placed f x .first; misplaced = placed f x .first })
@@ -55,10 +55,10 @@ module _ (parity : Bool) (f : ℕ → ℕ) where
       go true = fill-placed f x (s .0) odd
       go false = refl
 
-  fills-placed : (i : ℕ) (ss : List Slot) (x : Fills) → fillsIn parity i (map (named f) ss) (placed f x) ≡ placed f (fillsIn parity i ss x)
+  fills-placed : (i : ℕ) (ss : List Slot) (x : Fills) → fillsIn parity code i (map (named f) ss) (placed f x) ≡ placed f (fillsIn parity code i ss x)
   unfolding fillsIn
   fills-placed i [] x = refl
-  fills-placed i (s ∷ ss) x = ap (fillsIn parity (i + 1) (map (named f) ss)) (slot-placed i s x) ∙ fills-placed (i + 1) ss (onSlot parity i s x)
+  fills-placed i (s ∷ ss) x = ap (fillsIn parity code (i + 1) (map (named f) ss)) (slot-placed i s x) ∙ fills-placed (i + 1) ss (onSlot parity code i s x)
 
 -- group by group
 module _ (p : Plan) (c : List ℕ) (some : 1 ≤ slots p) where
@@ -66,9 +66,9 @@ module _ (p : Plan) (c : List ℕ) (some : 1 ≤ slots p) where
   unfolding fillsOver list
   over-placed zero g x = refl
   over-placed (suc n) g x =
-      ap (λ (ss : List Slot). fillsOver p (groupsOn p c (g + 1) n) (fillsIn (p .parity) 0 ss (placed (storedAt p) x))) (slots-counted p c some g)
-      ∙ ap (fillsOver p (groupsOn p c (g + 1) n)) (fills-placed (p .parity) (storedAt p) 0 (numbersOf p c g) x)
-      ∙ over-placed n (g + 1) (fillsIn (p .parity) 0 (numbersOf p c g) x)
+      ap (λ (ss : List Slot). fillsOver p (groupsOn p c (g + 1) n) (fillsIn (p .parity) (p .«fill_bus») 0 ss (placed (storedAt p) x))) (slots-counted p c some g)
+      ∙ ap (fillsOver p (groupsOn p c (g + 1) n)) (fills-placed (p .parity) (p .«fill_bus») (storedAt p) 0 (numbersOf p c g) x)
+      ∙ over-placed n (g + 1) (fillsIn (p .parity) (p .«fill_bus») 0 (numbersOf p c g) x)
 
   -- the number of the earliest misplaced fill says its place
   pub numbers-say-misplaced : (n : ℕ) → told (placeUp (storedAt p) (fillsOver p (numbersOn p c 0 n) noFill .misplaced)) ≡ misplaced p (groupsOn p c 0 n)
@@ -94,18 +94,18 @@ or-few N old here h l = go (eqb old 0)
     go true = omega arith
     go false = l
 
-slot-few : (N : ℕ) (parity : Bool) (i : ℕ) (s : Slot) (x : Fills) → s .0 < N → Few N x → Few N (onSlot parity i s x)
-slot-few N parity i s x h a = go (isFill (s .1)) (oddFill i (busOf parity (s .1)))
+slot-few : (N : ℕ) (parity : Bool) (code i : ℕ) (s : Slot) (x : Fills) → s .0 < N → Few N x → Few N (onSlot parity code i s x)
+slot-few N parity code i s x h a = go (isFill (s .1)) (oddFill code i (busOf parity (s .1)))
   where
     go : (b odd : Bool) → Few N (cond b (onFill x (s .0) odd) (record { first = x .first; misplaced = x .first }))
     go true true = (or-few N (x .first) (s .0) h (a .0), or-few N (x .misplaced) (s .0) h (a .1))
     go true false = (or-few N (x .first) (s .0) h (a .0), a .1)
     go false odd = (a .0, a .0)
 
-pub fills-few : (N : ℕ) (parity : Bool) (i : ℕ) (ss : List Slot) (x : Fills) → All (λ (s : Slot). s .0 < N) ss → Few N x → Few N (fillsIn parity i ss x)
+pub fills-few : (N : ℕ) (parity : Bool) (code i : ℕ) (ss : List Slot) (x : Fills) → All (λ (s : Slot). s .0 < N) ss → Few N x → Few N (fillsIn parity code i ss x)
 unfolding fillsIn
-fills-few N parity i [] x nil a = a
-fills-few N parity i (s ∷ ss) x (cons h all) a = fills-few N parity (i + 1) ss (onSlot parity i s x) all (slot-few N parity i s x h a)
+fills-few N parity code i [] x nil a = a
+fills-few N parity code i (s ∷ ss) x (cons h all) a = fills-few N parity code (i + 1) ss (onSlot parity code i s x) all (slot-few N parity code i s x h a)
 
 -- and so is the one that a run tells of
 pub ran-low : (N : ℕ) (x r : Pass) (out out′ : List ℕ) (y : Ran) (f : Fills) → RanIn (λ q. q ≤ N) y → RanTo x out y f r out′ → r .since ≤ N

@@ -18,7 +18,7 @@ noFill = record { first = 0; misplaced = 0 }
 -- the slots of groups, one after the other
 unfoldable pub fillsOver : Plan → List (List Slot) → Fills → Fills
 fillsOver p [] f = f
-fillsOver p (ss ∷ gs) f = fillsOver p gs (fillsIn (p .parity) 0 ss f)
+fillsOver p (ss ∷ gs) f = fillsOver p gs (fillsIn (p .parity) (p .«fill_bus») 0 ss f)
 
 -- the data words of the group g, each told by its number among those of all groups
 abbrev pub numbersOf : Plan → List ℕ → ℕ → List Slot

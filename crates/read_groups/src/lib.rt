@@ -100,7 +100,15 @@ fn over_groups(
                 notice: 0,
             };
         }
-        pass = on_row(pass, kinds, plan.parity, &row[first..behind], from, out);
+        pass = on_row(
+            pass,
+            kinds,
+            plan.parity,
+            plan.fill_bus,
+            &row[first..behind],
+            from,
+            out,
+        );
         if pass.bad {
             return Walk {
                 pass: start,

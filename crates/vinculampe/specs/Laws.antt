@@ -25,6 +25,9 @@ use Rattle.from_c.specs.Numbers.{kindOf, named, planFrom, timesFrom}
 use Rattle.from_c.specs.Laws.{sixteen}
 use Rattle.compose_from_c.specs.Composing.{composedBytes, composedFrom, ragged, raggedParsed}
 use Rattle.read_from_c.specs.Reading.{readingFrom}
+use Rattle.format.specs.Promises.{composed-as-before, reading-as-before}
+use Rattle.vinculampe.specs.Before as was
+use Rattle.format.specs.Laws.Before.{legal-same}
 
 no-capture : {A : Type 0} {n q : ℕ} {c : List ℕ} → refused n q ≡ made c → A
 no-capture e = let z : _≡_ {A = ℕ} 0 1 = cc in absurd (omega arith)
@@ -71,9 +74,9 @@ made-bytes (refused n q) r out out′ h a z =
     let e : n ≡ 0 = sym (ap (λ (x : Answer). x .number) (a .0)) ∙ z in
     absurd (omega (arith, h n q refl .0))
 
-module _ (words tracks time crc parity : ℕ) (kinds : List ℕ) where
+module _ (words tracks time crc parity label code : ℕ) (kinds : List ℕ) where
   abbrev pub thePlan : Plan
-  thePlan = planFrom words tracks time crc parity
+  thePlan = planFrom words tracks time crc parity label code
 
   abbrev pub theKinds : List Kind
   theKinds = map kindOf kinds
@@ -85,7 +88,7 @@ module _ (words tracks time crc parity : ℕ) (kinds : List ℕ) where
   named-sixteen e = length-map kinds kindOf ∙ sixteen time crc parity kinds e
 
   -- what composing from C made, composing made
-  pub made-from : (log times c : List ℕ) (room : ℕ) → composedFrom words tracks time crc parity kinds log times room ≡ made c
+  pub made-from : (log times c : List ℕ) (room : ℕ) → composedFrom words tracks time crc parity label code kinds log times room ≡ made c
       → Named × (length times % 8 ≡ 0) × (composed thePlan theKinds log (timesFrom times) room ≡ made c)
   unfolding composedFrom composedBytes
   made-from log times c room e = go (named time crc parity kinds) (eqb (length times % 8) 0) refl refl e
@@ -98,12 +101,12 @@ module _ (words tracks time crc parity : ℕ) (kinds : List ℕ) where
       go false b n w z = no-capture z
 
   pub from-made : (log times : List ℕ) (room : ℕ) → Named → length times % 8 ≡ 0
-      → composedFrom words tracks time crc parity kinds log times room ≡ composed thePlan theKinds log (timesFrom times) room
+      → composedFrom words tracks time crc parity label code kinds log times room ≡ composed thePlan theKinds log (timesFrom times) room
   unfolding composedFrom composedBytes
   from-made log times room n w = rw (n, eq-eqb (length times % 8) 0 w)
 
   -- a refusal's number is never 0
-  pub composed-refused-from : (log times : List ℕ) (room n q : ℕ) → composedFrom words tracks time crc parity kinds log times room ≡ refused n q → ComposingNumber n
+  pub composed-refused-from : (log times : List ℕ) (room n q : ℕ) → composedFrom words tracks time crc parity label code kinds log times room ≡ refused n q → ComposingNumber n
   unfolding composedFrom composedBytes
   composed-refused-from log times room n q e = go (named time crc parity kinds) (eqb (length times % 8) 0) e
     where
@@ -112,7 +115,8 @@ module _ (words tracks time crc parity : ℕ) (kinds : List ℕ) where
       go true false z = ragged-refused thePlan theKinds log n q z
       go false b z = let one : _≡_ {A = ℕ} 1 n = cc in (omega arith, inl (omega arith))
 
-  pub reading-refused-from : (closed : Bool) (c : List ℕ) (logRoom timeRoom n q : ℕ) → readingFrom closed words tracks time crc parity kinds c logRoom timeRoom ≡ refuses n q
+  pub reading-refused-from : (closed : Bool) (c : List ℕ) (logRoom timeRoom n q : ℕ)
+      → readingFrom closed words tracks time crc parity label code kinds c logRoom timeRoom ≡ refuses n q
       → (1 ≤ n) × (n ≤ 15)
   unfolding readingFrom
   reading-refused-from closed c logRoom timeRoom n q e = go (named time crc parity kinds) e
@@ -122,7 +126,7 @@ module _ (words tracks time crc parity : ℕ) (kinds : List ℕ) where
       go false z = let one : _≡_ {A = ℕ} 1 n = cc in omega arith
 
   -- what a reading from C gives, a reading gives
-  pub gives-from : (closed : Bool) (c log row : List ℕ) (logRoom timeRoom : ℕ) → readingFrom closed words tracks time crc parity kinds c logRoom timeRoom ≡ gives log row
+  pub gives-from : (closed : Bool) (c log row : List ℕ) (logRoom timeRoom : ℕ) → readingFrom closed words tracks time crc parity label code kinds c logRoom timeRoom ≡ gives log row
       → Named × (reading closed thePlan theKinds c logRoom (timeRoom / 8) ≡ gives log row)
   unfolding readingFrom
   gives-from closed c log row logRoom timeRoom e = go (named time crc parity kinds) refl e
@@ -133,6 +137,27 @@ module _ (words tracks time crc parity : ℕ) (kinds : List ℕ) where
       go false n z = no-log z
 
   pub from-gives : (closed : Bool) (c : List ℕ) (logRoom timeRoom : ℕ) → Named
-      → readingFrom closed words tracks time crc parity kinds c logRoom timeRoom ≡ reading closed thePlan theKinds c logRoom (timeRoom / 8)
+      → readingFrom closed words tracks time crc parity label code kinds c logRoom timeRoom ≡ reading closed thePlan theKinds c logRoom (timeRoom / 8)
   unfolding readingFrom
   from-gives closed c logRoom timeRoom n = rw n
+
+-- ---- label 3 and code 0: the answers of before
+
+module _ (words tracks time crc parity : ℕ) (kinds : List ℕ) where
+  abbrev ks : List Kind
+  ks = map kindOf kinds
+
+  ragged-before : (log : List ℕ) → ragged (was.planFrom words tracks time crc parity) ks log ≡ was.ragged (was.planFrom words tracks time crc parity) ks log
+  unfolding ragged was.ragged
+  ragged-before log = rw (legal-same words tracks (eqb time 1) (eqb crc 1) (eqb parity 1) ks)
+
+  pub composed-from-before : (log times : List ℕ) (room : ℕ)
+      → composedFrom words tracks time crc parity 3 0 kinds log times room ≡ was.composedFrom words tracks time crc parity kinds log times room
+  unfolding composedFrom composedBytes was.composedFrom
+  composed-from-before log times room =
+      rw (composed-as-before words tracks (eqb time 1) (eqb crc 1) (eqb parity 1) ks log (timesFrom times) room, ragged-before log)
+
+  pub reading-from-before : (closed : Bool) (c : List ℕ) (logRoom timeRoom : ℕ)
+      → readingFrom closed words tracks time crc parity 3 0 kinds c logRoom timeRoom ≡ was.readingFrom closed words tracks time crc parity kinds c logRoom timeRoom
+  unfolding readingFrom was.readingFrom
+  reading-from-before closed c logRoom timeRoom = rw (reading-as-before words tracks (eqb time 1) (eqb crc 1) (eqb parity 1) closed ks c logRoom (timeRoom / 8))

@@ -1,5 +1,6 @@
 // Vinculampe's entry points, from Rattle and from C (document 01, "Programs"): composing and both readings, and what is done with
 // logs alone (document 02).
+pub mod full;
 
 ghost use mathlib.Core.Bool.{false, true};
 ghost use lib.ListN.{length};
@@ -12,6 +13,9 @@ ghost use Rattle.log_rules.specs.Replay.{Replays, replayed};
 ghost use Rattle.log_rules.specs.Shift.{shifted};
 ghost use Rattle.log_shift.specs.Shifted.{Shifted};
 ghost use Rattle.read_from_c.specs.Reading.{GivenBytes, readingFrom};
+pub use crate::full::vin_compose_full;
+pub use crate::full::vin_read_closed_full;
+pub use crate::full::vin_read_full;
 pub use compose::compose;
 use compose_from_c::compose_from;
 use format::Answer;
@@ -25,6 +29,11 @@ pub use read::read;
 pub use read::read_closed;
 use read_from_c::read_from;
 
+// What a plan without its last two lines means: the functions without `full` take no label and no code.
+const CRC_LABEL: u32 = 3;
+
+const FILL_BUS: u32 = 0;
+
 #[no_mangle]
 pub extern "C" fn vin_compose(
     words: u32,
@@ -37,7 +46,8 @@ pub extern "C" fn vin_compose(
     times: &[u8],
     out: &mut [u8],
 ) -> Answer
-    ensures { λ r. ⌜ Made (composedFrom words tracks «frame_time» crc parity (now (kinds .entry)) (now (log .entry)) (now (times .entry)) (length (now (out .entry)))) r (now (out .entry)) (now (out .exit)) ⌝ }
+    ensures { λ r. ⌜ Made (composedFrom words tracks «frame_time» crc parity 3 0 (now (kinds .entry)) (now (log .entry)) (now (times .entry)) (length (now (out .entry))))
+        r (now (out .entry)) (now (out .exit)) ⌝ }
 {
     compose_from(
         words,
@@ -45,6 +55,8 @@ pub extern "C" fn vin_compose(
         frame_time,
         crc,
         parity,
+        CRC_LABEL,
+        FILL_BUS,
         kinds,
         log,
         times,
@@ -64,7 +76,8 @@ pub extern "C" fn vin_read(
     log: &mut [u8],
     times: &mut [u8],
 ) -> Answer
-    ensures { λ r. ⌜ GivenBytes (readingFrom false words tracks «frame_time» crc parity (now (kinds .entry)) (now (capture .entry)) (length (now (log .entry))) (length (now (times .entry)))) r (now (log .entry)) (now (log .exit)) (now (times .entry)) (now (times .exit)) ⌝ }
+    ensures { λ r. ⌜ GivenBytes (readingFrom false words tracks «frame_time» crc parity 3 0 (now (kinds .entry)) (now (capture .entry)) (length (now (log .entry))) (length (now (times .entry))))
+        r (now (log .entry)) (now (log .exit)) (now (times .entry)) (now (times .exit)) ⌝ }
 {
     read_from(
         false,
@@ -73,6 +86,8 @@ pub extern "C" fn vin_read(
         frame_time,
         crc,
         parity,
+        CRC_LABEL,
+        FILL_BUS,
         kinds,
         capture,
         log,
@@ -92,7 +107,8 @@ pub extern "C" fn vin_read_closed(
     log: &mut [u8],
     times: &mut [u8],
 ) -> Answer
-    ensures { λ r. ⌜ GivenBytes (readingFrom true words tracks «frame_time» crc parity (now (kinds .entry)) (now (capture .entry)) (length (now (log .entry))) (length (now (times .entry)))) r (now (log .entry)) (now (log .exit)) (now (times .entry)) (now (times .exit)) ⌝ }
+    ensures { λ r. ⌜ GivenBytes (readingFrom true words tracks «frame_time» crc parity 3 0 (now (kinds .entry)) (now (capture .entry)) (length (now (log .entry))) (length (now (times .entry))))
+        r (now (log .entry)) (now (log .exit)) (now (times .entry)) (now (times .exit)) ⌝ }
 {
     read_from(
         true,
@@ -101,6 +117,8 @@ pub extern "C" fn vin_read_closed(
         frame_time,
         crc,
         parity,
+        CRC_LABEL,
+        FILL_BUS,
         kinds,
         capture,
         log,

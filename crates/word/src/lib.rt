@@ -6,6 +6,7 @@ ghost use mathlib.Core.List.{_++_};
 ghost use Prim.Native.Nat.{_+_, _≤_, _<_, _^_};
 ghost use lib.ListN.{length, take, drop};
 ghost use Rattle.format.specs.Word.{wordOf, busOf, labelOf, infoOf, isOdd, sent, sync, fill, isFill, bytesOf};
+ghost use Rattle.format.specs.Lawful.{buses};
 ghost use Rattle.format.specs.Time.{microseconds, timeEnd};
 ghost use Rattle.format.specs.Item.{highLabel, lowLabel};
 ghost use Rattle.word.specs.Stored.{threeAt};
@@ -62,10 +63,12 @@ pub fn sync() -> u32
     0xFAF320
 }
 
-pub fn fill() -> u32
-    ensures { λ r. ⌜ r ≡ fill ⌝ }
+// Fill on a bus, as it is sent.
+pub fn fill(parity: bool, bus: u32) -> u32
+    requires { ⌜ bus < buses parity ⌝ }
+    ensures { λ r. ⌜ (r ≡ sent parity (fill bus)) × (r < 2 ^ 24) ⌝ }
 {
-    0x01AAAA
+    sent(parity, join(bus, 1, 0xAAAA))
 }
 
 // Fill, on any bus.

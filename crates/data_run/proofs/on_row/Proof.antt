@@ -8,10 +8,10 @@ use Rattle.data_run.proofs.on_row.Statement.{statement}
 use Rattle.data_run.proofs.on_row.Tie as tie
 
 abbrev Inv-loop : tie.InvT-loop
-Inv-loop kinds parity row from out₀ pass₀ i₀ out pass i = (i ≤ length row) × Passed kinds parity row from pass₀ out₀ i pass out
+Inv-loop kinds parity code row from out₀ pass₀ i₀ out pass i = (i ≤ length row) × Passed kinds parity code row from pass₀ out₀ i pass out
 
 abbrev μ-loop : tie.MeasureT-loop
-μ-loop kinds parity row from out₀ pass₀ i₀ out pass i = length row - i
+μ-loop kinds parity code row from out₀ pass₀ i₀ out pass i = length row - i
 
 abbrev before-at : tie.At-loop Inv-loop μ-loop → tie.Start Inv-loop μ-loop
 before-at c = c .before .before .before
@@ -71,10 +71,10 @@ abbrev turn-else3 : tie.Else3 Inv-loop μ-loop → tie.In-loop Inv-loop μ-loop
 turn-else3 c = c .before .before .before .before .before .before .before .before .before .before .before .before .before .before
 
 loop-holds : tie.Need-loop-holds Inv-loop μ-loop
-loop-holds c = (omega arith, passed-none _ _ _ _ _ _ ((c .before .before) .pre .0))
+loop-holds c = (omega arith, passed-none _ _ _ _ _ _ _ ((c .before .before) .pre .0))
 
 past-fill-requires : tie.Need-past-fill-requires Inv-loop μ-loop
-past-fill-requires c κs = ((before-in c) .loop .inv .0, omega (arith, (entry c) .pre .3))
+past-fill-requires c κs = ((before-in c) .loop .inv .0, omega (arith, (entry c) .pre .3), (entry c) .pre .4)
 
 loop-less : tie.Need-loop-less Inv-loop μ-loop
 loop-less c = omega (arith, c .if1 .taken, (before-then1 c) .past-fill .ensures .room)
@@ -82,7 +82,7 @@ loop-less c = omega (arith, c .if1 .taken, (before-then1 c) .past-fill .ensures 
 loop-again : tie.Need-loop-again Inv-loop μ-loop
 loop-again c = (
   (before-then1 c) .past-fill .ensures .room,
-  passed-fill _ _ _ _ _ _ ((before-in (turn-then1 c)) .loop .i) _ ((before-in (turn-then1 c)) .loop .inv .1)
+  passed-fill _ _ _ ((entry (turn-then1 c)) .pre .4) _ _ _ _ ((entry (turn-then1 c)) .pre .1) ((before-in (turn-then1 c)) .loop .i) _ ((before-in (turn-then1 c)) .loop .inv .1)
       ((before-then1 c) .past-fill .ensures),
 )
 
@@ -111,7 +111,7 @@ loop-again-2 : tie.Need-loop-again-2 Inv-loop μ-loop
 loop-again-2 c = let f = (before-out (before-then2 (before-on-items c))) .items-from .ensures .some ((before-on-items c) .if2 .taken) in (
   (before-out (before-then2 (before-on-items c))) .items-from .ensures .room,
   rw (c .on-items .ensures)
-      (passed-items _ _ _ _ _ _ ((before-in (turn-on-items c)) .loop .i) ((before-in (turn-on-items c)) .loop .inv .1) ((before-on-items c) .if2 .taken) (f .0) (f .1)),
+      (passed-items _ _ _ _ _ _ _ ((before-in (turn-on-items c)) .loop .i) ((before-in (turn-on-items c)) .loop .inv .1) ((before-on-items c) .if2 .taken) (f .0) (f .1)),
 )
 
 add-on-word : tie.Need-add-on-word Inv-loop μ-loop
@@ -145,8 +145,8 @@ same-length c = (before-then3 c) .out2 .given ∙ (before-else2 (before-on-word 
 
 returns : tie.Need-returns Inv-loop μ-loop
 returns c = (
-  passed-bad _ _ _ _ _ _ ((before-in (turn-then3 c)) .loop .i) _ _ ((turn-then3 c) .loop-test .taken)
-      ((entry (turn-then3 c)) .pre .1 _ ((turn-then3 c) .loop-test .taken)) (passed-still _ _ _ _ _ _ ((before-in (turn-then3 c)) .loop .i)
+  passed-bad _ _ _ _ _ _ _ ((before-in (turn-then3 c)) .loop .i) _ _ ((turn-then3 c) .loop-test .taken)
+      ((entry (turn-then3 c)) .pre .1 _ ((turn-then3 c) .loop-test .taken)) (passed-still _ _ _ _ _ _ _ ((before-in (turn-then3 c)) .loop .i)
       ((before-out (before-else2 (before-on-word (before-out2 (before-then3 c))))) .items-from .ensures .none ((before-on-word (before-out2 (before-then3 c))) .if2 .left))
       ((before-in (turn-then3 c)) .loop .inv .1)) ((before-out2 (before-then3 c)) .on-word .ensures .0) (c .if3 .taken),
   λ z. clash (sym z ∙ c .if3 .taken),
@@ -161,8 +161,8 @@ loop-less-3 c = omega (arith, (turn-else3 c) .loop-test .taken)
 loop-again-3 : tie.Need-loop-again-3 Inv-loop μ-loop
 loop-again-3 c = (
   omega (arith, (turn-else3 c) .loop-test .taken),
-  passed-more _ _ _ _ _ _ ((before-in (turn-else3 c)) .loop .i) ((turn-else3 c) .loop-test .taken)
-      ((entry (turn-else3 c)) .pre .1 _ ((turn-else3 c) .loop-test .taken)) (passed-still _ _ _ _ _ _ ((before-in (turn-else3 c)) .loop .i)
+  passed-more _ _ _ _ _ _ _ ((before-in (turn-else3 c)) .loop .i) ((turn-else3 c) .loop-test .taken)
+      ((entry (turn-else3 c)) .pre .1 _ ((turn-else3 c) .loop-test .taken)) (passed-still _ _ _ _ _ _ _ ((before-in (turn-else3 c)) .loop .i)
       ((before-out (before-else2 (before-on-word (before-out2 (before-else3 c))))) .items-from .ensures .none ((before-on-word (before-out2 (before-else3 c))) .if2 .left))
       ((before-in (turn-else3 c)) .loop .inv .1)) ((before-out2 (before-else3 c)) .on-word .ensures) (c .if3 .left),
 )
@@ -172,7 +172,7 @@ same-length-2 c = (c .before) .loop .inv .1 .brought .long
 
 returns-2 : tie.Need-returns-2 Inv-loop μ-loop
 returns-2 c = (
-  passed-all _ _ _ _ _ _ ((c .before) .loop .i) (c .loop-test .left) ((c .before) .loop .inv .1),
+  passed-all _ _ _ _ _ _ _ ((c .before) .loop .i) (c .loop-test .left) ((c .before) .loop .inv .1),
   λ z. omega
       (arith, (c .before) .loop .inv .1 .few, (before-at (c .before)) .pre .2, (c .before) .loop .inv .0),
 )

@@ -38,7 +38,7 @@ abbrev start-is-odd-fill : tie.After-is-odd-fill → tie.Start
 start-is-odd-fill c = c .before .before .before .before .before .before .before
 
 abbrev start-on-fill : tie.After-on-fill → tie.Start
-start-on-fill c = c .before .before .before .before .before .before .before .before
+start-on-fill c = start-is-odd-fill (c .before)
 
 abbrev start-information-of : tie.After-information-of → tie.Start
 start-information-of c = c .before .before .before .before .before .before .before
@@ -63,12 +63,16 @@ on-fill-requires c κs = (start-is-odd-fill c) .pre .2
 
 returns : tie.Need-returns
 unfolding wordOut
-returns c = let e = sym ((before-then1 (before-is-odd-fill (before-on-fill c))) .is-fill .ensures) ∙ (before-is-odd-fill (before-on-fill c)) .if1 .taken in (
-  word-fill ((start-on-fill c) .args .kinds) ((start-on-fill c) .args .parity) ((start-on-fill c) .args .i) ((start-on-fill c) .args .number)
-      ((start-on-fill c) .args .word) ((start-on-fill c) .args .pass) e ((before-is-fill (before-then1 (before-is-odd-fill (before-on-fill c)))) .bus-of .ensures)
-      ((before-on-fill c) .is-odd-fill .ensures) (c .on-fill .ensures),
-  rw e refl,
-)
+returns c =
+    let s = start-on-fill c in
+    let o = before-on-fill c in
+    let t = before-is-odd-fill o in
+    let f = before-then1 t in
+    let e = sym (f .is-fill .ensures) ∙ t .if1 .taken in (
+      word-fill (s .args .kinds) (s .args .parity) (s .args .code) (s .args .i) (s .args .number) (s .args .word) (s .args .pass) e
+          ((before-is-fill f) .bus-of .ensures) (o .is-odd-fill .ensures) (c .on-fill .ensures),
+      rw e refl,
+    )
 
 label-of-requires : tie.Need-label-of-requires
 label-of-requires c κs = search needs

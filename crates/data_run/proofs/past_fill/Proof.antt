@@ -8,16 +8,16 @@ use Rattle.data_run.proofs.past_fill.Statement.{statement}
 use Rattle.data_run.proofs.past_fill.Tie as tie
 
 abbrev Inv-loop : tie.InvT-loop
-Inv-loop row i slot₀ slot = Filled row i slot
+Inv-loop parity code row i slot₀ blank slot = Filled blank row i slot
 
 abbrev μ-loop : tie.MeasureT-loop
-μ-loop row i slot₀ slot = length row - slot
+μ-loop parity code row i slot₀ blank slot = length row - slot
 
 abbrev Inv-loop2 : tie.InvT-loop2
-Inv-loop2 row i slot₀ slot = Filled row i slot
+Inv-loop2 parity code row i slot₀ blank slot = Filled blank row i slot
 
 abbrev μ-loop2 : tie.MeasureT-loop2
-μ-loop2 row i slot₀ slot = length row - slot
+μ-loop2 parity code row i slot₀ blank slot = length row - slot
 
 abbrev before-else1 : tie.Else1 Inv-loop μ-loop Inv-loop2 μ-loop2 → tie.Start Inv-loop μ-loop Inv-loop2 μ-loop2
 before-else1 c = c .before .before .before
@@ -25,8 +25,14 @@ before-else1 c = c .before .before .before
 abbrev before-else2 : tie.Else2 Inv-loop μ-loop Inv-loop2 μ-loop2 → tie.Else1 Inv-loop μ-loop Inv-loop2 μ-loop2
 before-else2 c = c .before
 
+abbrev before-fill : tie.After-fill Inv-loop μ-loop Inv-loop2 μ-loop2 → tie.Else2 Inv-loop μ-loop Inv-loop2 μ-loop2
+before-fill c = c .before
+
+abbrev filled : tie.At-loop Inv-loop μ-loop Inv-loop2 μ-loop2 → tie.After-fill Inv-loop μ-loop Inv-loop2 μ-loop2
+filled c = c .before
+
 abbrev before-at : tie.At-loop Inv-loop μ-loop Inv-loop2 μ-loop2 → tie.Else2 Inv-loop μ-loop Inv-loop2 μ-loop2
-before-at c = c .before
+before-at c = before-fill (filled c)
 
 abbrev before-in : tie.In-loop Inv-loop μ-loop Inv-loop2 μ-loop2 → tie.At-loop Inv-loop μ-loop Inv-loop2 μ-loop2
 before-in c = c .before
@@ -40,35 +46,38 @@ before-at2 c = c .before .before
 abbrev before-in2 : tie.In-loop2 Inv-loop μ-loop Inv-loop2 μ-loop2 → tie.At-loop2 Inv-loop μ-loop Inv-loop2 μ-loop2
 before-in2 c = c .before
 
-abbrev before-fill : tie.After-fill Inv-loop μ-loop Inv-loop2 μ-loop2 → tie.In-loop2 Inv-loop μ-loop Inv-loop2 μ-loop2
-before-fill c = c .before .before
+abbrev before-else4 : tie.Else4 Inv-loop μ-loop Inv-loop2 μ-loop2 → tie.In-loop2 Inv-loop μ-loop Inv-loop2 μ-loop2
+before-else4 c = c .before .before
 
-abbrev before-else4 : tie.Else4 Inv-loop μ-loop Inv-loop2 μ-loop2 → tie.After-fill Inv-loop μ-loop Inv-loop2 μ-loop2
-before-else4 c = c .before
-
-abbrev entry : tie.In-loop Inv-loop μ-loop Inv-loop2 μ-loop2 → tie.Start Inv-loop μ-loop Inv-loop2 μ-loop2
-entry c = c .before .before .before .before .before .before
+abbrev before-then4 : tie.Then4 Inv-loop μ-loop Inv-loop2 μ-loop2 → tie.In-loop2 Inv-loop μ-loop Inv-loop2 μ-loop2
+before-then4 c = c .before .before
 
 abbrev start-else2 : tie.Else2 Inv-loop μ-loop Inv-loop2 μ-loop2 → tie.Start Inv-loop μ-loop Inv-loop2 μ-loop2
 start-else2 c = c .before .before .before .before
 
 abbrev start-at : tie.At-loop Inv-loop μ-loop Inv-loop2 μ-loop2 → tie.Start Inv-loop μ-loop Inv-loop2 μ-loop2
-start-at c = c .before .before .before .before .before
+start-at c = start-else2 (before-at c)
+
+abbrev entry : tie.In-loop Inv-loop μ-loop Inv-loop2 μ-loop2 → tie.Start Inv-loop μ-loop Inv-loop2 μ-loop2
+entry c = start-at (before-in c)
 
 abbrev start-in2 : tie.In-loop2 Inv-loop μ-loop Inv-loop2 μ-loop2 → tie.Start Inv-loop μ-loop Inv-loop2 μ-loop2
-start-in2 c = c .before .before .before .before .before .before .before .before
+start-in2 c = start-at (before-at2 (before-in2 c))
 
 abbrev start-else4 : tie.Else4 Inv-loop μ-loop Inv-loop2 μ-loop2 → tie.Start Inv-loop μ-loop Inv-loop2 μ-loop2
-start-else4 c = c .before .before .before .before .before .before .before .before .before .before .before
+start-else4 c = start-in2 (before-else4 c)
 
 returns : tie.Need-returns Inv-loop μ-loop Inv-loop2 μ-loop2
-returns c = past-first _ _ _ ((c .before .before .before) .pre .0) (c .if1 .taken)
+returns c = past-first _ _ _ _ ((c .before .before .before) .pre .0) (c .if1 .taken)
 
 returns-2 : tie.Need-returns-2 Inv-loop μ-loop Inv-loop2 μ-loop2
-returns-2 c = past-front _ _ _ ((before-else1 (c .before)) .pre .0) (c .if2 .taken)
+returns-2 c = past-front _ _ _ _ ((before-else1 (c .before)) .pre .0) (c .if2 .taken)
+
+fill-requires : tie.Need-fill-requires Inv-loop μ-loop Inv-loop2 μ-loop2
+fill-requires c κs = (start-else2 c) .pre .2
 
 loop-holds : tie.Need-loop-holds Inv-loop μ-loop Inv-loop2 μ-loop2
-loop-holds c = filled-none _ _ ((start-else2 c) .pre .0)
+loop-holds c = filled-none _ _ _ ((start-else2 (before-fill c)) .pre .0)
 
 add-loop : tie.Need-add-loop Inv-loop μ-loop Inv-loop2 μ-loop2
 add-loop c = omega (arith, c .loop .inv .room, (start-at c) .pre .1)
@@ -119,7 +128,7 @@ loop-less : tie.Need-loop-less Inv-loop μ-loop Inv-loop2 μ-loop2
 loop-less c = omega (arith, (before-are-fill (c .before)) .loop-test .taken)
 
 loop-again : tie.Need-loop-again Inv-loop μ-loop Inv-loop2 μ-loop2
-loop-again c = filled-four ((before-in (before-are-fill (c .before))) .loop .inv) ((before-are-fill (c .before)) .loop-test .taken)
+loop-again c = filled-four _ ((before-in (before-are-fill (c .before))) .loop .inv) ((before-are-fill (c .before)) .loop-test .taken)
     (sym (c .if3 .taken) ∙ (c .before) .are-fill .ensures)
 
 loop2-holds : tie.Need-loop2-holds Inv-loop μ-loop Inv-loop2 μ-loop2
@@ -131,27 +140,27 @@ mul-if4 c = omega (arith, c .loop2-test .taken, (start-in2 c) .pre .1)
 shared-slice-read-if4 : tie.Need-shared-slice-read-if4 Inv-loop μ-loop Inv-loop2 μ-loop2
 shared-slice-read-if4 c = (c .before) .loop2-test .taken
 
-fill-requires : tie.Need-fill-requires Inv-loop μ-loop Inv-loop2 μ-loop2
-fill-requires c κs = search needs
-
 add-slot-2 : tie.Need-add-slot-2 Inv-loop μ-loop Inv-loop2 μ-loop2
-add-slot-2 c = omega (arith, (before-fill (before-else4 c)) .loop2-test .taken, (start-else4 c) .pre .1)
+add-slot-2 c = omega (arith, (before-else4 c) .loop2-test .taken, (start-else4 c) .pre .1)
 
 loop2-less : tie.Need-loop2-less Inv-loop μ-loop Inv-loop2 μ-loop2
-loop2-less c = omega (arith, (before-fill (before-else4 c)) .loop2-test .taken)
+loop2-less c = omega (arith, (before-else4 c) .loop2-test .taken)
 
 loop2-again : tie.Need-loop2-again Inv-loop μ-loop Inv-loop2 μ-loop2
-loop2-again c = filled-one ((before-in2 (before-fill (before-else4 c))) .loop2 .inv) ((before-fill (before-else4 c)) .loop2-test .taken)
-    (c .if4 .left ∙ (before-else4 c) .fill .ensures)
+loop2-again c = filled-one _ ((before-in2 (before-else4 c)) .loop2 .inv) ((before-else4 c) .loop2-test .taken)
+    (c .if4 .left)
 
 returns-3 : tie.Need-returns-3 Inv-loop μ-loop Inv-loop2 μ-loop2
-returns-3 c = past-some _ _ ((c .before) .loop2 .inv) ((before-else2 (before-at (before-at2 (c .before)))) .if1 .left) ((before-at (before-at2 (c .before))) .if2 .left)
-    (λ h. absurd (omega (arith, h, c .loop2-test .left)))
+returns-3 c =
+    let l = before-at2 (c .before) in
+    rw (← ((filled l) .fill .ensures .0)) (past-some _ _ _ ((c .before) .loop2 .inv) ((before-else2 (before-at l)) .if1 .left) ((before-at l) .if2 .left)
+    (λ h. absurd (omega (arith, h, c .loop2-test .left))))
 
 returns-4 : tie.Need-returns-4 Inv-loop μ-loop Inv-loop2 μ-loop2
-returns-4 c = past-some _ _ ((before-in2 (before-fill (c .before))) .loop2 .inv)
-    ((before-else2 (before-at (before-at2 (before-in2 (before-fill (c .before)))))) .if1 .left)
-    ((before-at (before-at2 (before-in2 (before-fill (c .before))))) .if2 .left) (λ h z. c .if4 .taken (z ∙ sym ((c .before) .fill .ensures)))
+returns-4 c =
+    let o = before-in2 (before-then4 c) in
+    let l = before-at2 o in
+    rw (← ((filled l) .fill .ensures .0)) (past-some _ _ _ (o .loop2 .inv) ((before-else2 (before-at l)) .if1 .left) ((before-at l) .if2 .left) (λ h z. c .if4 .taken z))
 
 pub past-fill-spec : {M : Type 1} → statement M
 past-fill-spec =
@@ -163,6 +172,7 @@ past-fill-spec =
     μ-loop2
     returns
     returns-2
+    fill-requires
     loop-holds
     add-loop
     mul-are-fill
@@ -183,7 +193,6 @@ past-fill-spec =
     loop2-holds
     mul-if4
     shared-slice-read-if4
-    fill-requires
     add-slot-2
     loop2-less
     loop2-again

@@ -8,14 +8,17 @@ use mathlib.Core.Path.{_≡_, refl}
 use Rattle.format.specs.Plan.{groupWords, lead, leastWords, mostWords, rows, slots}
 use Rattle.format.specs.Compose.{groupsFor}
 use Rattle.format.specs.Bits.{bit}
+use Rattle.format.specs.Lawful.{buses}
 use Rattle.format.specs.declared.Plan.{Plan}
 
--- what a legal plan says of its frames, whatever the kinds
+-- what a legal plan says of its frames, its CRC word and its fill, whatever the kinds
 pub record Shape (p : Plan) : Type 0 where
   pub words-least : leastWords ≤ p .words
   pub words-most : p .words ≤ mostWords
   pub tracks-least : 1 ≤ p .tracks
   pub tracks-most : p .tracks ≤ 4
+  pub named : p .«crc_label» ≤ 7
+  pub filling : p .«fill_bus» < buses (p .parity)
 
 -- ---- The limits that follow
 

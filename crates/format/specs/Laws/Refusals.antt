@@ -139,10 +139,10 @@ unfolding faultAt
 at-number p c at zero = unless-number (eqb (wordAt c at) sync) 9 at (omega arith, omega arith)
 at-number p c at (suc j) =
     let w : ℕ = wordAt c (at + suc j) in
-    let check : Fault = unless (eqb w (checkWord (p .parity) (list (wordAt c) at (suc j)))) 11 (at + suc j) in
+    let check : Fault = unless (eqb w (checkWord (p .parity) (p .«crc_label») (list (wordAt c) at (suc j)))) 11 (at + suc j) in
     let last : Fault = cond (p .crc && eqb (suc (suc j)) (p .words)) check none in
     else-number (unless (not (p .parity) || isOdd w) 10 (at + suc j)) last (unless-number (not (p .parity) || isOdd w) 10 (at + suc j) (omega arith, omega arith))
-    (either FaultNumber (p .crc && eqb (suc (suc j)) (p .words)) check none (unless-number (eqb w (checkWord (p .parity) (list (wordAt c) at (suc j)))) 11 (at + suc j) (omega arith, omega arith)) tt)
+    (either FaultNumber (p .crc && eqb (suc (suc j)) (p .words)) check none (unless-number (eqb w (checkWord (p .parity) (p .«crc_label») (list (wordAt c) at (suc j)))) 11 (at + suc j) (omega arith, omega arith)) tt)
 
 first-number : (fs : List Fault) → All FaultNumber fs → FaultNumber (firstOf fs)
 unfolding firstOf
@@ -209,7 +209,7 @@ in-number : (p : Plan) (ss later : List Slot) (near : Bool) (rest : Fault) → F
 unfolding misplacedIn
 in-number p [] later near rest h = h
 in-number p (s ∷ ss) later near rest h =
-    either FaultNumber (isFill (s .1) && (anyData ss || anyData later || not near || not (eqb (busOf (p .parity) (s .1)) 0))) (found 14 (s .0)) (misplacedIn p ss later near rest)
+    either FaultNumber (isFill (s .1) && (anyData ss || anyData later || not near || not (eqb (busOf (p .parity) (s .1)) (p .«fill_bus»)))) (found 14 (s .0)) (misplacedIn p ss later near rest)
     (omega arith, omega arith) (in-number p ss later near rest h)
 
 fill-number : (p : Plan) (gs : List (List Slot)) → FaultNumber (misplaced p gs)

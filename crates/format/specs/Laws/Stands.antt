@@ -62,27 +62,27 @@ module _ {p : Plan} {ks : List Kind} {log times c : List ℕ} (m : ComposedOf p 
         rw e at (stored t k 0 (omega (arith, l .shape .words-least)) ∙ frame-front p (dealtFor p times ws g) t 0 (omega arith))
 
     pub check-at : (t : ℕ) → t < p .tracks → p .crc ≡ true
-        → wordAt c (g * groupWords p + t * p .words + (p .words - 1)) ≡ checkWord (p .parity) (list (wordAt c) (g * groupWords p + t * p .words) (p .words - 1))
+        → wordAt c (g * groupWords p + t * p .words + (p .words - 1)) ≡ checkWord (p .parity) (p .«crc_label») (list (wordAt c) (g * groupWords p + t * p .words) (p .words - 1))
     unfolding rows
     check-at t k e =
         let o : bit (p .crc) ≡ 1 = ap bit e in
         let r : p .words - 1 ≡ suc (rows p) = omega (arith, l .shape .words-least) in
         rw r
         (stored t k (suc (rows p)) (omega (arith, l .shape .words-least)) ∙ frame-check p (dealtFor p times ws g) t e
-        ∙ ap (checkWord (p .parity)) (sym (check-list p (dealtFor p times ws g) t c (g * groupWords p + t * p .words) (long p (l .shape)) (stored t k))))
+        ∙ ap (checkWord (p .parity) (p .«crc_label»)) (sym (check-list p (dealtFor p times ws g) t c (g * groupWords p + t * p .words) (long p (l .shape)) (stored t k))))
 
     -- the dealt word s
-    dealt-stands : (s : ℕ) → s < p .tracks * rows p → wordAt c (g * groupWords p + placeOf p s) ≡ sent (p .parity) (getD (dealtFor p times ws g) s fill)
+    dealt-stands : (s : ℕ) → s < p .tracks * rows p → wordAt c (g * groupWords p + placeOf p s) ≡ sent (p .parity) (getD (dealtFor p times ws g) s (fill (p .«fill_bus»)))
     dealt-stands s k = rw (m .capture) at (capture-at p (long p (l .shape)) (l .shape .tracks-least) times ws g s h′ k)
 
-    pub time-at : (s : ℕ) → s < 3 → p .«frame_time» ≡ true → wordAt c (g * groupWords p + placeOf p s) ≡ sent (p .parity) (getD (timeWords (getD times g 0)) s fill)
+    pub time-at : (s : ℕ) → s < 3 → p .«frame_time» ≡ true → wordAt c (g * groupWords p + placeOf p s) ≡ sent (p .parity) (getD (timeWords (getD times g 0)) s (fill (p .«fill_bus»)))
     unfolding dealtFor dealtOf timeWords
     time-at s k e =
         dealt-stands s (omega (arith, room p (l .shape)))
-        ∙ ap (λ (b : Bool). sent (p .parity) (getD (cond b (timeWords (getD times g 0)) [] ++ take (slots p) (drop (g * slots p) ws)) s fill)) e
-        ∙ ap (sent (p .parity)) (List·getD-append (timeWords (getD times g 0)) (take (slots p) (drop (g * slots p) ws)) fill s k)
+        ∙ ap (λ (b : Bool). sent (p .parity) (getD (cond b (timeWords (getD times g 0)) [] ++ take (slots p) (drop (g * slots p) ws)) s (fill (p .«fill_bus»)))) e
+        ∙ ap (sent (p .parity)) (List·getD-append (timeWords (getD times g 0)) (take (slots p) (drop (g * slots p) ws)) (fill (p .«fill_bus»)) s k)
 
-    pub slot-stands : (i : ℕ) → i < slots p → wordAt c (g * groupWords p + placeOf p (lead p + i)) ≡ sent (p .parity) (getD ws (g * slots p + i) fill)
+    pub slot-stands : (i : ℕ) → i < slots p → wordAt c (g * groupWords p + placeOf p (lead p + i)) ≡ sent (p .parity) (getD ws (g * slots p + i) (fill (p .«fill_bus»)))
     slot-stands i k =
         dealt-stands (lead p + i) (slot-in p i k)
-        ∙ ap (sent (p .parity)) (dealt-at p times ws g i k ∙ getD-drop (g * slots p) ws i fill)
+        ∙ ap (sent (p .parity)) (dealt-at p times ws g i k ∙ getD-drop (g * slots p) ws i (fill (p .«fill_bus»)))

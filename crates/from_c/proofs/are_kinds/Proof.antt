@@ -1,27 +1,28 @@
 use Prim.Native.Nat.{_-_, _≤_}
-use mathlib.Core.Path.{_≡_, refl, sym, _∙_}
+use mathlib.Core.Bool.{_&&_}
+use mathlib.Core.Path.{_≡_, refl}
 use native.Mathlib.Omega.{arith}
 use lib.ListN.{length, drop}
 use Rattle.from_c.specs.Numbers.{areKinds}
-use Rattle.from_c.proofs.NamedKinds.{kind-bad, kind-good, kinds-end}
+use Rattle.from_c.proofs.NamedKinds.{kinds-all, kinds-so-far}
 use borrow.Author.Needs.{needs}
 use Rattle.from_c.proofs.are_kinds.Statement.{statement}
 use Rattle.from_c.proofs.are_kinds.Tie as tie
 
 abbrev Inv-loop : tie.InvT-loop
-Inv-loop kinds bus₀ bus = (bus ≤ length kinds) × (areKinds kinds ≡ areKinds (drop bus kinds))
+Inv-loop kinds good₀ bus₀ good bus = (bus ≤ length kinds) × (areKinds kinds ≡ (good && areKinds (drop bus kinds)))
 
 abbrev μ-loop : tie.MeasureT-loop
-μ-loop kinds bus₀ bus = length kinds - bus
+μ-loop kinds good₀ bus₀ good bus = length kinds - bus
 
 loop-holds : tie.Need-loop-holds Inv-loop μ-loop
 loop-holds c = (omega arith, refl)
 
-shared-slice-read-if1 : tie.Need-shared-slice-read-if1 Inv-loop μ-loop
-shared-slice-read-if1 c = search needs
+shared-slice-read-both : tie.Need-shared-slice-read-both Inv-loop μ-loop
+shared-slice-read-both c = search needs
 
-returns : tie.Need-returns Inv-loop μ-loop
-returns c = let s = c .before .before .before .before .args .kinds .now in let o = c .before .before .before .loop in sym (o .inv .1 ∙ kind-bad s (o .bus) (c .before .before .loop-test .taken) (c .if1 .taken))
+both-requires : tie.Need-both-requires Inv-loop μ-loop
+both-requires c κs = search needs
 
 add-bus : tie.Need-add-bus Inv-loop μ-loop
 add-bus c = search needs
@@ -30,21 +31,15 @@ loop-less : tie.Need-loop-less Inv-loop μ-loop
 loop-less c = search needs
 
 loop-again : tie.Need-loop-again Inv-loop μ-loop
-loop-again c = let s = c .before .before .before .before .args .kinds .now in let o = c .before .before .before .loop in (search needs, o .inv .1 ∙ kind-good s (o .bus) (c .before .before .loop-test .taken) (c .if1 .left))
+loop-again c =
+    let i = c .before .before in
+    let o = i .before .loop in
+    (omega (arith, i .loop-test .taken), kinds-so-far (i .before .before .before .args .kinds .now) (o .bus) (o .good) (i .loop-test .taken) (o .inv .1) (c .both .ensures))
 
-returns-2 : tie.Need-returns-2 Inv-loop μ-loop
-returns-2 c = let o = c .before .loop in sym (o .inv .1 ∙ kinds-end (c .before .before .args .kinds .now) (o .bus) (omega arith))
+returns : tie.Need-returns Inv-loop μ-loop
+returns c =
+    let o = c .before .loop in
+    kinds-all (c .before .before .before .args .kinds .now) (o .bus) (o .good) (c .loop-test .left) (o .inv .1)
 
 pub are-kinds-spec : {M : Type 1} → statement M
-are-kinds-spec =
-    tie.close
-    (tie.spec
-    Inv-loop
-    μ-loop
-    loop-holds
-    shared-slice-read-if1
-    returns
-    add-bus
-    loop-less
-    loop-again
-    returns-2)
+are-kinds-spec = tie.close (tie.spec Inv-loop μ-loop loop-holds shared-slice-read-both both-requires add-bus loop-less loop-again returns)

@@ -8,7 +8,7 @@ join-requires : tie.Need-join-requires
 join-requires c κs = search needs
 
 sent-requires : tie.Need-sent-requires
-sent-requires c κs = rw (c .join .ensures) (check-word-low (c .before .args .check) (c .before .pre))
+sent-requires c κs = rw (c .join .ensures) (check-word-low (c .before .args .label) (c .before .args .check) (c .before .pre .0) (c .before .pre .1))
 
 returns : tie.Need-returns
 returns c = rw (← (c .before .before .join .ensures), ← (c .before .sent .ensures), eq-eqb _ _ (c .if1 .taken))

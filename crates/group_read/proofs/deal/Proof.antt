@@ -320,7 +320,7 @@ add-last : tie.Need-add-last Inv-loop μ-loop Inv-scan μ-scan
 add-last c = omega (arith, last-in c, size (scan (last-of c)))
 
 last-number-requires : tie.Need-last-number-requires Inv-loop μ-loop Inv-scan μ-scan
-last-number-requires c κs = (over c .inside .small, last-in c)
+last-number-requires c κs = (shape (scan (last-of c)) .named, over c .inside .small, last-in c)
 
 add-track : tie.Need-add-track Inv-loop μ-loop Inv-scan μ-scan
 add-track c = omega (arith, track-in (in-track (last-of (c .before .before))), shape (scan (last-of (c .before .before))) .tracks-most)

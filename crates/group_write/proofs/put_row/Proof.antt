@@ -1,8 +1,7 @@
 use Prim.Native.Nat.{_^_, _<_}
 use native.Mathlib.Omega.{arith}
 use borrow.Author.Needs.{needs}
-use Rattle.word.proofs.Below.{sent-below}
-use Rattle.group_write.proofs.Dealt.{unsent-below}
+use Rattle.word.proofs.Below.{sent-below, unsent-below}
 use Rattle.group_write.proofs.put_row.Statement.{statement}
 use Rattle.group_write.proofs.put_row.Tie as tie
 

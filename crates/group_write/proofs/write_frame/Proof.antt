@@ -8,12 +8,13 @@ use Rattle.format.specs.Word.{sent}
 use Rattle.format.specs.Plan.{rows, lead}
 use Rattle.format.specs.Check.{checkWord}
 use Rattle.format.specs.Lawful.{buses}
+use Rattle.format.specs.declared.Plan.{Plan}
 use Rattle.format.specs.Laws.Limits.{rows-checked, rows-plain, rows-under}
-use Rattle.word.proofs.Below.{sent-below}
+use Rattle.word.proofs.Below.{sent-below, unsent-below}
 use Rattle.crc.proofs.Sums.{sums-word}
 use Rattle.group_write.specs.Writing.{front}
 use Rattle.group_write.proofs.Words.{Written, written-is, written-length, written-word}
-use Rattle.group_write.proofs.Dealt.{on-bus-0, unsent-below}
+use Rattle.group_write.proofs.Dealt.{on-bus-0}
 use Rattle.group_write.proofs.Frames.{front-count, frame-checked, frame-plain}
 use Rattle.group_write.proofs.write_frame.Statement.{statement}
 use Rattle.group_write.proofs.write_frame.Tie as tie
@@ -50,8 +51,14 @@ checked c = c .before
 abbrev at-check : tie.Then1 → Fronted
 at-check c = c .before .before .before
 
-join-low : (c : Joined) → c .join .result < buses (entry (at-check (checked (c .before))) .args .plan .parity) * 2 ^ 20
-join-low c = rw (c .join .ensures) (on-bus-0 (entry (at-check (checked (c .before))) .args .plan .parity) 3 (c .before .check .result) (omega arith) (c .before .check .ensures .1))
+abbrev plan-of : tie.After-check → Plan
+plan-of c = entry (at-check (checked c)) .args .plan
+
+label-low : (c : tie.After-check) → plan-of c .«crc_label» < 16
+label-low c = omega (arith, entry (at-check (checked c)) .pre .0 .named)
+
+join-low : (c : Joined) → c .join .result < buses (plan-of (c .before) .parity) * 2 ^ 20
+join-low c = rw (c .join .ensures) (on-bus-0 (plan-of (c .before) .parity) (plan-of (c .before) .«crc_label») (c .before .check .result) (label-low (c .before)) (c .before .check .ensures .1))
 
 -- and where it is sent, and put
 abbrev sent-of : tie.After-put-word → tie.After-sent
@@ -60,12 +67,12 @@ sent-of c = c .before .before .before
 abbrev at-sent : tie.After-sent → tie.Then1
 at-sent c = checked (c .before .before)
 
-check-is : (c : tie.After-sent) → c .sent .result ≡ checkWord (entry (at-check (at-sent c)) .args .plan .parity) (written (at-check (at-sent c)))
+check-is : (c : tie.After-sent) → c .sent .result ≡ checkWord (plan-of (c .before .before) .parity) (plan-of (c .before .before) .«crc_label») (written (at-check (at-sent c)))
 check-is c =
     let t = at-sent c in
-    let parity = entry (at-check t) .args .plan .parity in
-    c .sent .ensures ∙ ap (sent parity) (c .before .join .ensures)
-    ∙ sums-word {ws = written (at-check t)} parity (c .before .before .check .result) (at-check t .write-front .ensures .0 (t .if1 .taken)) (c .before .before .check .ensures .0)
+    let p = plan-of (c .before .before) in
+    c .sent .ensures ∙ ap (sent (p .parity)) (c .before .join .ensures)
+    ∙ sums-word {ws = written (at-check t)} (p .parity) (p .«crc_label») (c .before .before .check .result) (at-check t .write-front .ensures .0 (t .if1 .taken)) (c .before .before .check .ensures .0)
 
 write-front-requires : tie.Need-write-front-requires
 write-front-requires c κs = c .before .before .before .pre
@@ -74,7 +81,7 @@ check-requires : tie.Need-check-requires
 check-requires c κs = at-check c .write-front .ensures .0 (c .if1 .taken) .small
 
 join-requires : tie.Need-join-requires
-join-requires c κs = search needs
+join-requires c κs = (omega arith, label-low c, c .check .ensures .1)
 
 sent-requires : tie.Need-sent-requires
 sent-requires c κs = unsent-below (entry (at-check (checked (c .before))) .args .plan .parity) (c .join .result) (join-low c)

@@ -113,7 +113,7 @@ abbrev data-put : Counted → List ℕ
 data-put c = sentRows (entry c .args .plan) (words c) (first c) (data-rows c)
 
 abbrev fill-put : Counted → List ℕ
-fill-put c = sameRows (sent (entry c .args .plan .parity) fill) (fill-rows c)
+fill-put c = sameRows (sent (entry c .args .plan .parity) (fill (entry c .args .plan .«fill_bus»))) (fill-rows c)
 
 -- the bytes after the sync word, and after each run
 begun : (c : Synced) → Written (sync ∷ []) 1 (entry (at-sync c) .args .out .now) (c .put-sync .last .0)
@@ -152,7 +152,7 @@ all-put c = (((sync ∷ []) ++ times-put c) ++ data-put c) ++ fill-put c
 filled : (c : Filled) → Written (all-put (at-filled c)) (1 + rows (at-filled c)) (entry (at-filled c) .args .out .now) (fill-out c)
 filled c =
     let k = at-filled c in
-    written-rest (3 * (1 + dealt k)) (fill-put k) (data-written (dealt-of c)) refl (length-list (λ r. sent (entry k .args .plan .parity) fill) 0 (fill-rows k))
+    written-rest (3 * (1 + dealt k)) (fill-put k) (data-written (dealt-of c)) refl (length-list (λ r. sent (entry k .args .plan .parity) (fill (entry k .args .plan .«fill_bus»))) 0 (fill-rows k))
     (omega (arith, room k)) (omega (arith, room k)) (c .put-fill .ensures .1)
 
 -- these are the words of the frame
@@ -259,7 +259,7 @@ put-fill-requires : tie.Need-put-fill-requires
 put-fill-requires c κs = let y = c .before .before .before in
     let k = at-dealt y in
     let r = rest-room (3 * (1 + dealt k)) (3 * fill-rows k) (data-out y) (omega (arith, room k, written-length (data-written y))) in
-    (r, omega (arith, room k), y .put-rows2 .ensures .0 .small)
+    (entry k .pre .0, r, omega (arith, room k), y .put-rows2 .ensures .0 .small)
 
 same-length : tie.Need-same-length
 same-length c = written-length (filled (c .before .before))

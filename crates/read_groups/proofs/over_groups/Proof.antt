@@ -146,7 +146,7 @@ abbrev of-row : Ran-row → Sound-group
 of-row c = c .before .before .before .before
 
 abbrev out : Ran-row → List ℕ
-out c = c .on-row .last .1 .1 .1 .1 .1 .0
+out c = c .on-row .last .1 .1 .1 .1 .1 .1 .0
 
 since-few : (c : Ran-row) → c .on-row .result .since < 2 ^ 32
 since-few c =
@@ -294,13 +294,16 @@ on-row-requires c κs =
       words-of-row e,
       rw (l .loop .inv .1) (over l .few),
       omega (arith, l .loop .inv .1, part-length-is e, numbers e),
+      shape l .filling,
     )
 
 stored-place-requires : tie.Need-stored-place-requires Inv-loop μ-loop
 stored-place-requires c κs = let r = c .before .before .before in let l = group (of-row r) in (shape l, start l .pre .0 .1, since-few r)
 
 same-length-3 : tie.Need-same-length-3 Inv-loop μ-loop
-same-length-3 c = search needs
+same-length-3 c =
+    let e = of-row (c .before .before .before .before) in
+    dealt e .deal .ensures .long ∙ group e .loop .inv .2
 
 same-length-4 : tie.Need-same-length-4 Inv-loop μ-loop
 same-length-4 c = c .before .before .before .out .given ∙ over (group (of-row (c .before .before .before .before))) .brought .long

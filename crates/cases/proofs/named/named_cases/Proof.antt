@@ -20,6 +20,9 @@ loop-holds c = search needs
 line-end-requires : tie.Need-line-end-requires Inv-loop μ-loop
 line-end-requires c κs = search needs
 
+add-next : tie.Need-add-next Inv-loop μ-loop
+add-next c = search needs
+
 sub-make-line : tie.Need-sub-make-line Inv-loop μ-loop
 sub-make-line c = search needs
 
@@ -74,9 +77,6 @@ slice-aggregate-say-line-3 c = search needs
 say-line-requires : tie.Need-say-line-requires Inv-loop μ-loop
 say-line-requires c κs = search needs
 
-add-at : tie.Need-add-at Inv-loop μ-loop
-add-at c = search needs
-
 loop-less : tie.Need-loop-less Inv-loop μ-loop
 loop-less c = search needs
 
@@ -95,6 +95,7 @@ named-cases-spec =
     plan-requires
     loop-holds
     line-end-requires
+    add-next
     sub-make-line
     part-make-line-start
     part-make-line-end
@@ -113,7 +114,6 @@ named-cases-spec =
     slice-aggregate-say-line-2
     slice-aggregate-say-line-3
     say-line-requires
-    add-at
     loop-less
     loop-again
     returns)

@@ -6,10 +6,10 @@ use Rattle.cases.proofs.named.put_fill.Statement.{statement}
 use Rattle.cases.proofs.named.put_fill.Tie as tie
 
 abbrev Inv-loop : tie.InvT-loop
-Inv-loop line capture₀ words end place₀ capture place = (length capture ≡ length capture₀) × (end < 65536)
+Inv-loop line fill capture₀ words end place₀ capture place = (length capture ≡ length capture₀) × (end < 65536)
 
 abbrev μ-loop : tie.MeasureT-loop
-μ-loop line capture₀ words end place₀ capture place = end - place
+μ-loop line fill capture₀ words end place₀ capture place = end - place
 
 size-requires : tie.Need-size-requires Inv-loop μ-loop
 size-requires c κs = search needs
