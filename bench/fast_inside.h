@@ -51,6 +51,13 @@ static inline vin_answer refused(uint32_t number, uint64_t place)
     return a;
 }
 
+/* K8: 13, and the first word of the item that broke. */
+static inline vin_answer broken(uint64_t place, uint64_t first_word)
+{
+    vin_answer a = {13, place, first_word, 0, 0};
+    return a;
+}
+
 int fast_plan_of(fast_plan *p, uint32_t words, uint32_t tracks, uint32_t frame_time, uint32_t crc, uint32_t parity, uint32_t crc_label,
                  uint32_t fill_bus, const uint8_t *kinds, size_t kinds_len);
 

@@ -166,8 +166,10 @@ static vin_answer dealt_fault(const fast_plan *p, const uint8_t *capture, size_t
         if (dealt < p->furniture) {
             if (w >> 16 != 7 - dealt || (dealt == 2 && (w & 0xFFFF) >= 10000))
                 return refused(12, place);
-        } else if ((w & 0xFFFFF) != FILL && !walk(k, p, w, place)) {
-            return refused(13, place);
+        } else {
+            size_t first_word = k->next != FREE ? k->first : place;
+            if ((w & 0xFFFFF) != FILL && !walk(k, p, w, place))
+                return broken(place, first_word);
         }
     }
     return refused(0, 0);
@@ -233,7 +235,7 @@ vin_answer refuse_capture(const fast_plan *p, const uint8_t *capture, size_t cap
             return a;
     }
     if (k.next != FREE)
-        return refused(13, k.first);
+        return broken(k.first, k.first);
     a = open_in_capture(p, capture, groups);
     if (a.number != 0)
         return a;

@@ -131,7 +131,7 @@ enum vin_kind {
 typedef struct {
     uint32_t number; /* VIN_DONE, or the refusal's number: enum vin_number */
     uint64_t place;  /* the refusal's place; 0 if done */
-    uint64_t second; /* always 0; kept for a second place, so that no caller need be compiled again */
+    uint64_t second; /* VIN_DATA_WORD's second place: where the item that broke begins; else 0 */
     uint64_t bytes;  /* bytes written: composing: of capture; all others: of log; 0 if refused */
     uint64_t times;  /* reading, shifting: frame times written, of eight bytes each; 0 if refused */
 } vin_answer;
@@ -188,8 +188,12 @@ enum vin_number {
      *        10000 or more. Place: that word. */
     VIN_FRAME_TIME = 12,
 
-    /*   R    A data word starts or continues no item (also fill without AAAA): place is that word. Or
-     *        the capture ends inside an item: place is that item's first word. */
+    /*   R    A data word starts or continues no item (also fill without AAAA): place is that word, and
+     *        answer.second the first word of the item that was unfinished when it came, or that word
+     *        itself if none was. A command, or an ARINC word after its low syllable, is finished; from
+     *        its high time word on it is unfinished again. Or the capture ends inside an item: place
+     *        and answer.second are that item's first word. With several tracks answer.second may be
+     *        the larger number: words are dealt over the tracks, and places count them as stored. */
     VIN_DATA_WORD = 13,
 
     /*   R    Closed reading only: misplaced fill. A data word follows it, or neither its group nor a
@@ -480,7 +484,7 @@ enum vin_event { VIN_ITEM_ARRIVES = 0, VIN_GROUP_LEAVES = 1 };
 typedef struct {
     uint32_t number; /* VIN_DONE, or the refusal's number: enum vin_number */
     uint64_t place;  /* the refusal's place; 0 if done */
-    uint64_t second; /* always 0, as in vin_answer */
+    uint64_t second; /* always 0; in vin_answer a second place */
     uint64_t bytes;  /* bytes of log written; this and the following are 0 if refused */
     uint64_t sent;   /* words that left in groups */
     uint64_t lost;   /* items lost */

@@ -4,8 +4,8 @@
  *     target/independent/cases <crates/cases/stdin
  *
  * A line of a named case: its name, then for each call a letter (c composing, r reading, x the closed reading), number, place, second,
- * bytes, times, and the digest of each lent buffer over its lent length (out and 0, or log and times), and `differs` if number, place
- * or length are not those that the case asks for. Lent buffers hold A5 before. A line of a block: `block N` and one digest of all
+ * bytes, times, and the digest of each lent buffer over its lent length (out and 0, or log and times), and `differs` if number, place,
+ * second or length are not those that the case asks for. Lent buffers hold A5 before. A line of a block: `block N` and one digest of all
  * that. */
 #include "cases.h"
 

@@ -57,35 +57,35 @@ static void put_words(const char *line)
 
 /* ==== The calls ==== */
 
-/* "On success: number 0, place 0 and the lengths written"; "A refusal returns number, place and lengths 0". */
-static int is_asked(ind_answer a, uint64_t asked, uint64_t value)
+/* "On success: number 0, place 0 and the lengths written"; "A refusal returns number, place and lengths 0". K8: and a second place. */
+static int is_asked(ind_answer a, uint64_t asked, uint64_t value, uint64_t second)
 {
-    if (a.number != asked || a.second != 0)
+    if (a.number != asked || a.second != second)
         return 0;
     if (asked == 0)
         return a.place == 0 && a.bytes == value;
     return a.place == value && a.bytes == 0 && a.times == 0;
 }
 
-static void say(char letter, result r, uint64_t asked, uint64_t value)
+static void say(char letter, result r, uint64_t asked, uint64_t value, uint64_t second)
 {
     printf(" %c %" PRIu32 " %" PRIu64 " %" PRIu64 " %" PRIu64 " %" PRIu64 " %" PRIu64 " %" PRIu64, letter, r.answer.number,
            r.answer.place, r.answer.second, r.answer.bytes, r.answer.times, r.first, r.second);
-    if (!is_asked(r.answer, asked, value))
+    if (!is_asked(r.answer, asked, value, second))
         printf(" differs");
 }
 
 static void compose_line(const char *line)
 {
-    say('c', composing(p, small(line, 1), small(line, 2), small(line, 3)), number(line, 4), number(line, 5));
+    say('c', composing(p, small(line, 1), small(line, 2), small(line, 3)), number(line, 4), number(line, 5), 0);
     take_composed(small(line, 3));
 }
 
 static void read_line(const char *line)
 {
     for (int closed = 0; closed < 2; closed++)
-        say(closed ? 'x' : 'r', reading(closed, p, small(line, 1), small(line, 2), small(line, 3)), number(line, 4 + 2 * closed),
-            number(line, 5 + 2 * closed));
+        say(closed ? 'x' : 'r', reading(closed, p, small(line, 1), small(line, 2), small(line, 3)), number(line, 4 + 3 * closed),
+            number(line, 5 + 3 * closed), number(line, 6 + 3 * closed));
 }
 
 static void step(const char *line)

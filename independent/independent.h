@@ -15,7 +15,7 @@
 typedef struct {
     uint32_t number; /* 0, or the refusal's number */
     uint64_t place;  /* the refusal's place */
-    uint64_t second; /* always 0 */
+    uint64_t second; /* 13's second place (K8); else 0 */
     uint64_t bytes;  /* composing: bytes of capture written; reading and the functions on logs: bytes of log written */
     uint64_t times;  /* reading and shifting: frame times written */
 } ind_answer;

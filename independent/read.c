@@ -1,4 +1,4 @@
-/* Document 01: the plain and the closed reading; document 02, K2: open notices, K5: the whole plan. */
+/* Document 01: the plain and the closed reading; document 02, K2: open notices, K5: the whole plan, K8: which item broke. */
 #include <string.h>
 
 #include "rules.h"
@@ -62,14 +62,16 @@ static uint64_t slot_place(const capture *c, uint64_t group, uint64_t slot)
     return dealt_place(c->p, group, furniture(c->p) + slot);
 }
 
-/* "13: data word starts or continues no item, fill not AAAA". "The plain reading drops fill on any bus in any slot". */
+/* "13: data word starts or continues no item, fill not AAAA". "The plain reading drops fill on any bus in any slot". K8: "the first
+ * word of the item that was unfinished when the bad word came, or the bad word itself if none was". */
 static ind_answer read_slots(const capture *c, uint64_t group, held *h, log_writer *log)
 {
     for (uint64_t slot = 0; slot < group_slots(c->p); slot++) {
         uint64_t place = slot_place(c, group, slot);
         word w = word_at(c, place);
+        uint64_t first_word = reader_unfinished(h) ? h->first : place;
         if (!is_fill(w) && !reader_feed(h, c->p, w, place, log))
-            return refused(13, place);
+            return broken(place, first_word);
     }
     return passed();
 }
@@ -87,7 +89,8 @@ static ind_answer read_groups(const capture *c, log_writer *log)
         if (answer.number != 0)
             return answer;
     }
-    return reader_end(&h, log) ? passed() : refused(13, h.first);
+    /* "for an item cut at the end both places are its first word" (K8) */
+    return reader_end(&h, log) ? passed() : broken(h.first, h.first);
 }
 
 /* The notice, or the ARINC word, that the data word at a slot begins, the slots of all groups counted: its kind and channel; END if

@@ -126,6 +126,13 @@ bool reader_feed(held *h, const plan *p, word w, uint64_t place, log_writer *log
     return false;
 }
 
+/* "Without one, a command or ARINC word is already finished; every other item is unfinished until its last word, and so is one whose
+ * time words have begun." */
+bool reader_unfinished(const held *h)
+{
+    return h->stage != NOTHING && h->stage != MAY_BE_TAGGED;
+}
+
 bool reader_end(held *h, log_writer *log)
 {
     if (h->stage == MAY_BE_TAGGED)

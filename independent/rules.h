@@ -20,6 +20,13 @@ static inline ind_answer refused(uint32_t number, uint64_t place)
     return (ind_answer){.number = number, .place = place};
 }
 
+/* K8: "Answer 13 shall also give the first word of the item that was unfinished when the bad word came"; "In every other answer the
+ * second place is 0." */
+static inline ind_answer broken(uint64_t place, uint64_t first_word)
+{
+    return (ind_answer){.number = 13, .place = place, .second = first_word};
+}
+
 static inline ind_answer passed(void)
 {
     return refused(0, 0);
@@ -134,6 +141,8 @@ typedef struct {
     uint64_t first; /* where its first word is stored */
 } held;
 
+/* Whether an item is unfinished, "until then no word starts another item". */
+bool reader_unfinished(const held *h);
 /* Feeds one data word; false if it starts or continues no item. */
 bool reader_feed(held *h, const plan *p, word w, uint64_t place, log_writer *log);
 /* Ends the reading; false if an item is cut. */

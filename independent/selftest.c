@@ -38,6 +38,12 @@ static bool answers(ind_answer a, uint32_t number, uint64_t place, uint64_t byte
     return a.number == number && a.place == place && a.second == 0 && a.bytes == bytes && a.times == times;
 }
 
+/* K8: 13, at a word, and the first word of the item that broke. */
+static bool breaks(ind_answer a, uint64_t place, uint64_t first_word)
+{
+    return a.number == 13 && a.place == place && a.second == first_word && a.bytes == 0 && a.times == 0;
+}
+
 /* A capture of one track, of fill, to put words into. */
 static size_t frames_of_fill(uint64_t frames)
 {
@@ -179,17 +185,57 @@ static void halves(void)
     frames_of_fill(1);
     store(capture, 1, 0x591234);
     store(capture, 2, 0x5A5678);
-    CHECK(answers(read_plain(387), 13, 2, 0, 0));
+    CHECK(breaks(read_plain(387), 2, 1));
     store(capture, 2, 0x685678);
-    CHECK(answers(read_plain(387), 13, 2, 0, 0));
+    CHECK(breaks(read_plain(387), 2, 1));
     store(capture, 3, 0x585678); /* its own low syllable behind another bus's word comes too late */
     store(capture, 2, 0x600000);
-    CHECK(answers(read_plain(387), 13, 2, 0, 0));
+    CHECK(breaks(read_plain(387), 2, 1));
     store(capture, 2, 0x585678);
     store(capture, 3, 0x01AAAA);
     CHECK(answers(read_plain(387), 0, 0, 6, 0));
     store(capture, 2, 0x01AAAA);
-    CHECK(answers(read_plain(387), 13, 1, 0, 0)); /* cut at the end: its first word */
+    CHECK(breaks(read_plain(387), 1, 1)); /* cut at the end: its first word */
+}
+
+/* K8: a command, and an ARINC word after its low syllable, are finished; from the high time word on they are not. */
+static void which_item_broke(void)
+{
+    static const struct {
+        uint32_t words[4];
+        uint64_t place, first_word;
+    } rows[] = {
+        {{0x2F0001, 0x7D0000, 0x01AAAA, 0x01AAAA}, 2, 2},
+        {{0x2F0001, 0x270000, 0x2D0000, 0x01AAAA}, 3, 1},
+        {{0x2D0001, 0x2F0001, 0x270000, 0x2D0000}, 4, 2},
+        {{0x591234, 0x585678, 0x5A0000, 0x01AAAA}, 3, 3},
+        {{0x591234, 0x585678, 0x570000, 0x5A0000}, 4, 1},
+        {{0x2F0001, 0x270000, 0x260000, 0x252710}, 4, 1},
+        {{0x240001, 0x01AAAA, 0x01AAAA, 0x2D0000}, 4, 1},
+        {{0x2D0000, 0x242710, 0x01AAAA, 0x01AAAA}, 2, 2},
+        {{0x2D0000, 0x2F0001, 0x270000, 0x01AAAA}, 2, 2},
+    };
+    plan_is(129, 1, 0, 0, 0);
+    kinds[2] = BUS_1553;
+    kinds[5] = BUS_ARINC;
+    for (size_t n = 0; n < sizeof rows / sizeof *rows; n++) {
+        frames_of_fill(1);
+        for (uint64_t place = 1; place <= 4; place++)
+            store(capture, place, rows[n].words[place - 1]);
+        CHECK(breaks(read_plain(387), rows[n].place, rows[n].first_word));
+        CHECK(breaks(read_closed(387), rows[n].place, rows[n].first_word));
+    }
+    for (tracks = 2; tracks <= 4; tracks++) { /* user words, then a high syllable on the last track, and another on the first */
+        uint64_t last = 129 * (uint64_t)(tracks - 1) + 1;
+        kinds[2] = UNUSED;
+        frames_of_fill(tracks);
+        for (uint64_t track = 0; track < tracks; track++)
+            store(capture, 129 * track + 1, track + 1 < tracks ? 0x520000 : 0x591234);
+        store(capture, 2, 0x591234);
+        CHECK(breaks(read_plain(387 * (size_t)tracks), 2, last));
+        store(capture, 2, 0x01AAAA);
+        CHECK(breaks(read_plain(387 * (size_t)tracks), last, last));
+    }
 }
 
 /* "hunting for FAF320 inside a frame (status B on bus code 15 with F320 is that word, and its parity is odd)" */
@@ -299,6 +345,7 @@ int main(void)
     p9();
     p10();
     halves();
+    which_item_broke();
     sync_inside();
     crc_ends_each_track();
     over_the_edge();
@@ -312,6 +359,6 @@ int main(void)
     puts("selftest: K7, K11, K13: as document 02 says");
     selftest_shift();
     selftest_full_plan();
-    puts("selftest: K9, K5: as document 02 says");
+    puts("selftest: K9, K5, K8: as document 02 says");
     return 0;
 }

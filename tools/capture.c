@@ -45,6 +45,11 @@ uint64_t dealt_place(const vin_plan *plan, uint64_t group, uint64_t n)
     return group * group_words(plan) + n % plan->tracks * plan->words + n / plan->tracks;
 }
 
+uint64_t dealt_number(const vin_plan *plan, const stored *s)
+{
+    return (uint64_t)(s->position - 1) * plan->tracks + s->track - 1;
+}
+
 bool is_fill(const stored *s)
 {
     return s->label == LABEL_FILL && s->info == FILL_INFO;

@@ -40,6 +40,9 @@ uint64_t group_words(const vin_plan *plan);
  */
 uint64_t dealt_place(const vin_plan *plan, uint64_t group, uint64_t n);
 
+/* And back: which of its group's words in dealt order this one is. */
+uint64_t dealt_number(const vin_plan *plan, const stored *s);
+
 bool is_fill(const stored *s);
 unsigned count_ones(uint32_t word);
 

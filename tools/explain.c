@@ -5,10 +5,10 @@
 #define BIT "the bit of the log where the item or end mark begins, counted from 0"
 #define WORD "the word's number in the capture, counted from 0; its bytes begin at three times that"
 
-/* By number, some of which no refusal has: who gives it, what its place counts, and what it means to a
- * person. The short text is the header's. */
+/* By number, some of which no refusal has: who gives it, what its place counts, what it means to a person,
+ * and what its second place is, if it has one. The short text is the header's. */
 static const struct {
-    const char *given_by, *place, *meaning;
+    const char *given_by, *place, *meaning, *second;
 } numbers[] = {
     [VIN_DONE] = {"every command", "0", "The work is done."},
     [VIN_PLAN] =
@@ -64,7 +64,10 @@ static const struct {
          "a word of another bus or item inside an item that is not finished; a micro or response is\n"
          "10000 or more; a notice's two labels are not one channel's pair; or it is fill other than\n"
          "AAAA. Or the capture ends inside an item; then the place is that item's first word. vin says\n"
-         "which it is, what was awaited, and where the unfinished item began."},
+         "which it is, what was awaited, and where the unfinished item began: the second place. With\n"
+         "several tracks that may be the larger number, for words are dealt over the tracks.",
+         "the first word of the item that was unfinished when the word came, or the word itself if\n"
+         "          none was: a command, or an ARINC word after its low syllable, is finished"},
     [VIN_FILL] =
         {"check; dump marks it", WORD,
          "Fill stands where composing puts none: before a data word, in a group after the last data\n"
@@ -103,6 +106,8 @@ bool explain(FILE *to, unsigned long number)
         return false;
     fprintf(to, "%lu: %s\n\n%s\n\nGiven by: %s\nPlace:    %s\n", number, vin_text((uint32_t)number),
             numbers[number].meaning, numbers[number].given_by, numbers[number].place);
+    if (numbers[number].second)
+        fprintf(to, "Second:   %s\n", numbers[number].second);
     return true;
 }
 

@@ -22,31 +22,31 @@ static void bad_frame_time(const stored *s, char *why)
         snprintf(why, WHY_MOST, "the frame time's micro is %" PRIu32 "; it must be below 10000", s->info);
 }
 
-/* Walks to the word and says why it breaks what was before it; or that the end cuts the item that it starts.
- * The first word of the unfinished item is found here, until the answer's second place has it. */
-static void bad_data_word(const vin_plan *plan, const run *capture, uint64_t place, char *why)
+/* The answer's second place is where the item that broke begins: from there on its words are gone through up
+ * to the bad word, and it is said what that breaks; or that the capture's end cuts the item. (If no item was
+ * unfinished the second place is the bad word, which then breaks nothing and starts nothing.) */
+static void bad_data_word(const vin_plan *plan, const run *capture, const vin_answer *a, char *why)
 {
     walk w = {AWAIT_NOTHING, {0}, 0, 0, 0};
+    stored first = stored_at(plan, capture, a->second);
     uint64_t groups = capture_words(capture) / group_words(plan);
-    for (uint64_t group = 0; group < groups; group++)
-        for (uint64_t n = plan->tracks; n < group_words(plan); n++) {
+    for (uint64_t group = first.group; group < groups; group++)
+        for (uint64_t n = group == first.group ? dealt_number(plan, &first) : plan->tracks;
+             n < group_words(plan); n++) {
             stored s = stored_at(plan, capture, dealt_place(plan, group, n));
             walk before = w;
-            if (s.slot == SLOT_DATA && walk_word(&w, plan, &s) == STEP_BREAKS && s.place == place) {
+            if (s.slot == SLOT_DATA && walk_word(&w, plan, &s) == STEP_BREAKS) {
                 tell_break(plan, &before, &s, why);
                 return;
             }
         }
-    if (is_unfinished(&w) && w.first.place == place)
-        tell_cut(plan, &w, why);
-    else
-        snprintf(why, WHY_MOST, "%s", vin_text(VIN_DATA_WORD));
+    tell_cut(plan, &w, why);
 }
 
 /* The next data word behind a word, in dealt order; false if there is none. */
 static bool next_data(const vin_plan *plan, const run *capture, const stored *from, stored *next)
 {
-    uint64_t first = (uint64_t)(from->position - 1) * plan->tracks + from->track;
+    uint64_t first = dealt_number(plan, from) + 1;
     for (uint64_t group = from->group; group < capture_words(capture) / group_words(plan); group++)
         for (uint64_t n = group == from->group ? first : plan->tracks; n < group_words(plan); n++) {
             *next = stored_at(plan, capture, dealt_place(plan, group, n));
@@ -69,10 +69,10 @@ static void bad_fill(const vin_plan *plan, const run *capture, const stored *s, 
         snprintf(why, WHY_MOST, "misplaced fill: neither its group nor a later one has a data word");
 }
 
-static void bad_word(const call *c, const stored *s, unsigned number, char *why)
+static void bad_word(const call *c, const stored *s, const vin_answer *a, char *why)
 {
     const vin_plan *plan = &c->plan.plan;
-    switch (number) {
+    switch (a->number) {
     case VIN_SYNC: snprintf(why, WHY_MOST, "the sync word FAF320 belongs here"); break;
     case VIN_PARITY:
         snprintf(why, WHY_MOST, "it has %u ones, an even number, and the plan has parity",
@@ -83,7 +83,7 @@ static void bad_word(const call *c, const stored *s, unsigned number, char *why)
                  frame_crc(plan, &c->capture, s->place + 1 - plan->words));
         break;
     case VIN_FRAME_TIME: bad_frame_time(s, why); break;
-    case VIN_DATA_WORD: bad_data_word(plan, &c->capture, s->place, why); break;
+    case VIN_DATA_WORD: bad_data_word(plan, &c->capture, a, why); break;
     case VIN_FILL: bad_fill(plan, &c->capture, s, why); break;
     case VIN_NOTICE:
         snprintf(why, WHY_MOST,
@@ -91,19 +91,19 @@ static void bad_word(const call *c, const stored *s, unsigned number, char *why)
                  " without its ARINC word: the channel's next notice, or the end, comes first",
                  s->bus);
         break;
-    default: snprintf(why, WHY_MOST, "%s", vin_text(number));
+    default: snprintf(why, WHY_MOST, "%s", vin_text(a->number));
     }
 }
 
 static void say_word_refused(const call *c, vin_answer a)
 {
     char why[WHY_MOST];
-    if (a.place >= capture_words(&c->capture)) {
+    if (a.place >= capture_words(&c->capture) || a.second >= capture_words(&c->capture)) {
         say_plainly(c->capture_name, a);
         return;
     }
     stored s = stored_at(&c->plan.plan, &c->capture, a.place);
-    bad_word(c, &s, a.number, why);
+    bad_word(c, &s, &a, why);
     complain("%s: refused by %" PRIu32 " at %s: %06" PRIX32 ": %s", input_name(c->capture_name).text,
              a.number, tell_place(&s).text, s.word, why);
     if (a.number == VIN_SYNC || a.number == VIN_CRC || a.number == VIN_DATA_WORD || a.number == VIN_FILL)

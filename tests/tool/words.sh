@@ -47,6 +47,22 @@ refused "vin: bad: refused by 13 at word 131 (group 0, track 2, word 3): 2D0001:
 bytes "$(group 2D0001 2D0001)$(group 240001 2E0001)" >bad
 refused "vin: bad: refused by 13 at word 2 (group 0, track 1, word 3): 2D0001: data A on bus 2: a response time at word 130 (group 0, track 2, word 2) waits for its status on bus 2" \
     check p bad
+# Both places, on 2, 3 and 4 tracks: user words, then a response on the last track, and a data word on the first, whose place is smaller;
+# and the response cut at the end, whose places are one.
+for tracks in 2 3 4; do
+    plan "words 129" "tracks $tracks" "bus 2 1553"
+    first="word $((129 * (tracks - 1) + 1)) (group 0, track $tracks, word 2)"
+    others=
+    for ((n = 2; n < tracks; n++)); do others+=$(group 220001); done
+    bytes "$(group 220001 2D0001)$others$(group 240001)" >bad
+    refused "vin: bad: refused by 13 at word 2 (group 0, track 1, word 3): 2D0001: data A on bus 2: a response time at $first waits for its status on bus 2" \
+        read p bad -o new
+    bytes "$(group 220001)$others$(group 240001)" >bad
+    refused "vin: bad: refused by 13 at $first: 240001: response time on bus 2: the capture ends before its status" check p bad
+    bytes "$(group 2F0001 270001)$others$(group 220001)" >bad # the command is finished: both places are the time word's
+    refused "vin: bad: refused by 13 at word 2 (group 0, track 1, word 3): 270001: time high on bus 2: no command of that bus stands before it" \
+        read p bad -o new
+done
 mv one p
 
 # 14: which of the three.

@@ -142,7 +142,7 @@ fn compose_line(line: &[u8], p: Numbers, log: &[u8], times: &[u8], capture: &mut
         capture,
         size(line, 3),
     );
-    say_checked(b" c", composed, number(line, 4), number(line, 5));
+    say_checked(b" c", composed, number(line, 4), number(line, 5), 0);
 }
 
 fn read_plain(line: &[u8], p: Numbers, capture: &[u8]) {
@@ -154,11 +154,17 @@ fn read_plain(line: &[u8], p: Numbers, capture: &[u8]) {
         size(line, 2),
         size(line, 3),
     );
-    say_checked(b" r", read, number(line, 4), number(line, 5));
+    say_checked(
+        b" r",
+        read,
+        number(line, 4),
+        number(line, 5),
+        number(line, 6),
+    );
 }
 
-// r CAPTURE LOG TIMES NUMBER VALUE NUMBER VALUE: both readings of so many bytes of capture into so many of log and times; the plain
-// one's answer, and the closed one's
+// r CAPTURE LOG TIMES NUMBER VALUE SECOND NUMBER VALUE SECOND: both readings of so many bytes of capture into so many of log and times; the
+// plain one's answer, and the closed one's
 fn read_both(line: &[u8], p: Numbers, capture: &[u8]) {
     read_plain(line, p, capture);
     let read = reading(
@@ -169,7 +175,13 @@ fn read_both(line: &[u8], p: Numbers, capture: &[u8]) {
         size(line, 2),
         size(line, 3),
     );
-    say_checked(b" x", read, number(line, 6), number(line, 7));
+    say_checked(
+        b" x",
+        read,
+        number(line, 7),
+        number(line, 8),
+        number(line, 9),
+    );
 }
 
 // k LENGTH: the plan with only so many kinds lent; y LABEL BUS: the whole plan, with a label and a fill bus code

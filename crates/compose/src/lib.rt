@@ -85,7 +85,7 @@ fn times_needed(plan: Plan, groups: usize) -> usize
 }
 
 fn refusal(number: u32, place: usize) -> Answer
-    ensures { λ r. ⌜ r ≡ refusal number place ⌝ }
+    ensures { λ r. ⌜ r ≡ refusal number place 0 ⌝ }
 {
     Answer {
         number,

@@ -22,11 +22,11 @@ use Rattle.data_word.specs.Holding.{heldOf}
 pub use Rattle.data_items.proofs.Words.{yes-or-no}
 
 pub more-more : (is js : List Item) (r : Ran) → more is (more js r) ≡ more (is ++ js) r
-more-more is js (badAt p) = refl
+more-more is js (badAt p q) = refl
 more-more is js (ran ks h p) = ap (λ (l : List Item). ran l h p) (sym (append-assoc is js ks))
 
 pub more-none : (r : Ran) → more [] r ≡ r
-more-none (badAt q) = refl
+more-none (badAt q r) = refl
 more-none (ran is h q) = refl
 
 -- nothing is held where nothing is awaited
@@ -67,9 +67,10 @@ starts-fresh Arinc429 bus label info =
     (fresh-cond (eqb label 2) _ _ (λ q r here. refl)
     (fresh-cond (eqb label 0) _ _ (λ q r here. refl) tt))))
 
-join-after : (i : Item) (f : Fed) (q r here : ℕ) (go : Held → ℕ → Ran) → Fresh f → join (after i f) q here go ≡ more (i ∷ []) (join f r here go)
-join-after i bad q r here go x = refl
-join-after i (fed is h) q r here go x = ap (λ (k : ℕ). more (i ∷ is) (go h k)) (x q r here) ∙ sym (more-more (i ∷ []) is (go h (since h r here)))
+join-after : (i : Item) (f : Fed) (q r second here : ℕ) (go : Held → ℕ → Ran) → Fresh f
+    → join (after i f) q second here go ≡ more (i ∷ []) (join f r second here go)
+join-after i bad q r second here go x = refl
+join-after i (fed is h) q r second here go x = ap (λ (k : ℕ). more (i ∷ is) (go h k)) (x q r here) ∙ sym (more-more (i ∷ []) is (go h (since h r here)))
 
 no-tag : (label bus b : ℕ) → (b * 16 + 7 ≡ bus * 16 + label → ⊥) → (eqb label 7 && eqb bus b) ≡ false
 no-tag label bus b n =
@@ -81,10 +82,10 @@ no-tag label bus b n =
     absurd (n (omega arith)))
     (λ e. e)
 
--- a command or an ARINC word is finished where the next word is not its tag
-pub flushed : (ks : List Kind) (x : Base) (bus label info q r here : ℕ) (go : Held → ℕ → Ran) → (baseBus x * 16 + 7 ≡ bus * 16 + label → ⊥)
-    → join (feed ks (Taggable x) bus label info) q here go ≡ more (withTag x Untagged ∷ []) (join (feed ks Nothing bus label info) r here go)
+-- a command or an ARINC word is finished where the next word is not its tag; if that is bad, it broke nothing
+pub flushed : (ks : List Kind) (x : Base) (bus label info q r second here : ℕ) (go : Held → ℕ → Ran) → (baseBus x * 16 + 7 ≡ bus * 16 + label → ⊥)
+    → join (feed ks (Taggable x) bus label info) q second here go ≡ more (withTag x Untagged ∷ []) (join (feed ks Nothing bus label info) r second here go)
 unfolding feed
-flushed ks x bus label info q r here go n =
-    rw (no-tag label bus (baseBus x) n) (join-after (withTag x Untagged) (starts (kindOn ks bus) bus label info) q r here go
+flushed ks x bus label info q r second here go n =
+    rw (no-tag label bus (baseBus x) n) (join-after (withTag x Untagged) (starts (kindOn ks bus) bus label info) q r second here go
     (starts-fresh (kindOn ks bus) bus label info))

@@ -8,7 +8,7 @@ use mathlib.Core.List.{List, [], _∷_, _++_}
 use lib.ListN.{length, drop, getD}
 use borrow.Author.Tests.{eq-eqb, lt-ltb}
 use Rattle.format.specs.Word.{isFill, busOf, labelOf, infoOf}
-use Rattle.format.specs.Reader.{Slot, Fed, fed, Ran, run, more, join, feed, since, counted, withTag, baseBus}
+use Rattle.format.specs.Reader.{Slot, Fed, fed, Ran, run, more, join, feed, since, begun, counted, withTag, baseBus}
 use Rattle.format.specs.declared.Kind.{Kind}
 use Rattle.format.specs.declared.Item.{Item}
 use Rattle.format.specs.declared.Base.{Base}
@@ -42,7 +42,7 @@ module _ (ks : List Kind) (parity : Bool) (row : List ℕ) where
   rest n j h q = run ks parity (counted (n + j) (drop j row)) h q
 
   run-word : (n j k : ℕ) (h : Held) (q : ℕ) (f : Fed) → j + 1 ≡ k → j < length row → isFill (word j) ≡ false → fedAt h j ≡ f
-      → rest n j h q ≡ join f q (n + j) (λ h′ q′. rest n k h′ q′)
+      → rest n j h q ≡ join f q (begun h q (n + j)) (n + j) (λ h′ q′. rest n k h′ q′)
   unfolding run
   run-word n j k h q f z l nf e = ap (λ (ss : List Slot). run ks parity ss h q) (counted-next n j row l) ∙ rw (nf, e, z) refl
 
@@ -87,7 +87,7 @@ module _ (ks : List Kind) (parity : Bool) (row : List ℕ) where
   goes-bare {i} {j} {s} x g l nf e s′ = record {
     is = λ n old.
         g .is n old ∙ more-none (rest n j (Taggable x) (n + s)) ∙ run-word n j (j + 1) (Taggable x) (n + s) (fedAt (Taggable x) j) refl l nf refl
-        ∙ flushed ks x (busOf parity (word j)) (labelOf (word j)) (infoOf (word j)) (n + s) (n + s′) (n + j) (λ h q. rest n (j + 1) h q) e
+        ∙ flushed ks x (busOf parity (word j)) (labelOf (word j)) (infoOf (word j)) (n + s) (n + s′) (n + j) (n + j) (λ h q. rest n (j + 1) h q) e
         ∙ ap (more (withTag x Untagged ∷ [])) (sym (run-word n j (j + 1) Nothing (n + s′) (fedAt Nothing j) refl l nf refl));
     unfilled = g .unfilled;
   }

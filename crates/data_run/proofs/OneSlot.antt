@@ -8,7 +8,7 @@ use lib.ListN.{length}
 use Rattle.format.specs.Bits.{bitsOf}
 use Rattle.format.specs.Word.{isFill, busOf, labelOf, infoOf}
 use Rattle.format.specs.Item.{itemBits}
-use Rattle.format.specs.Reader.{Slot, Fed, bad, fed, Ran, badAt, run, more, join, feed, since}
+use Rattle.format.specs.Reader.{Slot, Fed, bad, fed, Ran, badAt, run, more, join, feed, since, begun}
 use Rattle.format.specs.declared.Kind.{Kind}
 use Rattle.format.specs.declared.Item.{Item}
 use Rattle.format.specs.declared.Held.{Held}
@@ -94,7 +94,7 @@ word-fits ks parity w x low sane e z =
 -- fill, as the code has it
 pub word-fill : (ks : List Kind) (parity : Bool) (code i number word : ℕ) (x : Pass) {bus : ℕ} {odd : Bool} {f : Fills} → isFill word ≡ true → bus ≡ busOf parity word
     → odd ≡ oddFill code i bus → f ≡ onFill (x .fills) number odd
-    → record { held = x .held; since = x .since; pen = x .pen; fills = f; bad = false } ≡ wordPass ks parity code i number word x
+    → record { held = x .held; since = x .since; pen = x .pen; fills = f; bad = 0 } ≡ wordPass ks parity code i number word x
 unfolding wordPass
 word-fill ks parity code i number word x e b o f = rw (e, f, o, b) refl
 
@@ -109,7 +109,7 @@ module _ (ks : List Kind) (parity : Bool) (code : ℕ) (slots : List Slot) (x₀
   run-fill e = rw e refl
 
   run-data : (f : Fed) → isFill (s .1) ≡ false → feed ks (heldOf (x .held)) (busOf parity (s .1)) (labelOf (s .1)) (infoOf (s .1)) ≡ f
-      → now-run ≡ join f (x .since) (s .0) (λ h q. run ks parity rest h q)
+      → now-run ≡ join f (x .since) (begun (heldOf (x .held)) (x .since) (s .0)) (s .0) (λ h q. run ks parity rest h q)
   unfolding run
   run-data f e g = rw (e, g) refl
 
@@ -153,29 +153,31 @@ module _ (ks : List Kind) (parity : Bool) (code : ℕ) (slots : List Slot) (x₀
 
   along-bad : (f : Fed) → isFill (s .1) ≡ false → feed ks (heldOf (x .held)) (busOf parity (s .1)) (labelOf (s .1)) (infoOf (s .1)) ≡ f → (r : Step) → Means f r
       → r .bad ≡ true → Along ks parity code slots x₀ out₀ i (s ∷ rest) x out
-      → run ks parity slots (heldOf (x₀ .held)) (x₀ .since) ≡ badAt (s .0)
+      → run ks parity slots (heldOf (x₀ .held)) (x₀ .since) ≡ badAt (s .0) (begun (heldOf (x .held)) (x .since) (s .0))
   along-bad bad e g r m z a = a .is ∙ ap (more (a .items)) (run-data bad e g)
   along-bad (fed is h) e g r m z a = clash (sym (m .good) ∙ z)
 
   -- what the slot does, as the code has it
   pub along-step : s .1 < 2 ^ 24 → Along ks parity code slots x₀ out₀ i (s ∷ rest) x out
-      → wordPass ks parity code i (s .0) (s .1) x .bad ≡ false
+      → wordPass ks parity code i (s .0) (s .1) x .bad ≡ 0
       → Along ks parity code slots x₀ out₀ (i + 1) rest (wordPass ks parity code i (s .0) (s .1) x) (wordOut ks parity (s .1) x out)
   unfolding wordPass wordOut
   along-step low a z =
       yes-or-no (isFill (s .1)) (λ e. rw e (along-fill e a))
       (λ e.
       let r : Step = wordStep ks parity (s .1) x in
-      let y : stepPass (s .0) x r .bad ≡ false = rw e at z in
-      yes-or-no (r .bad) (λ b. clash (sym (rw b at y)))
+      let y : stepPass (s .0) x r .bad ≡ 0 = rw e at z in
+      yes-or-no (r .bad) (λ b. let w : s .0 + 1 ≡ 0 = rw b at y in absurd (omega arith))
       (λ b. rw e (rw b (rw b at (along-fed _ e refl r (word-means ks parity (s .1) x low (a .brought .sound .sane)) b a)))))
 
-  pub along-stop : s .1 < 2 ^ 24 → Along ks parity code slots x₀ out₀ i (s ∷ rest) x out → wordPass ks parity code i (s .0) (s .1) x .bad ≡ true
-      → (run ks parity slots (heldOf (x₀ .held)) (x₀ .since) ≡ badAt (s .0)) × (wordPass ks parity code i (s .0) (s .1) x .since ≡ s .0)
+  pub along-stop : s .1 < 2 ^ 24 → Along ks parity code slots x₀ out₀ i (s ∷ rest) x out → (wordPass ks parity code i (s .0) (s .1) x .bad ≡ 0 → ⊥)
+      → (run ks parity slots (heldOf (x₀ .held)) (x₀ .since) ≡ badAt (s .0) (wordPass ks parity code i (s .0) (s .1) x .since))
+      × (wordPass ks parity code i (s .0) (s .1) x .bad ≡ s .0 + 1)
   unfolding wordPass
   along-stop low a z =
-      yes-or-no (isFill (s .1)) (λ e. clash (rw e at z))
+      yes-or-no (isFill (s .1)) (λ e. absurd (z (rw e refl)))
       (λ e.
       let r : Step = wordStep ks parity (s .1) x in
-      let y : stepPass (s .0) x r .bad ≡ true = rw e at z in
-      yes-or-no (r .bad) (λ b. (along-bad _ e refl r (word-means ks parity (s .1) x low (a .brought .sound .sane)) b a, rw (e, b) refl)) (λ b. clash (rw b at y)))
+      yes-or-no (r .bad)
+      (λ b. (rw (e, b) (along-bad _ e refl r (word-means ks parity (s .1) x low (a .brought .sound .sane)) b a), rw (e, b) refl))
+      (λ b. absurd (z (rw (e, b) refl))))

@@ -11,7 +11,7 @@ use lib.Dec.{eqb, leb}
 use borrow.Author.Tests.{eq-eqb, eqb-true, leb-false, leb-true, lt-ltb, ne-eqb}
 use Rattle.format.specs.Word.{fill, isFill, busOf, labelOf, infoOf, sent}
 use Rattle.format.specs.Item.{itemBits}
-use Rattle.format.specs.Reader.{Slot, Fed, bad, fed, Ran, badAt, ran, run, more, join, feed, since, counted}
+use Rattle.format.specs.Reader.{Slot, Fed, bad, fed, Ran, badAt, ran, run, more, join, feed, since, begun, counted}
 use Rattle.format.specs.declared.Kind.{Kind}
 use Rattle.format.specs.declared.Item.{Item}
 use Rattle.format.specs.declared.Held.{Held}
@@ -140,18 +140,18 @@ module _ (blank : ℕ) where
 
 -- the run goes on behind the front
 abbrev andThen : Ran → (Held → ℕ → Ran) → Ran
-andThen (badAt p) go = badAt p
+andThen (badAt p q) go = badAt p q
 andThen (ran is h p) go = more is (go h p)
 
 more-then : (is : List Item) (r : Ran) (go : Held → ℕ → Ran) → andThen (more is r) go ≡ more is (andThen r go)
-more-then is (badAt p) go = refl
+more-then is (badAt p q) go = refl
 more-then is (ran js h p) go = sym (more-more is js (go h p))
 
 module _ (ks : List Kind) (parity : Bool) where
-  join-then : (f : Fed) (old here : ℕ) (go go′ : Held → ℕ → Ran) (next : Held → ℕ → Ran) → ((h : Held) (p : ℕ) → go′ h p ≡ andThen (go h p) next)
-      → join f old here go′ ≡ andThen (join f old here go) next
-  join-then bad old here go go′ next e = refl
-  join-then (fed is h) old here go go′ next e = ap (more is) (e h (since h old here)) ∙ sym (more-then is (go h (since h old here)) next)
+  join-then : (f : Fed) (old second here : ℕ) (go go′ : Held → ℕ → Ran) (next : Held → ℕ → Ran) → ((h : Held) (p : ℕ) → go′ h p ≡ andThen (go h p) next)
+      → join f old second here go′ ≡ andThen (join f old second here go) next
+  join-then bad old second here go go′ next e = refl
+  join-then (fed is h) old second here go go′ next e = ap (more is) (e h (since h old here)) ∙ sym (more-then is (go h (since h old here)) next)
 
   run-append : (ss ts : List Slot) (h : Held) (p : ℕ) → run ks parity (ss ++ ts) h p ≡ andThen (run ks parity ss h p) (λ h p. run ks parity ts h p)
   unfolding run
@@ -162,10 +162,10 @@ module _ (ks : List Kind) (parity : Bool) where
       f = feed ks h (busOf parity (s .1)) (labelOf (s .1)) (infoOf (s .1))
 
       go : (t : Bool) → ((h : Held) (p : ℕ) → run ks parity (ss ++ ts) h p ≡ andThen (run ks parity ss h p) (λ h p. run ks parity ts h p))
-          → cond t (run ks parity (ss ++ ts) h p) (join f p (s .0) (λ h p. run ks parity (ss ++ ts) h p))
-          ≡ andThen (cond t (run ks parity ss h p) (join f p (s .0) (λ h p. run ks parity ss h p))) (λ h p. run ks parity ts h p)
+          → cond t (run ks parity (ss ++ ts) h p) (join f p (begun h p (s .0)) (s .0) (λ h p. run ks parity (ss ++ ts) h p))
+          ≡ andThen (cond t (run ks parity ss h p) (join f p (begun h p (s .0)) (s .0) (λ h p. run ks parity ss h p))) (λ h p. run ks parity ts h p)
       go true ih = ih h p
-      go false ih = join-then f p (s .0) (λ h p. run ks parity ss h p) (λ h p. run ks parity (ss ++ ts) h p) (λ h p. run ks parity ts h p) ih
+      go false ih = join-then f p (begun h p (s .0)) (s .0) (λ h p. run ks parity ss h p) (λ h p. run ks parity (ss ++ ts) h p) (λ h p. run ks parity ts h p) ih
 
   module _ (row : List ℕ) (e : ℕ) (within : e ≤ length row) where
     front-long : length (take e row) ≡ e
@@ -286,16 +286,16 @@ module _ (ks : List Kind) (parity : Bool) (code : ℕ) (row : List ℕ) (from : 
   next i h a = rw (counted-next from i row h) at a
 
   pub passed-more : (i : ℕ) {x r : Pass} {out out′ : List ℕ} → i < length row → word i < 2 ^ 24 → Passed i x out
-      → (r ≡ wordPass ks parity code i (from + i) (word i) x) × (out′ ≡ wordOut ks parity (word i) x out) → r .bad ≡ false → Passed (i + 1) r out′
+      → (r ≡ wordPass ks parity code i (from + i) (word i) x) × (out′ ≡ wordOut ks parity (word i) x out) → r .bad ≡ 0 → Passed (i + 1) r out′
   passed-more i {x} {r} {out} {out′} h low a e z =
       rw (e .0, e .1) (along-step ks parity code (counted from row) x₀ out₀ i (from + i, word i) (rest (i + 1)) x out low (next i h a) (rw (e .0) at z))
 
   pub passed-bad : (i : ℕ) {x r : Pass} {out : List ℕ} (out′ : List ℕ) (f : Fills) → i < length row → word i < 2 ^ 24 → Passed i x out
-      → r ≡ wordPass ks parity code i (from + i) (word i) x → r .bad ≡ true
+      → r ≡ wordPass ks parity code i (from + i) (word i) x → (r .bad ≡ 0 → ⊥)
       → RanTo x₀ out₀ (run ks parity (counted from row) (heldOf (x₀ .held)) (x₀ .since)) f r out′
   passed-bad i {x} {r} {out} out′ f h low a e z =
-      let b = along-stop ks parity code (counted from row) x₀ out₀ i (from + i, word i) (rest (i + 1)) x out low (next i h a) (rw e at z) in
-      subst (λ (y : Ran). RanTo x₀ out₀ y f r out′) (sym (b .0)) (z, ap (λ (y : Pass). y .since) e ∙ b .1)
+      let b = along-stop ks parity code (counted from row) x₀ out₀ i (from + i, word i) (rest (i + 1)) x out low (next i h a) (λ y. z (ap (λ (p : Pass). p .bad) e ∙ y)) in
+      subst (λ (y : Ran). RanTo x₀ out₀ y f r out′) (sym (b .0)) (ap (λ (y : Pass). y .bad) e ∙ b .1, ap (λ (y : Pass). y .since) e)
 
   pub passed-all : (i : ℕ) {x : Pass} {out : List ℕ} → length row ≤ i → Passed i x out
       → RanTo x₀ out₀ (run ks parity (counted from row) (heldOf (x₀ .held)) (x₀ .since)) (fillsIn parity code 0 (counted from row) (x₀ .fills)) x out
@@ -352,7 +352,7 @@ module _ (ks : List Kind) (parity : Bool) (code : ℕ) (low : code < buses parit
   blank = sent parity (fill code)
 
   module _ (i w : ℕ) (x : Pass) (e : quiet blank (x .fills) i w ≡ true) where
-    quiet-pass : (place : ℕ) → x .bad ≡ false → x ≡ wordPass ks parity code i place w x
+    quiet-pass : (place : ℕ) → x .bad ≡ 0 → x ≡ wordPass ks parity code i place w x
     unfolding wordPass
     quiet-pass place good =
         let q = quiet-is blank (x .fills) i w e in

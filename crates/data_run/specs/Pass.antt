@@ -7,7 +7,7 @@ use lib.ListN.{length, getD}
 use lib.Dec.{leb}
 use Rattle.format.specs.Word.{isFill, busOf, labelOf, infoOf}
 use Rattle.format.specs.Item.{itemBits}
-use Rattle.format.specs.Reader.{Slot, Ran, badAt, ran, run, more, feed, since}
+use Rattle.format.specs.Reader.{Slot, Ran, badAt, ran, run, more, feed, since, begun}
 use Rattle.format.specs.declared.Kind.{Kind}
 use Rattle.format.specs.declared.Held.{Held}
 use Rattle.format.specs.declared.Item.{Item}
@@ -26,7 +26,7 @@ use Rattle.log_write.specs.Pen.{penPut, penIn, Wrote}
 -- fill is looked at and dropped
 abbrev pub fillPass : Bool → ℕ → ℕ → ℕ → ℕ → Pass → Pass
 fillPass parity code i number word x =
-    record { held = x .held; since = x .since; pen = x .pen; fills = onFill (x .fills) number (oddFill code i (busOf parity word)); bad = false }
+    record { held = x .held; since = x .since; pen = x .pen; fills = onFill (x .fills) number (oddFill code i (busOf parity word)); bad = 0 }
 
 -- a step's two strings go to the log
 abbrev pub stepPen : Pen → Step → Pen
@@ -42,11 +42,11 @@ pub record Strings (r : Step) : Type 0 where
   pub first-short : r .«first_width» ≤ 56
   pub second-short : r .«second_width» ≤ 56
 
--- a bad word is told by its number
+-- a bad word is told by its number, one up, and by that of the first word of the item that it broke
 abbrev pub stepPass : ℕ → Pass → Step → Pass
 stepPass number x r =
-    cond (r .bad) (record { held = x .held; since = number; pen = x .pen; fills = x .fills; bad = true })
-    (record { held = r .held; since = since (heldOf (r .held)) (x .since) number; pen = stepPen (x .pen) r; fills = onData (x .fills); bad = false })
+    cond (r .bad) (record { held = x .held; since = begun (heldOf (x .held)) (x .since) number; pen = x .pen; fills = x .fills; bad = number + 1 })
+    (record { held = r .held; since = since (heldOf (r .held)) (x .since) number; pen = stepPen (x .pen) r; fills = onData (x .fills); bad = 0 })
 
 abbrev pub passOut : List ℕ → Pass → Step → List ℕ
 passOut out x r = cond (r .bad) out (stepOut out (x .pen) r)
@@ -78,7 +78,7 @@ abbrev pub takenFrom : Pass → ℕ → Taken
 takenFrom x i = record { slot = i; pen = x .pen }
 
 abbrev pub itemsPass : Pass → Taken → ℕ → Pass
-itemsPass x t from = record { held = x .held; since = from + t .slot - 1; pen = t .pen; fills = onData (x .fills); bad = false }
+itemsPass x t from = record { held = x .held; since = from + t .slot - 1; pen = t .pen; fills = onData (x .fills); bad = 0 }
 
 pub record FromPass (ks : List Kind) (parity : Bool) (row : List ℕ) (x : Pass) (i : ℕ) (out : List ℕ) (t : Taken) (out′ : List ℕ) : Type 0 where
   pub some : i < t .slot → (x .held .awaits ≡ 0) × Took ks parity row (takenFrom x i) out t out′
@@ -87,7 +87,7 @@ pub record FromPass (ks : List Kind) (parity : Bool) (row : List ℕ) (x : Pass)
 
 -- what is carried can go on
 pub record Sound (x : Pass) : Type 0 where
-  pub good : x .bad ≡ false
+  pub good : x .bad ≡ 0
   pub sane : Sane (x .held)
 
 -- from the pass x₀ and the array out₀ the items `is` were finished, and x and `out` are what is carried now
@@ -96,16 +96,16 @@ pub record Brought (x₀ : Pass) (out₀ : List ℕ) (is : List Item) (x : Pass)
   pub long : length out ≡ length out₀
   pub wrote : (bits : List ℕ) → Wrote bits out₀ (x₀ .pen) → Wrote (bits ++ flatMap itemBits is) out (x .pen)
 
--- a run over the words of a row: told by the number of its bad word, or gone on with
+-- a run over the words of a row: told by the numbers of its bad word and of the first word of the item that broke, or gone on with
 abbrev pub RanTo : Pass → List ℕ → Ran → Fills → Pass → List ℕ → Type 0
-RanTo x₀ out₀ (badAt place) f x out = (x .bad ≡ true) × (x .since ≡ place)
+RanTo x₀ out₀ (badAt place second) f x out = (x .bad ≡ place + 1) × (x .since ≡ second)
 RanTo x₀ out₀ (ran is h place) f x out = Brought x₀ out₀ is x out × (heldOf (x .held) ≡ h) × (x .since ≡ place) × (x .fills ≡ f)
 
--- what of it is one: whether a word was bad, and its number or that of what is held; and after a good run what is held and the fill.
+-- what of it is one: the number of a bad word or 0, and that of what broke or of what is held; and after a good run what is held and the fill.
 -- After a bad word the other numbers are read by nobody; the pen and the array are told by the bits they hold.
 pub ran-to-one : (x₀ : Pass) (out₀ : List ℕ) (t : Ran) (f : Fills) (x x′ : Pass) (out out′ : List ℕ)
     → RanTo x₀ out₀ t f x out → RanTo x₀ out₀ t f x′ out′ → (x .bad ≡ x′ .bad) × (x .since ≡ x′ .since)
-ran-to-one x₀ out₀ (badAt place) f x x′ out out′ a b = (a .0 ∙ sym (b .0), a .1 ∙ sym (b .1))
+ran-to-one x₀ out₀ (badAt place second) f x x′ out out′ a b = (a .0 ∙ sym (b .0), a .1 ∙ sym (b .1))
 ran-to-one x₀ out₀ (ran is h place) f x x′ out out′ a b = (a .0 .sound .good ∙ sym (b .0 .sound .good), a .2 ∙ sym (b .2))
 
 pub ran-held-one : (x₀ : Pass) (out₀ : List ℕ) (is : List Item) (h : Held) (place : ℕ) (f : Fills) (x x′ : Pass) (out out′ : List ℕ)

@@ -22,14 +22,15 @@ use data_word::Step;
 use format::Kind;
 use log_write::Pen;
 
-// What is carried from word to word: what is held and the number of its first word (of a bad word, if one came), the log so far
-// and the fill so far. A word's number is its place among the data words in dealt order.
+// What is carried from word to word: what is held and the number of its first word, the log so far, the fill so far, and the number
+// of a bad word, one up, or 0 if none came. Behind a bad word `since` is the number of the first word of the item that it broke, or
+// its own if it broke none. A word's number is its place among the data words in dealt order.
 pub struct Pass {
     pub held: Holding,
     pub since: u64,
     pub pen: Pen,
     pub fills: Fills,
-    pub bad: bool,
+    pub bad: u64,
 }
 
 // The bits of the items that a word finished.
@@ -43,19 +44,21 @@ pub fn put_step(pen: Pen, out: &mut [u8], step: Step) -> Pen
 
 // A data word that was fed.
 fn on_step(pass: Pass, number: u64, step: Step, out: &mut [u8]) -> Pass
-    requires { ⌜ (pass .pen .bits < 2 ^ 60) × (step .bad ≡ false → Strings step × Sane (step .held)) ⌝ }
+    requires { ⌜ Sound pass × (pass .pen .bits < 2 ^ 60) × (number < 2 ^ 40) × (step .bad ≡ false → Strings step × Sane (step .held)) ⌝ }
     ensures { λ r. ⌜ (r ≡ stepPass number pass step) × (now (out .exit) ≡ passOut (now (out .entry)) pass step) ⌝ }
 {
     let fills = pass.fills;
     if step.bad {
         let held = pass.held;
         let pen = pass.pen;
+        let since = data_word::begun(held, pass.since, number);
+        let bad = number + 1;
         return Pass {
             held: held,
-            since: number,
+            since: since,
             pen: pen,
             fills: fills,
-            bad: true,
+            bad: bad,
         };
     }
     let held = step.held;
@@ -66,7 +69,7 @@ fn on_step(pass: Pass, number: u64, step: Step, out: &mut [u8]) -> Pass
         since: since,
         pen: pen,
         fills: on_data(fills),
-        bad: false,
+        bad: 0,
     }
 }
 
@@ -94,7 +97,7 @@ fn on_word(
             since: pass.since,
             pen: pen,
             fills: fills,
-            bad: false,
+            bad: 0,
         };
     }
     let step = data_word::feed(
@@ -201,7 +204,7 @@ fn on_items(pass: Pass, taken: Taken, from: u64) -> Pass
         since: since,
         pen: pen,
         fills: on_data(pass.fills),
-        bad: false,
+        bad: 0,
     }
 }
 
@@ -217,7 +220,7 @@ pub fn on_row(
 ) -> Pass
     requires { ⌜ Sound pass × Words (now row) × (pass .pen .bits ≤ 128 * from) × (from + length (now row) < 2 ^ 40) × (code < buses parity) ⌝ }
     ensures { λ r. ⌜ RanTo pass (now (out .entry)) (run kinds parity (counted from (now (row .entry))) (heldOf (pass .held)) (pass .since)) (fillsIn parity code 0 (counted from (now (row .entry))) (pass .fills)) r (now (out .exit)) ⌝ }
-    ensures { λ r. ⌜ (r .bad ≡ false → r .pen .bits ≤ 128 * (from + length (now (row .entry)))) ⌝ }
+    ensures { λ r. ⌜ (r .bad ≡ 0 → r .pen .bits ≤ 128 * (from + length (now (row .entry)))) ⌝ }
 {
     let mut pass = pass;
     let mut i: usize = 0;
@@ -234,7 +237,7 @@ pub fn on_row(
             continue;
         }
         pass = on_word(pass, kinds, parity, code, i, from + i as u64, row[i], out);
-        if pass.bad {
+        if pass.bad != 0 {
             return pass;
         }
         i += 1;

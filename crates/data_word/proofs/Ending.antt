@@ -1,11 +1,11 @@
--- The place of what is held, and the end of the capture.
+-- The place of what is held, that of the item that a bad word breaks, and the end of the capture.
 use Prim.Native.Nat.{ℕ, _+_, _*_, _%_, _<_, _≤_}
 use native.Mathlib.Omega.{arith}
 use mathlib.Core.Path.{_≡_, refl}
 use mathlib.Core.List.{flatMap}
 use borrow.Author.Tests.{lt-ltb, le-ltb}
 use Rattle.format.specs.Item.{itemFields}
-use Rattle.format.specs.Reader.{since}
+use Rattle.format.specs.Reader.{since, begun}
 use Rattle.format.specs.Read.{finish}
 use Rattle.format.specs.declared.Base.the-variants as base
 use Rattle.format.specs.declared.Held.{Held}
@@ -78,6 +78,50 @@ module _ (old here : ℕ) where
 
   pub since-this-word : (g : Holding) → Sane g → AtFirst g (heldOf g)
   since-this-word = sane-ind AtFirst at-first
+
+-- the item that a bad word breaks
+module _ (first here : ℕ) where
+  abbrev pub BreaksNothing : Holding → Held → Type 0
+  BreaksNothing g h = g .awaits ≡ 0 → here ≡ begun h first here
+
+  breaks-nothing : (h : Held) → Fits h → BreaksNothing (flat h) h
+  breaks-nothing Nothing f e = refl
+  breaks-nothing (Taggable x) f e = absurd (omega arith)
+  breaks-nothing (Half b c high) f e = absurd (omega arith)
+  breaks-nothing (TagHigh x high) f e = absurd (omega arith)
+  breaks-nothing (TagLow x high low) f e = absurd (omega arith)
+  breaks-nothing (Answering b r) f e = absurd (omega arith)
+
+  pub nothing-is-broken : (g : Holding) → Sane g → BreaksNothing g (heldOf g)
+  nothing-is-broken = sane-ind BreaksNothing breaks-nothing
+
+  abbrev pub BreaksFinished : Holding → Held → Type 0
+  BreaksFinished g h = g .awaits % 16 ≡ 7 → here ≡ begun h first here
+
+  breaks-finished : (h : Held) → Fits h → BreaksFinished (flat h) h
+  breaks-finished Nothing f e = refl
+  breaks-finished (Taggable x) f e = refl
+  breaks-finished (Half b c high) f e = absurd (omega arith)
+  breaks-finished (TagHigh x high) f e = absurd (omega arith)
+  breaks-finished (TagLow x high low) f e = absurd (omega arith)
+  breaks-finished (Answering b r) f e = absurd (omega arith)
+
+  pub finished-is-whole : (g : Holding) → Sane g → BreaksFinished g (heldOf g)
+  finished-is-whole = sane-ind BreaksFinished breaks-finished
+
+  abbrev pub BreaksItem : Holding → Held → Type 0
+  BreaksItem g h = (g .awaits ≡ 0 → ⊥) → (g .awaits % 16 ≡ 7 → ⊥) → first ≡ begun h first here
+
+  breaks-item : (h : Held) → Fits h → BreaksItem (flat h) h
+  breaks-item Nothing f z s = absurd (z refl)
+  breaks-item (Taggable x) f z s = absurd (s (omega arith))
+  breaks-item (Half b c high) f z s = refl
+  breaks-item (TagHigh x high) f z s = refl
+  breaks-item (TagLow x high low) f z s = refl
+  breaks-item (Answering b r) f z s = refl
+
+  pub unfinished-is-broken : (g : Holding) → Sane g → BreaksItem g (heldOf g)
+  unfinished-is-broken = sane-ind BreaksItem breaks-item
 
 -- the end of the capture
 module _ (place : ℕ) where

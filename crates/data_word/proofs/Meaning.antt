@@ -69,7 +69,7 @@ pub record Finished (g : Got) (r : Step) : Type 0 where
 
 pub finished : (g : Got) (r : Step) → Closes g r → r .bad ≡ false → Finished g r
 finished (got js) r m z = record { items = js; is = refl; brings = m }
-finished (stopped k q) r m z = clash (sym z ∙ m)
+finished (stopped k q second) r m z = clash (sym z ∙ m)
 
 pub finish-means : (g : Holding) → Sane g → (place : ℕ) → Closes (finish (heldOf g) place) (closing (heldOf g) (finish (heldOf g) place))
 finish-means g s place = closing-means (heldOf g) (s .fits) place

@@ -31,4 +31,4 @@ Means (fed is h) r = Brings is h r
 -- at the end of the capture
 abbrev pub Closes : Got → Step → Type 0
 Closes (got is) r = Brings is Nothing r
-Closes (stopped number place) r = r .bad ≡ true
+Closes (stopped number place second) r = r .bad ≡ true

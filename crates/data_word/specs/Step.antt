@@ -39,4 +39,4 @@ stepOf h (fed is h′) = strings (take (cut h) (flatMap itemFields is)) (drop (c
 -- the capture's end: what is held is finished, or cut
 abbrev pub closing : Held → Got → Step
 closing h (got is) = strings (take (cut h) (flatMap itemFields is)) (drop (cut h) (flatMap itemFields is)) Nothing
-closing h (stopped number place) = refusal (flat h)
+closing h (stopped number place second) = refusal (flat h)

@@ -131,6 +131,22 @@ pub fn since(held: Holding, old: u64, here: u64) -> u64
     here
 }
 
+// The first word of the item that is unfinished when a bad word comes, which stands at `here`, or that word itself if none is; `first`
+// is where what is held begins.
+pub fn begun(held: Holding, first: u64, here: u64) -> u64
+    requires { ⌜ Sane held ⌝ }
+    ensures { λ r. ⌜ r ≡ reader.begun (heldOf held) first here ⌝ }
+{
+    let awaited = held.awaits;
+    if awaited == 0 {
+        return here;
+    }
+    if awaited % 16 == 7 {
+        return here;
+    }
+    first
+}
+
 // The end of the capture: a command or an ARINC word without a tag is finished, anything else held is cut.
 pub fn finish(held: Holding) -> Step
     requires { ⌜ Sane held ⌝ }

@@ -111,7 +111,7 @@ misplaced p (ss ∷ gs) =
     misplacedIn p ss later (anyData ss || anyData later) (misplaced p gs)
 
 abbrev pub settled : Plan → List ℕ → ℕ → ℕ → ℕ → Bool → Got → Reading
-settled p c n logRoom timeRoom closed (stopped k at) = refuses k at
+settled p c n logRoom timeRoom closed (stopped k at second) = refuses k at second
 settled p c n logRoom timeRoom closed (got is) =
     unlessFound (openIn p c n is)
     (unlessFound (cond closed (misplaced p (list (λ g. groupSlots p c (g * groupWords p)) 0 n)) none) (roomed p c n logRoom timeRoom (logOf is)))
@@ -122,5 +122,5 @@ reading closed p ks c logRoom timeRoom =
     cond (legal p ks)
     (cond (leb (length c) 1048576 && eqb (length c % size) 0)
     (settled p c (length c / size) logRoom timeRoom closed (readGroups p ks c (length c / size) 0 Nothing 0))
-    (refuses 8 (length c)))
-    (refuses 1 0)
+    (refuses 8 (length c) 0))
+    (refuses 1 0 0)

@@ -163,7 +163,7 @@ pub fn put_times(row: &[u64], number: usize, bytes: &mut [u8])
 
 // "A plan number that names no choice or kind is 1."
 pub fn unnamed() -> Answer
-    ensures { λ r. ⌜ r ≡ refusal 1 0 ⌝ }
+    ensures { λ r. ⌜ r ≡ refusal 1 0 0 ⌝ }
 {
     Answer {
         number: 1,

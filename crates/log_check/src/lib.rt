@@ -54,7 +54,7 @@ fn nothing() -> Seen
 }
 
 fn answer(number: u32, place: usize) -> Answer
-    ensures { λ r. ⌜ r ≡ refusal number place ⌝ }
+    ensures { λ r. ⌜ r ≡ refusal number place 0 ⌝ }
 {
     Answer {
         number,

@@ -26,12 +26,12 @@ module _ (is : List Item) (built : List ℕ) (p : Pen) (w : Wrote (flatMap itemB
   long : bytes ≡ length (logOf is)
   long = size ∙ closed-size is built p w
 
-  pub give-beyond : (room : ℕ) (out : List ℕ) (r : Answer) → 32768 < bytes → r ≡ refusal 6 bytes → Made (logIn room is) r out out
+  pub give-beyond : (room : ℕ) (out : List ℕ) (r : Answer) → 32768 < bytes → r ≡ refusal 6 bytes 0 → Made (logIn room is) r out out
   give-beyond room out r h a =
       let z : leb (length (logOf is)) 32768 ≡ false = lt-leb (length (logOf is)) 32768 (omega (arith, long)) in
       rw (z, ← long) (a, refl)
 
-  pub give-short : (room : ℕ) (out : List ℕ) (r : Answer) → bytes ≤ 32768 → room < bytes → r ≡ refusal 6 bytes → Made (logIn room is) r out out
+  pub give-short : (room : ℕ) (out : List ℕ) (r : Answer) → bytes ≤ 32768 → room < bytes → r ≡ refusal 6 bytes 0 → Made (logIn room is) r out out
   give-short room out r h g a =
       let y : leb (length (logOf is)) 32768 ≡ true = le-leb (length (logOf is)) 32768 (omega (arith, long)) in
       let z : leb (length (logOf is)) room ≡ false = lt-leb (length (logOf is)) room (omega (arith, long)) in
@@ -71,6 +71,6 @@ all-made (fault n q) most room built out out′ put p r s e g = no-all (sym s �
 
 -- a fault
 pub fault-made : (row : Parsed) (most room : ℕ) (built out : List ℕ) (put : Put) (n q : ℕ) (r : Answer) → StandsIn row most built put → put ≡ Fault n q
-    → r ≡ refusal n q → Made (madeOf room row) r out out
+    → r ≡ refusal n q 0 → Made (madeOf room row) r out out
 fault-made (items is) most room built out put n q r s e a = no-all (sym e ∙ s .1)
 fault-made (fault m k) most room built out put n q r s e a = let z : Fault m k ≡ Fault n q = sym s ∙ e in rw (same-number z, same-place z) (a, refl)

@@ -27,7 +27,7 @@ pub fn copy(to: &mut [u8], from: &[u8], n: usize)
 }
 
 pub fn refusal(number: u32, place: usize) -> Answer
-    ensures { λ r. ⌜ r ≡ refusal number place ⌝ }
+    ensures { λ r. ⌜ r ≡ refusal number place 0 ⌝ }
 {
     Answer {
         number,

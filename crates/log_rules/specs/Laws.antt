@@ -9,3 +9,4 @@ pub mod Faults
 pub mod Profile
 pub mod Replay
 pub mod Shift
+pub mod Second

@@ -104,7 +104,7 @@ profiled log = profileParsed (parsed onNoPlan log)
 -- the yes is number 0; nothing is written, so no length is ever told
 abbrev pub profileAnswer : Fault → Answer
 profileAnswer none = success 0 0
-profileAnswer (found n p) = refusal n p
+profileAnswer (found n p) = refusal n p 0
 
 -- what the profile hands over. Two answers that meet it are the same (Promises, `judged-one`)
 abbrev pub Judged : List ℕ → Answer → Type 0

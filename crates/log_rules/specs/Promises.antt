@@ -135,12 +135,12 @@ shift-keeps-rest = Shift.rest-stays
 
 -- "Refusals: 2, 4 as in composing; 17 for a shift out of limits (place 0), a tag that would fall below zero or reach 42,949,672,960,000 (its item's first
 -- bit)", whatever the frame times are
-pub shift-refused : (log times : List ℕ) (by : ℤ) (room n p : ℕ) → parsed onNoPlan log ≡ fault n p → shifted log times by room ≡ refuses n p
+pub shift-refused : (log times : List ℕ) (by : ℤ) (room n p : ℕ) → parsed onNoPlan log ≡ fault n p → shifted log times by room ≡ refuses n p 0
 shift-refused = Shift.shift-refuses
 
-pub shift-out-of-limits : (log times : List ℕ) (is : List Item) (by : ℤ) (room : ℕ) → LogOf log is → inLimits by ≡ false → shifted log times by room ≡ refuses 17 0
+pub shift-out-of-limits : (log times : List ℕ) (is : List Item) (by : ℤ) (room : ℕ) → LogOf log is → inLimits by ≡ false → shifted log times by room ≡ refuses 17 0 0
 shift-out-of-limits log times is by room = Shift.shift-beyond times by room
 
 pub shift-refused-tag : (log times : List ℕ) (is : List Item) (by : ℤ) (room p : ℕ) → LogOf log is → inLimits by ≡ true
-    → firstFailing (itemMoves by) 17 0 is ≡ found 17 p → shifted log times by room ≡ refuses 17 p
+    → firstFailing (itemMoves by) 17 0 is ≡ found 17 p → shifted log times by room ≡ refuses 17 p 0
 shift-refused-tag log times is by room p = Shift.shift-unmovable times by room p

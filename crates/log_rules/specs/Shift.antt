@@ -88,14 +88,14 @@ unshifted by times is = orElse (unless (inLimits by) 17 0) (orElse (firstFailing
 
 -- "6 last. The time row is written over; the new log goes to a lent buffer."
 abbrev pub shiftedIn : ℕ → List ℕ → List ℕ → Reading
-shiftedIn room log times = cond (leb (length log) 32768 && leb (length log) room) (gives log times) (refuses 6 (length log))
+shiftedIn room log times = cond (leb (length log) 32768 && leb (length log) room) (gives log times) (refuses 6 (length log) 0)
 
 abbrev pub ifShifted : Fault → Reading → Reading
 ifShifted none r = r
-ifShifted (found n p) r = refuses n p
+ifShifted (found n p) r = refuses n p 0
 
 abbrev pub shiftParsed : List ℕ → ℤ → ℕ → Parsed → Reading
-shiftParsed times by room (fault n p) = refuses n p
+shiftParsed times by room (fault n p) = refuses n p 0
 shiftParsed times by room (items is) = ifShifted (unshifted by times is) (shiftedIn room (logOf (map (movedItem by) is)) (map (moved by) times))
 
 -- "Refusals: 2, 4 as in composing; 17 ..; 6 last."

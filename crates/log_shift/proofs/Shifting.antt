@@ -65,7 +65,7 @@ row-over by d xs i f e =
 -- ---- the answer of items that are put
 
 module _ (by : ℤ) (is : List Item) (built : List ℕ) (p : Pen) (w : Wrote (flatMap itemBits is) built p) (times : List ℕ) where
-  pub row-late : (room late : ℕ) (out : List ℕ) (r : Answer) → firstUnmoved by 0 (timesFrom times) ≡ found 17 late → r ≡ refusal 17 late
+  pub row-late : (room late : ℕ) (out : List ℕ) (r : Answer) → firstUnmoved by 0 (timesFrom times) ≡ found 17 late → r ≡ refusal 17 late 0
       → Shifted (rowShifted by (timesFrom times) room is) r out out times times
   row-late room late out r e a = rw e (a, refl, refl)
 
@@ -73,12 +73,12 @@ module _ (by : ℤ) (is : List Item) (built : List ℕ) (p : Pen) (w : Wrote (fl
     long : bytes ≡ length (logOf is)
     long = size ∙ closed-size is built p w
 
-    pub row-beyond : (room : ℕ) (out : List ℕ) (r : Answer) → 32768 < bytes → r ≡ refusal 6 bytes → Shifted (rowShifted by (timesFrom times) room is) r out out times times
+    pub row-beyond : (room : ℕ) (out : List ℕ) (r : Answer) → 32768 < bytes → r ≡ refusal 6 bytes 0 → Shifted (rowShifted by (timesFrom times) room is) r out out times times
     row-beyond room out r h a =
         let z : leb (length (logOf is)) 32768 ≡ false = lt-leb (length (logOf is)) 32768 (omega (arith, long)) in
         rw (clear, z, ← long) (a, refl, refl)
 
-    pub row-short : (room : ℕ) (out : List ℕ) (r : Answer) → bytes ≤ 32768 → room < bytes → r ≡ refusal 6 bytes → Shifted (rowShifted by (timesFrom times) room is) r out out times times
+    pub row-short : (room : ℕ) (out : List ℕ) (r : Answer) → bytes ≤ 32768 → room < bytes → r ≡ refusal 6 bytes 0 → Shifted (rowShifted by (timesFrom times) room is) r out out times times
     row-short room out r h g a =
         let y : leb (length (logOf is)) 32768 ≡ true = le-leb (length (logOf is)) 32768 (omega (arith, long)) in
         let z : leb (length (logOf is)) room ≡ false = lt-leb (length (logOf is)) room (omega (arith, long)) in
@@ -106,8 +106,8 @@ same-number z = cc
 same-place : {n q m k : ℕ} → Faulty n q ≡ Faulty m k → q ≡ k
 same-place z = cc
 
-refusals : (n q m k : ℕ) → Faulty n q ≡ Faulty m k → refusal n q ≡ refusal m k
-refusals n q m k z = ap₂ refusal (same-number z) (same-place z)
+refusals : (n q m k : ℕ) → Faulty n q ≡ Faulty m k → refusal n q 0 ≡ refusal m k 0
+refusals n q m k z = ap₂ (λ (x y : ℕ). refusal x y 0) (same-number z) (same-place z)
 
 pub put-all : (by : ℤ) (row : Parsed) (most room : ℕ) (built out out′ times times′ : List ℕ) (put : Put) (p : Pen) (r : Answer) → StandsIn row most built put → put ≡ All p
     → ((is : List Item) → Wrote (flatMap itemBits is) built p → Shifted (rowShifted by (timesFrom times) room is) r out out′ times times′)
@@ -116,7 +116,7 @@ put-all by (items is) most room built out out′ times times′ put p r s e g = 
 put-all by (fault n q) most room built out out′ times times′ put p r s e g = no-all (sym s ∙ e)
 
 pub put-fault : (by : ℤ) (row : Parsed) (most room : ℕ) (built out times : List ℕ) (put : Put) (n q : ℕ) (r : Answer) → StandsIn row most built put → put ≡ Faulty n q
-    → r ≡ refusal n q → Shifted (putShifted by (timesFrom times) room row) r out out times times
+    → r ≡ refusal n q 0 → Shifted (putShifted by (timesFrom times) room row) r out out times times
 put-fault by (items is) most room built out times put n q r s e a = no-all (sym e ∙ s .1)
 put-fault by (fault m k) most room built out times put n q r s e a = (a ∙ refusals n q m k (sym e ∙ s), refl, refl)
 
@@ -140,7 +140,7 @@ within-limits log times by room h = go (parsed onNoPlan log)
     go (items is) = rw h (tags (firstFailing (itemMoves by) 17 0 is) (map (movedItem by) is))
 
 pub beyond-limits : (log times : List ℕ) (by : ℤ) (room : ℕ) (out row : List ℕ) (put : Put) (n q : ℕ) (r : Answer) → inLimits by ≡ false → put ≡ judged (parsed onNoPlan log) 0 → put ≡ Faulty n q
-    → r ≡ refusal n q → Shifted (shifted log times by room) r out out row row
+    → r ≡ refusal n q 0 → Shifted (shifted log times by room) r out out row row
 unfolding shifted
 beyond-limits log times by room out row put n q r h e f a = go (parsed onNoPlan log) (sym f ∙ e)
   where

@@ -21,7 +21,7 @@ use Rattle.log_write.specs.declared.Pen.{Pen}
 -- the lent bytes of the time row afterwards; the spare ones "stay"
 abbrev pub rowAfter : Reading → List ℕ → List ℕ
 rowAfter (gives log times) old = over (flatMap timeBytes times) old
-rowAfter (refuses n p) old = old
+rowAfter (refuses n p second) old = old
 
 -- a shift's answer, the lent log and the lent time row
 abbrev pub Shifted : Reading → Answer → List ℕ → List ℕ → List ℕ → List ℕ → Type 0
@@ -59,7 +59,7 @@ ShiftsRow by p built r out out′ times times′ =
 -- of a row of items or a fault
 abbrev pub putShifted : ℤ → List ℕ → ℕ → Parsed → Reading
 putShifted by times room (items is) = rowShifted by times room is
-putShifted by times room (fault n q) = refuses n q
+putShifted by times room (fault n q) = refuses n q 0
 
 abbrev pub ShiftsPut : ℤ → Put → List ℕ → Answer → List ℕ → List ℕ → List ℕ → List ℕ → Type 0
 ShiftsPut by put built r out out′ times times′ =

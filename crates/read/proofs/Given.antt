@@ -32,7 +32,7 @@ use Rattle.read_groups.proofs.Groups.{numbers-few}
 use Rattle.notices.specs.Laws.Capture as notices
 use Rattle.read.specs.Room.{earlier, roomNumber, Built}
 
-pub given-refused : {g : Reading} {r : Answer} {number place : ℕ} (log times : List ℕ) → g ≡ refuses number place → r ≡ refusal number place → Given g r log log times times
+pub given-refused : {g : Reading} {r : Answer} {number place second : ℕ} (log times : List ℕ) → g ≡ refuses number place second → r ≡ refusal number place second → Given g r log log times times
 given-refused {g} {r} log times e a = subst (λ (x : Reading). Given x r log log times times) (sym e) (a, refl, refl)
 
 given-whole : (g : Reading) (r : Answer) (log log′ times times′ whole table : List ℕ) → g ≡ gives whole table → r ≡ success (length whole) (length table)
@@ -91,11 +91,11 @@ module _ (p : Plan) (c : List ℕ) (n logRoom timeRoom : ℕ) (whole : List ℕ)
   unfolding roomNumber
   number-is = number-by (leb (length whole) 32768) (leb (length whole) logRoom) (leb (timesNeeded p n) timeRoom)
 
-  pub log-beyond : number ≡ 6 → roomed p c n logRoom timeRoom whole ≡ refuses 6 (length whole)
-  log-beyond e = six-by fits (leb (timesNeeded p n) timeRoom) given (refuses 7 (timesNeeded p n)) (refuses 6 (length whole)) (sym number-is ∙ e)
+  pub log-beyond : number ≡ 6 → roomed p c n logRoom timeRoom whole ≡ refuses 6 (length whole) 0
+  log-beyond e = six-by fits (leb (timesNeeded p n) timeRoom) given (refuses 7 (timesNeeded p n) 0) (refuses 6 (length whole) 0) (sym number-is ∙ e)
 
-  pub times-beyond : number ≡ 7 → roomed p c n logRoom timeRoom whole ≡ refuses 7 (timesNeeded p n)
-  times-beyond e = seven-by fits (leb (timesNeeded p n) timeRoom) given (refuses 7 (timesNeeded p n)) (refuses 6 (length whole)) (sym number-is ∙ e)
+  pub times-beyond : number ≡ 7 → roomed p c n logRoom timeRoom whole ≡ refuses 7 (timesNeeded p n) 0
+  times-beyond e = seven-by fits (leb (timesNeeded p n) timeRoom) given (refuses 7 (timesNeeded p n) 0) (refuses 6 (length whole) 0) (sym number-is ∙ e)
 
   both-given : length whole ≤ 32768 → length whole ≤ logRoom → timesNeeded p n ≤ timeRoom
       → roomed p c n logRoom timeRoom whole ≡ given
@@ -130,7 +130,7 @@ given-copied p c n whole built bytes need log log′ times times′ b small fits
 
 -- misplaced fill, as it was found
 fill-by : (b : Bool) (x : Reading) (f : Fault) (at : ℕ → ℕ) (m q : ℕ) → told (placeUp at m) ≡ f → q ≡ cond b m 0 → (q ≡ 0 → ⊥)
-    → unlessFound (cond b f none) x ≡ refuses 14 (at (q - 1))
+    → unlessFound (cond b f none) x ≡ refuses 14 (at (q - 1)) 0
 fill-by false x f at m q e a z = absurd (z a)
 fill-by true x f at zero q e a z = absurd (z a)
 fill-by true x f at (suc m) q e a z =
@@ -155,14 +155,14 @@ module _ (p : Plan) (c : List ℕ) (n logRoom timeRoom : ℕ) (closed : Bool) wh
   behind is = unlessFound (cond closed (misplaced p (groupsOn p c 0 n)) none) (roomed p c n logRoom timeRoom (logOf is))
 
   module _ {ks : List Kind} {r : Outcome} {out : List ℕ} where
-    pub stops-settled : Ended ks p c n r out → (r .number ≡ 0 → ⊥) → answers (readGroups p ks c n 0 Nothing 0) ≡ refuses (r .number) (r .place)
+    pub stops-settled : Ended ks p c n r out → (r .number ≡ 0 → ⊥) → answers (readGroups p ks c n 0 Nothing 0) ≡ refuses (r .number) (r .place) (r .second)
     stops-settled e z = ap answers (e .refused z .is)
 
     -- an open notice, or none
     pub open-settled : (l : Logged ks p c n r out) → (r .notice ≡ 0 → ⊥) → {place : ℕ} → place ≡ storedAt p (r .notice - 1)
-        → answers (readGroups p ks c n 0 Nothing 0) ≡ refuses 15 place
+        → answers (readGroups p ks c n 0 Nothing 0) ≡ refuses 15 place 0
     open-settled l d s =
-        ap answers (l .is) ∙ ap (λ (f : Fault). unlessFound f (behind (l .items))) (sym (l .notice) ∙ notices.told-found (storedAt p) (r .notice) d) ∙ ap (refuses 15) (sym s)
+        ap answers (l .is) ∙ ap (λ (f : Fault). unlessFound f (behind (l .items))) (sym (l .notice) ∙ notices.told-found (storedAt p) (r .notice) d) ∙ ap (λ (k : ℕ). refuses 15 k 0) (sym s)
 
     none-settled : (l : Logged ks p c n r out) → r .notice ≡ 0 → answers (readGroups p ks c n 0 Nothing 0) ≡ behind (l .items)
     none-settled l z = ap answers (l .is) ∙ ap (λ (f : Fault). unlessFound f (behind (l .items))) (sym (l .notice) ∙ notices.told-none (storedAt p) (r .notice) z)
@@ -171,11 +171,11 @@ module _ (p : Plan) (c : List ℕ) (n logRoom timeRoom : ℕ) (closed : Bool) wh
     open-few l k a b s = omega (arith, l .low .0, numbers-few p s n k a b)
 
     module _ (l : Logged ks p c n r out) (o : r .notice ≡ 0) (q : ℕ) (e : q ≡ cond closed (r .misplaced) 0) where
-      pub fill-settled : {place : ℕ} → (q ≡ 0 → ⊥) → place ≡ storedAt p (q - 1) → answers (readGroups p ks c n 0 Nothing 0) ≡ refuses 14 place
+      pub fill-settled : {place : ℕ} → (q ≡ 0 → ⊥) → place ≡ storedAt p (q - 1) → answers (readGroups p ks c n 0 Nothing 0) ≡ refuses 14 place 0
       fill-settled z s =
           none-settled l o
           ∙ fill-by closed (roomed p c n logRoom timeRoom (logOf (l .items))) (misplaced p (groupsOn p c 0 n)) (storedAt p) (r .misplaced) q (l .fill) e z
-          ∙ ap (refuses 14) (sym s)
+          ∙ ap (λ (k : ℕ). refuses 14 k 0) (sym s)
 
       pub fill-few : (k : ℕ) → k ≡ n * (3 * groupWords p) → k ≤ 1048576 → Shape p → q ≤ 349525
       fill-few k a b s = omega (arith, e, asked-low closed, l .low .1, numbers-few p s n k a b)
@@ -194,15 +194,15 @@ pub whole-groups : (p : Plan) (k : ℕ) → k % (3 * groupWords p) ≡ 0 → k �
 whole-groups p k e = sym (div-add-mod' k (3 * groupWords p)) ∙ rw e (omega arith)
 
 module _ (closed : Bool) (p : Plan) (ks : List Kind) (c : List ℕ) (logRoom timeRoom : ℕ) where
-  pub illegal-refused : legal p ks ≡ false → reading closed p ks c logRoom timeRoom ≡ refuses 1 0
+  pub illegal-refused : legal p ks ≡ false → reading closed p ks c logRoom timeRoom ≡ refuses 1 0 0
   unfolding reading
   illegal-refused e = rw e refl
 
-  pub long-refused : legal p ks ≡ true → 1048576 < length c → reading closed p ks c logRoom timeRoom ≡ refuses 8 (length c)
+  pub long-refused : legal p ks ≡ true → 1048576 < length c → reading closed p ks c logRoom timeRoom ≡ refuses 8 (length c) 0
   unfolding reading
   long-refused e h = rw (e, lt-leb (length c) 1048576 h) refl
 
-  pub ragged-refused : legal p ks ≡ true → length c ≤ 1048576 → eqb (length c % (3 * groupWords p)) 0 ≡ false → reading closed p ks c logRoom timeRoom ≡ refuses 8 (length c)
+  pub ragged-refused : legal p ks ≡ true → length c ≤ 1048576 → eqb (length c % (3 * groupWords p)) 0 ≡ false → reading closed p ks c logRoom timeRoom ≡ refuses 8 (length c) 0
   unfolding reading
   ragged-refused e h z = rw (e, le-leb (length c) 1048576 h, z) refl
 

@@ -50,13 +50,13 @@ fn write_times(capture: &[u8], plan: Plan, n: usize, times: &mut [u64])
     }
 }
 
-fn refusal(number: u32, place: u64) -> Answer
-    ensures { λ r. ⌜ r ≡ refusal number place ⌝ }
+fn refusal(number: u32, place: u64, second: u64) -> Answer
+    ensures { λ r. ⌜ r ≡ refusal number place second ⌝ }
 {
     Answer {
         number: number,
         place: place,
-        second: 0,
+        second: second,
         bytes: 0,
         times: 0,
     }
@@ -109,10 +109,10 @@ fn give(
     let need = times_of(plan, n);
     let number = room_number(bytes, log.len(), need, times.len());
     if number == 6 {
-        return refusal(6, bytes as u64);
+        return refusal(6, bytes as u64, 0);
     }
     if number == 7 {
-        return refusal(7, need as u64);
+        return refusal(7, need as u64, 0);
     }
     copy(log, built, bytes);
     write_times(capture, plan, need, times);
@@ -166,14 +166,14 @@ fn read_by(
     let count = slots(plan);
     let end = read_groups(kinds, plan, count, capture, n, built);
     if end.number != 0 {
-        return refusal(end.number, end.place);
+        return refusal(end.number, end.place, end.second);
     }
     if end.notice != 0 {
-        return refusal(15, stored_place(plan, count, end.notice - 1));
+        return refusal(15, stored_place(plan, count, end.notice - 1), 0);
     }
     let misplaced = asked(closed, end.misplaced);
     if misplaced != 0 {
-        return refusal(14, stored_place(plan, count, misplaced - 1));
+        return refusal(14, stored_place(plan, count, misplaced - 1), 0);
     }
     give(plan, capture, n, built, end.bytes, log, times)
 }
@@ -223,13 +223,13 @@ fn read_either(
 {
     let length = capture.len();
     if !legal(plan, kinds) {
-        return refusal(1, 0);
+        return refusal(1, 0, 0);
     }
     if 1048576 < length {
-        return refusal(8, length as u64);
+        return refusal(8, length as u64, 0);
     }
     if !is_whole(plan, length) {
-        return refusal(8, length as u64);
+        return refusal(8, length as u64, 0);
     }
     if length <= 1884 {
         return read_small(closed, plan, kinds, capture, log, times);

@@ -11,7 +11,7 @@ use Rattle.read_from_c.specs.Reading.{readingFrom}
 
 module _ (words tracks time crc parity label code : ℕ) (kinds : List ℕ) where
   pub read-unnamed : (closed : Bool) (c : List ℕ) (logRoom room : ℕ) → named time crc parity kinds ≡ false
-      → readingFrom closed words tracks time crc parity label code kinds c logRoom room ≡ refuses 1 0
+      → readingFrom closed words tracks time crc parity label code kinds c logRoom room ≡ refuses 1 0 0
   unfolding readingFrom
   read-unnamed closed c logRoom room e = rw e
 

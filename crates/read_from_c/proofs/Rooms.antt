@@ -31,7 +31,7 @@ use Rattle.read.proofs.Given.{times-few}
 -- the times given are no more than there is room for
 abbrev pub Few : ℕ → Reading → Type 0
 Few T (gives log ts) = length ts ≤ T
-Few T (refuses n q) = Unit {0}
+Few T (refuses n q second) = Unit {0}
 
 module _ (closed : Bool) (p : Plan) (ks : List Kind) (c : List ℕ) (logRoom : ℕ) where
   abbrev size : ℕ
@@ -50,7 +50,7 @@ module _ (closed : Bool) (p : Plan) (ks : List Kind) (c : List ℕ) (logRoom : �
         rw (le-leb (timesNeeded p n) T (omega (arith, few)), le-leb (timesNeeded p n) U (omega (arith, few))) refl
 
     settled-same : (n : ℕ) → n ≤ T → n ≤ U → (g : Got) → settled p c n logRoom T closed g ≡ settled p c n logRoom U closed g
-    settled-same n h k (stopped r at) = refl
+    settled-same n h k (stopped r at second) = refl
     settled-same n h k (got is) =
         ap (λ (r : Reading). unlessFound (openIn p c n is) (unlessFound (cond closed (misplaced p (list (λ g. groupSlots p c (g * groupWords p)) 0 n)) none) r)) (roomed-same n h k (logOf is))
 
@@ -58,21 +58,21 @@ module _ (closed : Bool) (p : Plan) (ks : List Kind) (c : List ℕ) (logRoom : �
     unfolding reading
     room-enough = go (legal p ks) refl
       where
-        of : legal p ks ≡ true → (b : Bool) → whole ≡ b → cond b (all T) (refuses 8 (length c)) ≡ cond b (all U) (refuses 8 (length c))
+        of : legal p ks ≡ true → (b : Bool) → whole ≡ b → cond b (all T) (refuses 8 (length c) 0) ≡ cond b (all U) (refuses 8 (length c) 0)
         of e true f =
             let s : length c ≤ 1048576 = leb-true (length c) 1048576 (and-true _ _ f .0) in
             let k = groups-most p (shape-of p ks e) (length c) in
             settled-same (length c / size) (omega (arith, k, t s)) (omega (arith, k, u s)) (readGroups p ks c (length c / size) 0 Nothing 0)
         of e false f = refl
 
-        go : (b : Bool) → legal p ks ≡ b → cond b (cond whole (all T) (refuses 8 (length c))) (refuses 1 0) ≡ cond b (cond whole (all U) (refuses 8 (length c))) (refuses 1 0)
+        go : (b : Bool) → legal p ks ≡ b → cond b (cond whole (all T) (refuses 8 (length c) 0)) (refuses 1 0 0) ≡ cond b (cond whole (all U) (refuses 8 (length c) 0)) (refuses 1 0 0)
         go true e = of e whole refl
         go false e = refl
 
   few-roomed : (n T : ℕ) (log : List ℕ) → Few T (roomed p c n logRoom T log)
   few-roomed n T log = go (leb (length log) 32768 && leb (length log) logRoom) (leb (timesNeeded p n) T) refl
     where
-      go : (a b : Bool) → leb (timesNeeded p n) T ≡ b → Few T (cond a (cond b (gives log (list (λ g. groupTime p c (g * groupWords p)) 0 (timesNeeded p n))) (refuses 7 (timesNeeded p n))) (refuses 6 (length log)))
+      go : (a b : Bool) → leb (timesNeeded p n) T ≡ b → Few T (cond a (cond b (gives log (list (λ g. groupTime p c (g * groupWords p)) 0 (timesNeeded p n))) (refuses 7 (timesNeeded p n) 0)) (refuses 6 (length log) 0))
       go true true e = rw (length-list (λ g. groupTime p c (g * groupWords p)) 0 (timesNeeded p n)) (leb-true _ _ e)
       go true false e = tt
       go false b e = tt
@@ -82,7 +82,7 @@ module _ (closed : Bool) (p : Plan) (ks : List Kind) (c : List ℕ) (logRoom : �
   few-unlessFound T (found k at) r h = tt
 
   few-settled : (n T : ℕ) (g : Got) → Few T (settled p c n logRoom T closed g)
-  few-settled n T (stopped k at) = tt
+  few-settled n T (stopped k at second) = tt
   few-settled n T (got is) =
       let fill : Fault = cond closed (misplaced p (list (λ g. groupSlots p c (g * groupWords p)) 0 n)) none in
       few-unlessFound T (openIn p c n is) (unlessFound fill (roomed p c n logRoom T (logOf is))) (few-unlessFound T fill (roomed p c n logRoom T (logOf is)) (few-roomed n T (logOf is)))
@@ -91,7 +91,7 @@ module _ (closed : Bool) (p : Plan) (ks : List Kind) (c : List ℕ) (logRoom : �
   unfolding reading
   few-times T = go (legal p ks) whole
     where
-      go : (a b : Bool) → Few T (cond a (cond b (all T) (refuses 8 (length c))) (refuses 1 0))
+      go : (a b : Bool) → Few T (cond a (cond b (all T) (refuses 8 (length c) 0)) (refuses 1 0 0))
       go true true = few-settled (length c / size) T (readGroups p ks c (length c / size) 0 Nothing 0)
       go true false = tt
       go false b = tt
@@ -118,11 +118,11 @@ least-both T row k e = go (leb T row) refl e
 module _ (r : Answer) (log log′ part part′ : List ℕ) where
   pub given-few : (T : ℕ) (g : Reading) → Few T g → Given g r log log′ part part′ → r .times ≤ T
   given-few T (gives l ts) h e = rw (e .0) h
-  given-few T (refuses n q) h e = rw (e .0) (omega arith)
+  given-few T (refuses n q second) h e = rw (e .0) (omega arith)
 
   pub given-there : (g : Reading) → Given g r log log′ part part′ → r .times ≤ length part′
   given-there (gives l ts) e = rw (e .0, e .2, length-append ts (drop (length ts) part)) (omega arith)
-  given-there (refuses n q) e = rw (e .0) (omega arith)
+  given-there (refuses n q second) e = rw (e .0) (omega arith)
 
   pub given-bytes : (times times′ row : List ℕ) (g : Reading) → Given g r log log′ part part′ → times′ ≡ over (flatMap timeBytes (take (r .times) (part′ ++ row))) times
       → GivenBytes g r log log′ times times′
@@ -131,11 +131,11 @@ module _ (r : Answer) (log log′ part part′ : List ℕ) where
       let k : take (r .times) (part′ ++ row) ≡ ts = rw (e .0, e .2) (ap (take (length ts)) (append-assoc ts (drop (length ts) part) row) ∙ take-at ts (drop (length ts) part ++ row) (length ts) refl) in
       let t : times′ ≡ over (flatMap timeBytes ts) times = z ∙ ap (λ (x : List ℕ). over (flatMap timeBytes x) times) k in
       (cc, cc, cc)
-  given-bytes times times′ row (refuses n q) e z =
+  given-bytes times times′ row (refuses n q second) e z =
       let k : take (r .times) (part′ ++ row) ≡ [] = rw (e .0) refl in
       let t : times′ ≡ times = z ∙ ap (λ (x : List ℕ). over (flatMap timeBytes x) times) k in
       (cc, cc, cc)
 
 -- a refusal leaves both runs as they were
-pub given-none : (r : Answer) (log times : List ℕ) (n q : ℕ) → r ≡ refusal n q → GivenBytes (refuses n q) r log log times times
-given-none r log times n q e = (cc, cc, cc)
+pub given-none : (r : Answer) (log times : List ℕ) (n q second : ℕ) → r ≡ refusal n q second → GivenBytes (refuses n q second) r log log times times
+given-none r log times n q second e = (cc, cc, cc)

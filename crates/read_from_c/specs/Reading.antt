@@ -14,12 +14,12 @@ unfoldable pub readingFrom : Bool → ℕ → ℕ → ℕ → ℕ → ℕ → �
 readingFrom closed words tracks time crc parity label code kinds capture logRoom timeBytesRoom =
     cond (named time crc parity kinds)
     (reading closed (planFrom words tracks time crc parity label code) (map kindOf kinds) capture logRoom (timeBytesRoom / 8))
-    (refuses 1 0)
+    (refuses 1 0 0)
 
 -- the lent bytes for the times after a reading; the spare ones "stay"
 abbrev pub timeBytesAfter : Reading → List ℕ → List ℕ
 timeBytesAfter (gives log times) out = over (flatMap timeBytes times) out
-timeBytesAfter (refuses n p) out = out
+timeBytesAfter (refuses n p second) out = out
 
 -- a reading's answer, and both lent runs afterwards
 abbrev pub GivenBytes : Reading → Answer → List ℕ → List ℕ → List ℕ → List ℕ → Type 0

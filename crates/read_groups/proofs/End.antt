@@ -37,7 +37,7 @@ use Rattle.data_run.proofs.OneSlot.{step-bits, step-wrote}
 
 -- ---- the cut item
 
-finish-cut : (h : Held) (at : ℕ) (r : Step) → Closes (finish h at) r → r .bad ≡ true → finish h at ≡ stopped 13 at
+finish-cut : (h : Held) (at : ℕ) (r : Step) → Closes (finish h at) r → r .bad ≡ true → finish h at ≡ stopped 13 at at
 finish-cut Nothing at r m z = clash (sym (m .good) ∙ z)
 finish-cut (Taggable x) at r m z = clash (sym (m .good) ∙ z)
 finish-cut (Half bus c high) at r m z = refl
@@ -54,22 +54,23 @@ module _ (ks : List Kind) (p : Plan) (c : List ℕ) (n : ℕ) (out₀ : List ℕ
   abbrev all : Got
   all = readGroups p ks c n 0 Nothing 0
 
-  refusal-ends : (k q : ℕ) (out′ : List ℕ) → (k ≡ 0 → ⊥) → all ≡ stopped k q → Ended ks p c n (record { number = k; place = q; bytes = 0; notice = 0; misplaced = 0 }) out′
-  refusal-ends k q out′ z e = record { logged = λ y. absurd (z y); refused = λ _. record { is = e; bytes = refl; notice = refl; misplaced = refl } }
+  refusal-ends : (k q s : ℕ) (out′ : List ℕ) → (k ≡ 0 → ⊥) → all ≡ stopped k q s
+      → Ended ks p c n (record { number = k; place = q; second = s; bytes = 0; notice = 0; misplaced = 0 }) out′
+  refusal-ends k q s out′ z e = record { logged = λ y. absurd (z y); refused = λ _. record { is = e; bytes = refl; notice = refl; misplaced = refl } }
 
   pub ends-stopped : {out : List ℕ} {k : Walk} (out′ : List ℕ) → Walked ks p c n out₀ k out → (k .number ≡ 0 → ⊥)
-      → Ended ks p c n (record { number = k .number; place = k .place; bytes = 0; notice = 0; misplaced = 0 }) out′
-  ends-stopped {out} {k} out′ m z = refusal-ends (k .number) (k .place) out′ z (m .stops z)
+      → Ended ks p c n (record { number = k .number; place = k .place; second = k .second; bytes = 0; notice = 0; misplaced = 0 }) out′
+  ends-stopped {out} {k} out′ m z = refusal-ends (k .number) (k .place) (k .second) out′ z (m .stops z)
 
   module _ (x : Pass) (out : List ℕ) (t : Through ks p c n out₀ x out) (s : Step) (m : Closes (finish (heldOf (x .held)) (storedAt p (x .since))) s) where
     abbrev last : Got
     last = finish (heldOf (x .held)) (storedAt p (x .since))
 
     pub ends-cut : {place : ℕ} (out′ : List ℕ) → s .bad ≡ true → place ≡ storedAt p (x .since)
-        → Ended ks p c n (record { number = 13; place = place; bytes = 0; notice = 0; misplaced = 0 }) out′
+        → Ended ks p c n (record { number = 13; place = place; second = place; bytes = 0; notice = 0; misplaced = 0 }) out′
     ends-cut {place} out′ z e =
-        refusal-ends 13 place out′ (λ y. absurd (omega arith))
-        (t .is ∙ ap (before (t .items)) (finish-cut (heldOf (x .held)) (storedAt p (x .since)) s m z ∙ ap (stopped 13) (sym e)))
+        refusal-ends 13 place place out′ (λ y. absurd (omega arith))
+        (t .is ∙ ap (before (t .items)) (finish-cut (heldOf (x .held)) (storedAt p (x .since)) s m z ∙ ap (λ (q : ℕ). stopped 13 q q) (sym e)))
 
     module _ (z : s .bad ≡ false) where
       f : Finished last s
@@ -92,7 +93,7 @@ module _ (ks : List Kind) (p : Plan) (c : List ℕ) (n : ℕ) (out₀ : List ℕ
           (step-wrote (f .items) Nothing s (f .brings) (x .pen) (flatMap itemBits (t .items)) out (t .brought .wrote [] (wrote-none out₀)))
 
       pub ends-log : {bytes notice : ℕ} {out′ : List ℕ} → 1 ≤ slots p → Bytes c → notice ≡ openNumber ks p c n → bytes ≡ closedSize (stepPen (x .pen) s) → out′ ≡ closedIn (stepOut out (x .pen) s) (stepPen (x .pen) s)
-          → Ended ks p c n (record { number = 0; place = 0; bytes = bytes; notice = notice; misplaced = x .fills .misplaced }) out′
+          → Ended ks p c n (record { number = 0; place = 0; second = 0; bytes = bytes; notice = notice; misplaced = x .fills .misplaced }) out′
       ends-log {bytes} {notice} {out′} some all-bytes o b e =
           let size : bytes ≡ length (logOf items) = b ∙ closed-size items (stepOut out (x .pen) s) (stepPen (x .pen) s) all-wrote in
           let long : length out′ ≡ length (stepOut out (x .pen) s) = ap (λ (l : List ℕ). length l) e ∙ closed-long items (stepOut out (x .pen) s) (stepPen (x .pen) s) all-wrote in
@@ -101,6 +102,7 @@ module _ (ks : List Kind) (p : Plan) (c : List ℕ) (n : ℕ) (out₀ : List ℕ
               items = items;
               is = all-is;
               place = refl;
+              second = refl;
               bytes = size;
               log = λ h. ap₂ (λ (j : ℕ) (l : List ℕ). take j l) size e ∙ closed-log items (stepOut out (x .pen) s) (stepPen (x .pen) s) all-wrote (omega (arith, h, size, long));
               notice-number = o;

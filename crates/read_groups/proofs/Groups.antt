@@ -2,7 +2,6 @@
 use Prim.Native.Nat.{ℕ, suc, _+_, _*_, _-_, _≤_, _<_}
 use native.Mathlib.Nat.{mul-le-mul-right, mul-le-mul-left}
 use native.Mathlib.Omega.{arith}
-use mathlib.Core.Bool.{true, false}
 use mathlib.Core.Path.{_≡_, refl, sym, ap, ap₂, subst, _∙_}
 use mathlib.Core.List.{List, [], _∷_, _++_, append-assoc, append-nil, flatMap}
 use lib.ListN.{length, take, drop, length-take, length-drop}
@@ -18,7 +17,6 @@ use Rattle.format.specs.declared.Held.{Held}
 use Rattle.format.specs.declared.Held.the-variants.{Nothing}
 use Rattle.format.specs.declared.Plan.{Plan}
 use Rattle.format.specs.Laws.Limits.{Shape, free, rows-under, lead-few, room}
-use Rattle.format.specs.Laws.Tests.{clash}
 use Rattle.format.specs.Laws.Lists.{flatMap-append}
 use Rattle.format.specs.Laws.Reader.Named.{renamed, run-named, run-in, groups-fresh, slots-counted, wordsIn}
 use Rattle.group_read.specs.declared.Fault.{Fault as Found}
@@ -33,19 +31,20 @@ use Rattle.data_run.specs.declared.Pass.{Pass}
 use Rattle.data_run.specs.declared.fill.Fills.{Fills}
 use Rattle.data_run.specs.Fills.{fillsIn}
 use Rattle.data_run.specs.Pass.{Brought, RanTo}
+use Rattle.read_groups.specs.declared.Walk.{Walk}
 use Rattle.read_groups.specs.Misplaced.{noFill, fillsOver, numbersOf, numbersOn}
-use Rattle.read_groups.specs.Groups.{startPass, Over, Through}
+use Rattle.read_groups.specs.Groups.{startPass, brokenAt, Over, Through, Walked}
 use Rattle.read_groups.proofs.Numbered.{Few, counted-below, counted-within, fills-few, ran-low}
 
 -- ---- from group to group
 
 pub before-before : (is js : List Item) (r : Got) → before is (before js r) ≡ before (is ++ js) r
 before-before is js (got ks) = ap got (sym (append-assoc is js ks))
-before-before is js (stopped n q) = refl
+before-before is js (stopped n q s) = refl
 
 before-none : (r : Got) → before [] r ≡ r
 before-none (got is) = refl
-before-none (stopped n q) = refl
+before-none (stopped n q s) = refl
 
 -- what was brought before, and then
 brought-more : {x₀ x y : Pass} {out₀ out out′ : List ℕ} {is js : List Item} → Brought x₀ out₀ is x out → Brought x out js y out′ → Brought x₀ out₀ (is ++ js) y out′
@@ -108,7 +107,7 @@ module _ (ks : List Kind) (p : Plan) (c : List ℕ) (n : ℕ) (out₀ : List ℕ
         let e : n - g ≡ suc (n - (g + 1)) = omega arith in
         rw e refl
 
-    pub over-fault : {k q : ℕ} → groupFault p c first ≡ found k q → readGroups p ks c n 0 Nothing 0 ≡ stopped k q
+    pub over-fault : {k q : ℕ} → groupFault p c first ≡ found k q → readGroups p ks c n 0 Nothing 0 ≡ stopped k q 0
     over-fault e = a .is ∙ ap (before (a .items)) (group-next ∙ ap (λ (f : Fault). ifSound f (onward (renamed (storedAt p) here) behind)) e)
 
     sound-next : groupFault p c first ≡ none → readGroups p ks c n 0 Nothing 0 ≡ before (a .items) (onward (renamed (storedAt p) here) behind)
@@ -137,23 +136,23 @@ module _ (ks : List Kind) (p : Plan) (c : List ℕ) (n : ℕ) (out₀ : List ℕ
       ran-to =
           subst (λ (l : List Slot). RanTo x out (run ks (p .parity) l (heldOf (x .held)) (x .since)) (fillsIn (p .parity) (p .«fill_bus») 0 l (x .fills)) r out′) t m
 
-      pub since-low : r .since ≤ (g + 1) * slots p
-      since-low =
+      pub told-low : (r .since ≤ (g + 1) * slots p) × (r .bad ≤ (g + 1) * slots p + 1)
+      told-low =
           ran-low ((g + 1) * slots p) x r out out′ here fills
           (run-in ks (p .parity) (λ q. q ≤ (g + 1) * slots p) (numbersOf p c g) (counted-within ((g + 1) * slots p) (g * slots p) (wordsIn (groupSlots p c first)) upto)
           (heldOf (x .held)) (x .since) (omega (arith, a .low)))
           ran-to
 
-      bad-at : (y : Ran) → RanTo x out y fills r out′ → r .bad ≡ true → y ≡ badAt (r .since)
-      bad-at (badAt q) m z = ap badAt (sym (m .1))
-      bad-at (ran is k q) m z = clash (sym (m .0 .sound .good) ∙ z)
+      bad-at : (y : Ran) → RanTo x out y fills r out′ → (r .bad ≡ 0 → ⊥) → y ≡ badAt (r .bad - 1) (r .since)
+      bad-at (badAt q s) m z = let e : q ≡ r .bad - 1 = omega (arith, m .0) in ap₂ badAt e (sym (m .1))
+      bad-at (ran is k q) m z = absurd (z (m .0 .sound .good))
 
-      pub over-bad : r .bad ≡ true → readGroups p ks c n 0 Nothing 0 ≡ stopped 13 (storedAt p (r .since))
+      pub over-bad : (r .bad ≡ 0 → ⊥) → readGroups p ks c n 0 Nothing 0 ≡ stopped 13 (storedAt p (r .bad - 1)) (storedAt p (r .since))
       over-bad z = sound-next sound ∙ ap (λ (y : Ran). before (a .items) (onward (renamed (storedAt p) y) behind)) (bad-at here ran-to z)
 
-      more-of : (y : Ran) → RanTo x out y fills r out′ → r .bad ≡ false → r .pen .bits ≤ 128 * ((g + 1) * slots p)
+      more-of : (y : Ran) → RanTo x out y fills r out′ → r .bad ≡ 0 → r .pen .bits ≤ 128 * ((g + 1) * slots p)
           → readGroups p ks c n 0 Nothing 0 ≡ before (a .items) (onward (renamed (storedAt p) y) behind) → Over ks p c n out₀ (g + 1) r out′
-      more-of (badAt q) m z l e = clash (sym z ∙ m .0)
+      more-of (badAt q s) m z l e = let k : q + 1 ≡ 0 = sym (m .0) ∙ z in absurd (omega arith)
       more-of (ran is k q) m z l e = record {
         items = a .items ++ is;
         is = e ∙ before-before (a .items) is (behind k (storedAt p q))
@@ -161,12 +160,19 @@ module _ (ks : List Kind) (p : Plan) (c : List ℕ) (n : ℕ) (out₀ : List ℕ
         fill = fill-next ∙ ap (fillsOver p (numbersOn p c (g + 1) (n - (g + 1)))) (sym (m .3));
         brought = brought-more (a .brought) (m .0);
         few = l;
-        low = since-low;
+        low = told-low .0;
         fill-low = rw (m .3) fill-low;
       }
 
-      pub over-more : r .bad ≡ false → r .pen .bits ≤ 128 * ((g + 1) * slots p) → Over ks p c n out₀ (g + 1) r out′
+      pub over-more : r .bad ≡ 0 → r .pen .bits ≤ 128 * ((g + 1) * slots p) → Over ks p c n out₀ (g + 1) r out′
       over-more z l = more-of here ran-to z l (sound-next sound)
+
+  -- the walk ends at a bad word
+  pub walked-bad : {x : Pass} {r : Walk} {out : List ℕ} (bad first : ℕ)
+      → readGroups p ks c n 0 Nothing 0 ≡ stopped 13 (storedAt p (bad - 1)) (storedAt p first) → r ≡ brokenAt p x bad first → Walked ks p c n out₀ r out
+  walked-bad {x} {r} {out} bad first e w =
+      subst (λ (k : Walk). Walked ks p c n out₀ k out) (sym w)
+      (record { through = λ z. absurd (omega arith); notice = λ z. absurd (omega arith); stops = λ z. e })
 
   group-none : (k : ℕ) (h : Held) (q : ℕ) → k ≡ 0 → readGroups p ks c k n h q ≡ finish h q
   unfolding readGroups

@@ -107,7 +107,7 @@ unfolding fillsIn
 fills-few N parity code i [] x nil a = a
 fills-few N parity code i (s ∷ ss) x (cons h all) a = fills-few N parity code (i + 1) ss (onSlot parity code i s x) all (slot-few N parity code i s x h a)
 
--- and so is the one that a run tells of
-pub ran-low : (N : ℕ) (x r : Pass) (out out′ : List ℕ) (y : Ran) (f : Fills) → RanIn (λ q. q ≤ N) y → RanTo x out y f r out′ → r .since ≤ N
-ran-low N x r out out′ (badAt q) f a m = rw (m .1) a
-ran-low N x r out out′ (ran is h q) f a m = rw (m .2) a
+-- and so are those that a run tells of
+pub ran-low : (N : ℕ) (x r : Pass) (out out′ : List ℕ) (y : Ran) (f : Fills) → RanIn (λ q. q ≤ N) y → RanTo x out y f r out′ → (r .since ≤ N) × (r .bad ≤ N + 1)
+ran-low N x r out out′ (badAt q s) f a m = (rw (m .1) (a .1), omega (arith, m .0, a .0))
+ran-low N x r out out′ (ran is h q) f a m = (rw (m .2) a, omega (arith, m .0 .sound .good))

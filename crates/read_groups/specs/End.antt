@@ -23,6 +23,7 @@ pub record Logged (ks : List Kind) (p : Plan) (c : List ℕ) (n : ℕ) (r : Outc
   pub items : List Item
   pub is : readGroups p ks c n 0 Nothing 0 ≡ got items
   pub place : r .place ≡ 0
+  pub second : r .second ≡ 0
   pub bytes : r .bytes ≡ length (logOf items)
   pub log : r .bytes + 7 ≤ length out → take (r .bytes) out ≡ logOf items
   pub notice-number : r .notice ≡ openNumber ks p c n
@@ -33,7 +34,7 @@ pub record Logged (ks : List Kind) (p : Plan) (c : List ℕ) (n : ℕ) (r : Outc
 
 -- n groups, or the cut item behind them, are refused
 pub record Refused (ks : List Kind) (p : Plan) (c : List ℕ) (n : ℕ) (r : Outcome) : Type 0 where
-  pub is : readGroups p ks c n 0 Nothing 0 ≡ stopped (r .number) (r .place)
+  pub is : readGroups p ks c n 0 Nothing 0 ≡ stopped (r .number) (r .place) (r .second)
   pub bytes : r .bytes ≡ 0
   pub notice : r .notice ≡ 0
   pub misplaced : r .misplaced ≡ 0
@@ -45,20 +46,21 @@ pub record Ended (ks : List Kind) (p : Plan) (c : List ℕ) (n : ℕ) (r : Outco
 
 -- ---- what of it is one: all that is returned, and the log where both arrays have room for it; the rest of an array is work room
 
-same-outcome : (r r′ : Outcome) → r .number ≡ r′ .number → r .place ≡ r′ .place → r .bytes ≡ r′ .bytes → r .notice ≡ r′ .notice → r .misplaced ≡ r′ .misplaced → r ≡ r′
-same-outcome r r′ a b d o e =
-    ap₂ (λ (x y : ℕ). record { number = x; place = y; bytes = r .bytes; notice = r .notice; misplaced = r .misplaced }) a b
-    ∙ ap₂ (λ (x y : ℕ). record { number = r′ .number; place = r′ .place; bytes = x; notice = y; misplaced = r .misplaced }) d o
-    ∙ ap (λ (x : ℕ). record { number = r′ .number; place = r′ .place; bytes = r′ .bytes; notice = r′ .notice; misplaced = x }) e
+same-outcome : (r r′ : Outcome) → r .number ≡ r′ .number → r .place ≡ r′ .place → r .second ≡ r′ .second → r .bytes ≡ r′ .bytes → r .notice ≡ r′ .notice
+    → r .misplaced ≡ r′ .misplaced → r ≡ r′
+same-outcome r r′ a b q d o e =
+    ap₂ (λ (x y : ℕ). record { number = x; place = y; second = r .second; bytes = r .bytes; notice = r .notice; misplaced = r .misplaced }) a b
+    ∙ ap₂ (λ (x y : ℕ). record { number = r′ .number; place = r′ .place; second = x; bytes = y; notice = r .notice; misplaced = r .misplaced }) q d
+    ∙ ap₂ (λ (x y : ℕ). record { number = r′ .number; place = r′ .place; second = r′ .second; bytes = r′ .bytes; notice = x; misplaced = y }) o e
 
 same-items : {g : Got} {is js : List Item} → g ≡ got is → g ≡ got js → is ≡ js
 same-items e f = cc
 
-not-both : {A : Type 0} {g : Got} {is : List Item} {n q : ℕ} → g ≡ got is → g ≡ stopped n q → A
+not-both : {A : Type 0} {g : Got} {is : List Item} {n q s : ℕ} → g ≡ got is → g ≡ stopped n q s → A
 not-both e f = let z : _≡_ {A = ℕ} 0 1 = cc in absurd (omega arith)
 
-same-number : {g : Got} {n q m k : ℕ} → g ≡ stopped n q → g ≡ stopped m k → (n ≡ m) × (q ≡ k)
-same-number e f = (cc, cc)
+same-number : {g : Got} {n q s m k t : ℕ} → g ≡ stopped n q s → g ≡ stopped m k t → (n ≡ m) × (q ≡ k) × (s ≡ t)
+same-number e f = (cc, cc, cc)
 
 module _ (ks : List Kind) (p : Plan) (c : List ℕ) (n : ℕ) {r r′ : Outcome} {out out′ : List ℕ} (a : Ended ks p c n r out) (b : Ended ks p c n r′ out′) where
   same-log : (x : Logged ks p c n r out) (y : Logged ks p c n r′ out′) → logOf (x .items) ≡ logOf (y .items)
@@ -71,7 +73,7 @@ module _ (ks : List Kind) (p : Plan) (c : List ℕ) (n : ℕ) {r r′ : Outcome}
       go zero zero e f =
           let x = a .logged e in
           let y = b .logged f in
-          same-outcome r r′ (e ∙ sym f) (x .place ∙ sym (y .place)) (x .bytes ∙ ap length (same-log x y) ∙ sym (y .bytes))
+          same-outcome r r′ (e ∙ sym f) (x .place ∙ sym (y .place)) (x .second ∙ sym (y .second)) (x .bytes ∙ ap length (same-log x y) ∙ sym (y .bytes))
           (x .notice-number ∙ sym (y .notice-number)) (x .number ∙ sym (y .number))
       go zero (suc k) e f = not-both (a .logged e .is) (b .refused (λ z. omega (arith, z, f)) .is)
       go (suc m) zero e f = not-both (b .logged f .is) (a .refused (λ z. omega (arith, z, e)) .is)
@@ -79,7 +81,7 @@ module _ (ks : List Kind) (p : Plan) (c : List ℕ) (n : ℕ) {r r′ : Outcome}
           let x = a .refused (λ z. omega (arith, z, e)) in
           let y = b .refused (λ z. omega (arith, z, f)) in
           let s = same-number (x .is) (y .is) in
-          same-outcome r r′ (s .0) (s .1) (x .bytes ∙ sym (y .bytes)) (x .notice ∙ sym (y .notice)) (x .misplaced ∙ sym (y .misplaced))
+          same-outcome r r′ (s .0) (s .1) (s .2) (x .bytes ∙ sym (y .bytes)) (x .notice ∙ sym (y .notice)) (x .misplaced ∙ sym (y .misplaced))
 
   pub ended-log-one : r .number ≡ 0 → r .bytes + 7 ≤ length out → r′ .bytes + 7 ≤ length out′ → take (r .bytes) out ≡ take (r′ .bytes) out′
   ended-log-one e h k =

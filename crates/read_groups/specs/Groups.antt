@@ -1,6 +1,5 @@
 -- A reading over the groups of a capture.
 use Prim.Native.Nat.{ℕ, _*_, _-_, _≤_}
-use mathlib.Core.Bool.{false}
 use mathlib.Core.Path.{_≡_}
 use mathlib.Core.List.{List}
 use Rattle.format.specs.Lists.{list}
@@ -23,7 +22,11 @@ use Rattle.notices.specs.Laws.Groups.{openNumber}
 
 -- before the first group
 abbrev pub startPass : Pass
-startPass = record { held = flat Nothing; since = 0; pen = start; fills = noFill; bad = false }
+startPass = record { held = flat Nothing; since = 0; pen = start; fills = noFill; bad = 0 }
+
+-- a bad word, and the item that it broke
+abbrev pub brokenAt : Plan → Pass → ℕ → ℕ → Walk
+brokenAt p x bad first = record { pass = x; number = 13; place = storedAt p (bad - 1); second = storedAt p first; notice = 0 }
 
 -- the slots of k groups from the group g on, each told by its stored place
 abbrev pub groupsOn : Plan → List ℕ → ℕ → ℕ → List (List Slot)
@@ -53,4 +56,4 @@ pub record Through (ks : List Kind) (p : Plan) (c : List ℕ) (n : ℕ) (out₀ 
 pub record Walked (ks : List Kind) (p : Plan) (c : List ℕ) (n : ℕ) (out₀ : List ℕ) (r : Walk) (out : List ℕ) : Type 0 where
   pub through : r .number ≡ 0 → Through ks p c n out₀ (r .pass) out
   pub notice : r .number ≡ 0 → r .notice ≡ openNumber ks p c n
-  pub stops : (r .number ≡ 0 → ⊥) → readGroups p ks c n 0 Nothing 0 ≡ stopped (r .number) (r .place)
+  pub stops : (r .number ≡ 0 → ⊥) → readGroups p ks c n 0 Nothing 0 ≡ stopped (r .number) (r .place) (r .second)

@@ -7,7 +7,7 @@ ghost use Rattle.format.specs.Plan.{groupWords, slots, storedAt};
 ghost use Rattle.format.specs.Laws.Limits.{Shape};
 ghost use Rattle.group_read.specs.Row.{dealtCount};
 ghost use Rattle.read_groups.specs.End.{Ended};
-ghost use Rattle.read_groups.specs.Groups.{startPass, Walked};
+ghost use Rattle.read_groups.specs.Groups.{brokenAt, startPass, Walked};
 use data_run::Pass;
 use data_run::fill::Fills;
 use data_run::on_row;
@@ -19,20 +19,22 @@ use narrow;
 use notices::at_end;
 use notices::has_arinc;
 
-// A reading over the groups: number 0, what is carried then and the earliest open notice, or the number and place of what it stops
-// at.
+// A reading over the groups: number 0, what is carried then and the earliest open notice, or the number and both places of what it
+// stops at.
 struct Walk {
     pass: Pass,
     number: u32,
     place: u64,
+    second: u64,
     notice: u64,
 }
 
-// What the groups bring: a refusal's number and place, or number 0, the length of the log, and the earliest open notice and the
+// What the groups bring: a refusal's number and both places, or number 0, the length of the log, and the earliest open notice and the
 // earliest misplaced fill, each told by its number among the data words, one up.
 pub struct Outcome {
     pub number: u32,
     pub place: u64,
+    pub second: u64,
     pub bytes: usize,
     pub notice: u64,
     pub misplaced: u64,
@@ -49,7 +51,7 @@ fn start_pass() -> Pass
             first: 0,
             misplaced: 0,
         },
-        bad: false,
+        bad: 0,
     }
 }
 
@@ -62,6 +64,22 @@ pub fn stored_place(plan: Plan, count: usize, number: u64) -> u64
     let group = narrow::quotient(n, count);
     let place = group_read::place_of(plan, group_read::lead(plan) + narrow::remainder(n, count));
     (group * (plan.tracks * plan.words) + place) as u64
+}
+
+// A bad word, by its number one up, and the first word of the item that it broke, by its number.
+fn broken(plan: Plan, count: usize, start: Pass, bad: u64, first: u64) -> Walk
+    requires { ⌜ Shape plan × (count ≡ slots plan) × (1 ≤ bad) × (bad < 2 ^ 32) × (first < 2 ^ 32) ⌝ }
+    ensures { λ r. ⌜ r ≡ brokenAt plan start bad first ⌝ }
+{
+    let place = stored_place(plan, count, bad - 1);
+    let second = stored_place(plan, count, first);
+    Walk {
+        pass: start,
+        number: 13,
+        place: place,
+        second: second,
+        notice: 0,
+    }
 }
 
 // "group by group": its faults as stored and of its time words, and then its data words, as they are dealt into the row.
@@ -93,10 +111,12 @@ fn over_groups(
         let end = begin + 3 * size;
         let fault = group_read::deal(&capture[begin..end], plan, row);
         if fault.number != 0 {
+            let place = g * size + fault.place;
             return Walk {
                 pass: start,
                 number: fault.number,
-                place: (g * size + fault.place) as u64,
+                place: place as u64,
+                second: 0,
                 notice: 0,
             };
         }
@@ -109,13 +129,8 @@ fn over_groups(
             from,
             out,
         );
-        if pass.bad {
-            return Walk {
-                pass: start,
-                number: 13,
-                place: stored_place(plan, count, pass.since),
-                notice: 0,
-            };
+        if pass.bad != 0 {
+            return broken(plan, count, start, pass.bad, pass.since);
         }
         found = notices::note_row(
             arinc,
@@ -134,6 +149,7 @@ fn over_groups(
         pass: pass,
         number: 0,
         place: 0,
+        second: 0,
         notice: notice,
     }
 }
@@ -181,6 +197,7 @@ pub fn read_groups(
         return Outcome {
             number: walk.number,
             place: walk.place,
+            second: walk.second,
             bytes: 0,
             notice: 0,
             misplaced: 0,
@@ -189,9 +206,11 @@ pub fn read_groups(
     let pass = walk.pass;
     let step = data_word::finish(pass.held);
     if step.bad {
+        let first = stored_place(plan, count, pass.since);
         return Outcome {
             number: 13,
-            place: stored_place(plan, count, pass.since),
+            place: first,
+            second: first,
             bytes: 0,
             notice: 0,
             misplaced: 0,
@@ -202,6 +221,7 @@ pub fn read_groups(
     Outcome {
         number: 0,
         place: 0,
+        second: 0,
         bytes: bytes,
         notice: walk.notice,
         misplaced: pass.fills.misplaced,

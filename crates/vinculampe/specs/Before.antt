@@ -34,4 +34,4 @@ unfoldable pub readingFrom : Bool → ℕ → ℕ → ℕ → ℕ → ℕ → Li
 readingFrom closed words tracks time crc parity kinds capture logRoom timeBytesRoom =
     cond (named time crc parity kinds)
     (was.reading closed (planFrom words tracks time crc parity) (map kindOf kinds) capture logRoom (timeBytesRoom / 8))
-    (refuses 1 0)
+    (refuses 1 0 0)

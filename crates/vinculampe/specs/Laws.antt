@@ -12,6 +12,7 @@ use borrow.Author.Tests.{eqb-true, eq-eqb}
 use Rattle.format.specs.Answer.{Made}
 use Rattle.format.specs.declared.Answer.{Answer}
 use Rattle.format.specs.Laws.Refusals.{ComposingNumber, composed-refused, log-refused, reading-refused}
+use Rattle.format.specs.Laws.Second.{ReadOnly, read-only}
 use Rattle.format.specs.Compose.{Composed, made, refused, composed, groupsFor, unlessOpen}
 use Rattle.format.specs.Group.{Fault, none, found, unless}
 use Rattle.format.specs.Notices.{firstOpen, openFault, bitOf}
@@ -32,7 +33,7 @@ use Rattle.format.specs.Laws.Before.{legal-same}
 no-capture : {A : Type 0} {n q : ℕ} {c : List ℕ} → refused n q ≡ made c → A
 no-capture e = let z : _≡_ {A = ℕ} 0 1 = cc in absurd (omega arith)
 
-no-log : {A : Type 0} {n q : ℕ} {log times : List ℕ} → refuses n q ≡ gives log times → A
+no-log : {A : Type 0} {n q second : ℕ} {log times : List ℕ} → refuses n q second ≡ gives log times → A
 no-log e = let z : _≡_ {A = ℕ} 0 1 = cc in absurd (omega arith)
 
 -- a run of times that is not whole eights makes nothing
@@ -115,15 +116,24 @@ module _ (words tracks time crc parity label code : ℕ) (kinds : List ℕ) wher
       go true false z = ragged-refused thePlan theKinds log n q z
       go false b z = let one : _≡_ {A = ℕ} 1 n = cc in (omega arith, inl (omega arith))
 
-  pub reading-refused-from : (closed : Bool) (c : List ℕ) (logRoom timeRoom n q : ℕ)
-      → readingFrom closed words tracks time crc parity label code kinds c logRoom timeRoom ≡ refuses n q
+  pub reading-refused-from : (closed : Bool) (c : List ℕ) (logRoom timeRoom n q second : ℕ)
+      → readingFrom closed words tracks time crc parity label code kinds c logRoom timeRoom ≡ refuses n q second
       → (1 ≤ n) × (n ≤ 15)
   unfolding readingFrom
-  reading-refused-from closed c logRoom timeRoom n q e = go (named time crc parity kinds) e
+  reading-refused-from closed c logRoom timeRoom n q second e = go (named time crc parity kinds) e
     where
-      go : (a : Bool) → cond a (reading closed thePlan theKinds c logRoom (timeRoom / 8)) (refuses 1 0) ≡ refuses n q → (1 ≤ n) × (n ≤ 15)
-      go true z = reading-refused closed thePlan theKinds c logRoom (timeRoom / 8) n q z
+      go : (a : Bool) → cond a (reading closed thePlan theKinds c logRoom (timeRoom / 8)) (refuses 1 0 0) ≡ refuses n q second → (1 ≤ n) × (n ≤ 15)
+      go true z = reading-refused closed thePlan theKinds c logRoom (timeRoom / 8) n q second z
       go false z = let one : _≡_ {A = ℕ} 1 n = cc in omega arith
+
+  -- a reading from C has no second place but in 13
+  pub read-only-from : (closed : Bool) (c : List ℕ) (logRoom timeRoom : ℕ) → ReadOnly (readingFrom closed words tracks time crc parity label code kinds c logRoom timeRoom)
+  unfolding readingFrom
+  read-only-from closed c logRoom timeRoom = go (named time crc parity kinds)
+    where
+      go : (a : Bool) → ReadOnly (cond a (reading closed thePlan theKinds c logRoom (timeRoom / 8)) (refuses 1 0 0))
+      go true = read-only closed thePlan theKinds c logRoom (timeRoom / 8)
+      go false = λ z. refl
 
   -- what a reading from C gives, a reading gives
   pub gives-from : (closed : Bool) (c log row : List ℕ) (logRoom timeRoom : ℕ) → readingFrom closed words tracks time crc parity label code kinds c logRoom timeRoom ≡ gives log row
@@ -131,7 +141,7 @@ module _ (words tracks time crc parity label code : ℕ) (kinds : List ℕ) wher
   unfolding readingFrom
   gives-from closed c log row logRoom timeRoom e = go (named time crc parity kinds) refl e
     where
-      go : (a : Bool) → named time crc parity kinds ≡ a → cond a (reading closed thePlan theKinds c logRoom (timeRoom / 8)) (refuses 1 0) ≡ gives log row
+      go : (a : Bool) → named time crc parity kinds ≡ a → cond a (reading closed thePlan theKinds c logRoom (timeRoom / 8)) (refuses 1 0 0) ≡ gives log row
           → Named × (reading closed thePlan theKinds c logRoom (timeRoom / 8) ≡ gives log row)
       go true n z = (n, z)
       go false n z = no-log z

@@ -6,6 +6,7 @@ use mathlib.Core.Bool.{Bool, true}
 use mathlib.Core.Path.{_≡_, refl, ap, sym, _∙_}
 use mathlib.Core.Logic.{_↔_, _⊎_}
 use mathlib.Core.List.{List, map, flatMap}
+use lib.IntN.{ℤ}
 use lib.ListN.{length, take}
 use Rattle.format.specs.Answer.{Made, over, success}
 use Rattle.format.specs.Compose.{Composed, made, refused, composed, captureOf}
@@ -22,6 +23,7 @@ use Rattle.format.specs.Lists.{All, Bytes}
 use Rattle.format.specs.Read.{Reading, reading, gives, refuses, groupsIn}
 use Rattle.format.specs.Laws.Exactly as Exactly
 use Rattle.format.specs.Laws.ThereAndBack.{made-fits}
+use Rattle.format.specs.Laws.Second.{answer-only}
 use Rattle.format.specs.Promises as format
 use Rattle.format.specs.declared.Answer.{Answer}
 use Rattle.from_c.specs.Numbers.{kindOf, named, planFrom, timeBytes, timesFrom}
@@ -29,8 +31,14 @@ use Rattle.from_c.specs.Laws as Times
 use Rattle.compose_from_c.specs.Composing.{composedFrom}
 use Rattle.read_from_c.specs.Reading.{GivenBytes, readingFrom, timeBytesAfter}
 use Rattle.read_from_c.specs.Reading as Reading-from
+use Rattle.log_rules.specs.Profile.{Judged, profiled}
+use Rattle.log_rules.specs.Replay.{Replay, Replays}
+use Rattle.log_rules.specs.Shift.{shifted}
+use Rattle.log_rules.specs.Laws.Second.{profile-none, replay-none, shift-none}
+use Rattle.log_rules.specs.declared.Replayed.{Replayed}
+use Rattle.log_shift.specs.Shifted.{Shifted}
 use Rattle.vinculampe.specs.Before as was
-use Rattle.vinculampe.specs.Laws.{named-sixteen, made-bytes, composed-refused-from, reading-refused-from}
+use Rattle.vinculampe.specs.Laws.{named-sixteen, made-bytes, composed-refused-from, reading-refused-from, read-only-from}
 use Rattle.vinculampe.specs.Laws.{made-from, from-made, gives-from, from-gives, composed-from-before, reading-from-before}
 
 -- ---- A contract has only one answer
@@ -124,9 +132,15 @@ module _ (words tracks time crc parity label code : ℕ) (kinds : List ℕ) wher
       → (1 ≤ number) × ((number ≤ 6) ⊎ (number ≡ 15))
   c-refused-by = composed-refused-from words tracks time crc parity label code kinds
 
-  pub c-refuses-by : (closed : Bool) (c : List ℕ) (logRoom timeRoom number place : ℕ)
-      → vinReadFull closed c logRoom timeRoom ≡ refuses number place → (1 ≤ number) × (number ≤ 15)
+  pub c-refuses-by : (closed : Bool) (c : List ℕ) (logRoom timeRoom number place second : ℕ)
+      → vinReadFull closed c logRoom timeRoom ≡ refuses number place second → (1 ≤ number) × (number ≤ 15)
   c-refuses-by = reading-refused-from words tracks time crc parity label code kinds
+
+  -- "In every other answer the second place is 0": of a reading, in every answer but 13
+  pub c-read-second : (closed : Bool) (c : List ℕ) (logRoom timeRoom : ℕ) (r : Answer) (log log′ times times′ : List ℕ)
+      → GivenBytes (vinReadFull closed c logRoom timeRoom) r log log′ times times′ → (r .number ≡ 13 → ⊥) → r .second ≡ 0
+  c-read-second closed c logRoom timeRoom r log log′ times times′ a =
+      rw (a .0) (answer-only (vinReadFull closed c logRoom timeRoom) (read-only-from words tracks time crc parity label code kinds closed c logRoom timeRoom))
 
   -- demand 3: given room, a log and times are what the closed reading gives if and only if composing them makes the capture
   pub c-closed-exactly : (c log times : List ℕ) (logRoom timeRoom space : ℕ) → Bytes c → Bytes log → length times % 8 ≡ 0
@@ -196,3 +210,22 @@ module _ (words tracks time crc parity : ℕ) (kinds : List ℕ) where
   pub c-read-as-before : (closed : Bool) (c : List ℕ) (logRoom timeRoom : ℕ)
       → vinRead closed c logRoom timeRoom ≡ was.readingFrom closed words tracks time crc parity kinds c logRoom timeRoom
   c-read-as-before = reading-from-before words tracks time crc parity kinds
+
+-- ---- The second place of every other function is 0, as of the functions of the same names from Rattle (K8)
+
+-- `vin_compose`, `vin_compose_full`, `vin_pick` and `vin_join`, whatever is to be made
+pub c-made-second : (m : Composed) (r : Answer) (out out′ : List ℕ) → Made m r out out′ → r .second ≡ 0
+c-made-second = format.made-second
+
+-- `vin_shift`
+pub c-shift-second : (log times : List ℕ) (by : ℤ) (room : ℕ) (r : Answer) (out out′ row row′ : List ℕ) → Shifted (shifted log times by room) r out out′ row row′
+    → r .second ≡ 0
+c-shift-second log times by room r out out′ row row′ a = rw (a .0) (shift-none log times by room)
+
+-- `vin_profile`
+pub c-profile-second : (log : List ℕ) (r : Answer) → Judged log r → r .second ≡ 0
+c-profile-second log r j = rw j (profile-none (profiled log))
+
+-- `vin_replay`, whatever is replayed
+pub c-replay-second : (m : Replay) (r : Replayed) (out out′ : List ℕ) → Replays m r out out′ → r .second ≡ 0
+c-replay-second m r out out′ a = rw (a .0) (replay-none m)

@@ -50,7 +50,7 @@ returns c =
     let a = entry l .args in
     let e : l .first-open .result ≡ openWord (a .kinds) (a .words .now) = l .first-open .ensures in
     rw (laid-open (a .plan) (a .kinds) (a .times .now) (length (a .out .now)) (a .words .now) (λ z. c .before .before .before .if1 .taken (e ∙ z)))
-    (c .refusal .ensures ∙ ap (refusal 15) (c .before .bits-before .ensures ∙ ap (λ (n : ℕ). bitsIn (a .kinds) (take (n - 1) (a .words .now))) e), refl)
+    (c .refusal .ensures ∙ ap (λ (q : ℕ). refusal 15 q 0) (c .before .bits-before .ensures ∙ ap (λ (n : ℕ). bitsIn (a .kinds) (take (n - 1) (a .words .now))) e), refl)
 
 compose-words-requires : tie.Need-compose-words-requires
 compose-words-requires c κs = search needs

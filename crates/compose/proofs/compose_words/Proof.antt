@@ -32,7 +32,7 @@ returns c =
     let need : c .before .before .times-needed .result ≡ cond (a .plan .«frame_time») (groupsFor (a .plan) (length ws)) 0 =
     c .before .before .times-needed .ensures ∙ ap (λ (k : ℕ). cond (a .plan .«frame_time») k 0) groups in
     rw (times-wrong (a .plan) ts (length (a .out .now)) ws (λ z. c .before .if1 .taken (z ∙ sym need)))
-    (c .refusal .ensures ∙ ap (refusal 5) need, refl)
+    (c .refusal .ensures ∙ ap (λ (q : ℕ). refusal 5 q 0) need, refl)
 
 first-late-requires : tie.Need-first-late-requires
 first-late-requires c κs = search needs
@@ -52,7 +52,7 @@ returns-2 c =
     let number = c .before .before .before .if1 .left ∙ need in
     let late = c .before .before .first-late .ensures in
     rw (time-late (a .plan) ts (length (a .out .now)) ws number (λ z. c .before .if2 .taken (late ∙ z)))
-    (c .refusal2 .ensures ∙ ap (refusal 5) late, refl)
+    (c .refusal2 .ensures ∙ ap (λ (q : ℕ). refusal 5 q 0) late, refl)
 
 group-words-requires : tie.Need-group-words-requires
 group-words-requires c κs = search needs
@@ -88,7 +88,7 @@ returns-3 c =
     let bytes : c .before .before .before .before .before .before .before .groups-for .result * (3 * c .before .before .group-words .result) ≡ groupsFor (a .plan) (length ws) * (3 * groupWords (a .plan)) =
     ap₂ (λ (g w : ℕ). g * (3 * w)) groups (c .before .before .group-words .ensures .0) in
     rw (room-short (a .plan) ts (length (a .out .now)) ws number size (rw bytes at (c .before .if3 .taken)))
-    (c .refusal3 .ensures ∙ ap (refusal 6) bytes, refl)
+    (c .refusal3 .ensures ∙ ap (λ (q : ℕ). refusal 6 q 0) bytes, refl)
 
 write-groups-requires : tie.Need-write-groups-requires
 write-groups-requires c κs =

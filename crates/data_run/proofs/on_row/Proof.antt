@@ -2,7 +2,6 @@ use native.Mathlib.Omega.{arith}
 use mathlib.Core.Path.{sym, _∙_}
 use Prim.Native.Nat.{_-_, _≤_}
 use lib.ListN.{length}
-use Rattle.format.specs.Laws.Tests.{clash}
 use Rattle.data_run.proofs.Rows.{Passed, passed-all, passed-bad, passed-fill, passed-items, passed-more, passed-none, passed-still}
 use Rattle.data_run.proofs.on_row.Statement.{statement}
 use Rattle.data_run.proofs.on_row.Tie as tie
@@ -44,10 +43,10 @@ abbrev before-out2 : tie.After-out2 Inv-loop μ-loop → tie.After-on-word Inv-l
 before-out2 c = c .before
 
 abbrev before-then3 : tie.Then3 Inv-loop μ-loop → tie.After-out2 Inv-loop μ-loop
-before-then3 c = c .before .before
+before-then3 c = c .before .before .before
 
 abbrev before-else3 : tie.Else3 Inv-loop μ-loop → tie.After-out2 Inv-loop μ-loop
-before-else3 c = c .before .before
+before-else3 c = c .before .before .before
 
 abbrev entry : tie.In-loop Inv-loop μ-loop → tie.Start Inv-loop μ-loop
 entry c = c .before .before .before .before
@@ -65,10 +64,10 @@ abbrev turn-else2 : tie.Else2 Inv-loop μ-loop → tie.In-loop Inv-loop μ-loop
 turn-else2 c = c .before .before .before .before .before .before .before .before
 
 abbrev turn-then3 : tie.Then3 Inv-loop μ-loop → tie.In-loop Inv-loop μ-loop
-turn-then3 c = c .before .before .before .before .before .before .before .before .before .before .before .before .before .before
+turn-then3 c = c .before .before .before .before .before .before .before .before .before .before .before .before .before .before .before
 
 abbrev turn-else3 : tie.Else3 Inv-loop μ-loop → tie.In-loop Inv-loop μ-loop
-turn-else3 c = c .before .before .before .before .before .before .before .before .before .before .before .before .before .before
+turn-else3 c = c .before .before .before .before .before .before .before .before .before .before .before .before .before .before .before
 
 loop-holds : tie.Need-loop-holds Inv-loop μ-loop
 loop-holds c = (omega arith, passed-none _ _ _ _ _ _ _ ((c .before .before) .pre .0))
@@ -149,7 +148,7 @@ returns c = (
       ((entry (turn-then3 c)) .pre .1 _ ((turn-then3 c) .loop-test .taken)) (passed-still _ _ _ _ _ _ _ ((before-in (turn-then3 c)) .loop .i)
       ((before-out (before-else2 (before-on-word (before-out2 (before-then3 c))))) .items-from .ensures .none ((before-on-word (before-out2 (before-then3 c))) .if2 .left))
       ((before-in (turn-then3 c)) .loop .inv .1)) ((before-out2 (before-then3 c)) .on-word .ensures .0) (c .if3 .taken),
-  λ z. clash (sym z ∙ c .if3 .taken),
+  λ z. absurd (c .if3 .taken z),
 )
 
 add-i : tie.Need-add-i Inv-loop μ-loop

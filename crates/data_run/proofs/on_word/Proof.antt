@@ -93,7 +93,9 @@ feed-requires c κs = (
 
 on-step-requires : tie.Need-on-step-requires
 on-step-requires c κs = (
+  (start-feed (c .before)) .pre .0,
   omega (arith, (start-feed (c .before)) .pre .1),
+  (start-feed (c .before)) .pre .2,
   word-fits _ _ _ ((start-feed (c .before)) .args .pass) ((start-feed (c .before)) .pre .3)
       ((start-feed (c .before)) .pre .0 .sane) (word-step ((start-feed (c .before)) .args .kinds) ((start-feed (c .before)) .args .parity)
       ((start-feed (c .before)) .args .word) ((start-feed (c .before)) .args .pass)

@@ -85,7 +85,7 @@ module _ (words tracks : ℕ) (time crc parity : Bool) where
   group-fault-same c at = rw (stored-same c at)
 
   onward-same : (r : Ran) (k l : Held → ℕ → Got) → ((h : Held) (at : ℕ) → k h at ≡ l h at) → onward r k ≡ onward r l
-  onward-same (badAt q) k l e = refl
+  onward-same (badAt q s) k l e = refl
   onward-same (ran is h at) k l e = ap (before is) (e h at)
 
   groups-same : (ks : List Kind) (c : List ℕ) (n g : ℕ) (h : Held) (at : ℕ) → readGroups p ks c n g h at ≡ was.readGroups p ks c n g h at
@@ -107,7 +107,7 @@ module _ (words tracks : ℕ) (time crc parity : Bool) where
 
   settled-same : (c : List ℕ) (n logRoom timeRoom : ℕ) (closed : Bool) (g : Got) → settled p c n logRoom timeRoom closed g ≡ was.settled p c n logRoom timeRoom closed g
   settled-same c n logRoom timeRoom closed (got is) = rw (misplaced-same (list (λ g. groupSlots p c (g * groupWords p)) 0 n))
-  settled-same c n logRoom timeRoom closed (stopped k at) = refl
+  settled-same c n logRoom timeRoom closed (stopped k at second) = refl
 
   pub reading-same : (closed : Bool) (ks : List Kind) (c : List ℕ) (logRoom timeRoom : ℕ) → reading closed p ks c logRoom timeRoom ≡ was.reading closed p ks c logRoom timeRoom
   unfolding reading was.reading

@@ -174,7 +174,7 @@ group-number p c at =
 
 abbrev GotNumber : Got → Type 0
 GotNumber (got is) = Unit {0}
-GotNumber (stopped n q) = Number 15 n
+GotNumber (stopped n q second) = Number 15 n
 
 finish-number : (h : Held) (at : ℕ) → GotNumber (finish h at)
 finish-number Nothing at = tt
@@ -185,12 +185,12 @@ finish-number (TagLow x high low) at = (omega arith, omega arith)
 finish-number (Answering bus r) at = (omega arith, omega arith)
 
 onward-number : (r : Ran) (go : Held → ℕ → Got) → ((h : Held) (at : ℕ) → GotNumber (go h at)) → GotNumber (onward r go)
-onward-number (badAt p) go k = (omega arith, omega arith)
+onward-number (badAt p q) go k = (omega arith, omega arith)
 onward-number (ran is h at) go k = front (go h at) (k h at)
   where
     front : (g : Got) → GotNumber g → GotNumber (before is g)
     front (got js) z = tt
-    front (stopped n p) z = z
+    front (stopped n p q) z = z
 
 sound-number : (f : Fault) (g : Got) → FaultNumber f → GotNumber g → GotNumber (ifSound f g)
 sound-number none g h k = k
@@ -221,7 +221,7 @@ fill-number p (ss ∷ gs) =
 
 abbrev ReadingNumber : Reading → Type 0
 ReadingNumber (gives log times) = Unit {0}
-ReadingNumber (refuses n q) = Number 15 n
+ReadingNumber (refuses n q second) = Number 15 n
 
 module _ (closed : Bool) (p : Plan) (ks : List Kind) (c : List ℕ) (logRoom timeRoom : ℕ) where
   abbrev groups : ℕ
@@ -231,15 +231,15 @@ module _ (closed : Bool) (p : Plan) (ks : List Kind) (c : List ℕ) (logRoom tim
   room-number log =
       let need : ℕ = timesNeeded p groups in
       let given : Reading = gives log (list (λ g. groupTime p c (g * groupWords p)) 0 need) in
-      either ReadingNumber (leb (length log) 32768 && leb (length log) logRoom) (cond (leb need timeRoom) given (refuses 7 need)) (refuses 6 (length log))
-      (either ReadingNumber (leb need timeRoom) given (refuses 7 need) tt (omega arith, omega arith)) (omega arith, omega arith)
+      either ReadingNumber (leb (length log) 32768 && leb (length log) logRoom) (cond (leb need timeRoom) given (refuses 7 need 0)) (refuses 6 (length log) 0)
+      (either ReadingNumber (leb need timeRoom) given (refuses 7 need 0) tt (omega arith, omega arith)) (omega arith, omega arith)
 
   placed-number : (f : Fault) (r : Reading) → FaultNumber f → ReadingNumber r → ReadingNumber (unlessFound f r)
   placed-number none r h k = k
   placed-number (found n q) r h k = h
 
   settled-number : (g : Got) → GotNumber g → ReadingNumber (settled p c groups logRoom timeRoom closed g)
-  settled-number (stopped n q) h = h
+  settled-number (stopped n q second) h = h
   settled-number (got is) h =
       let fill : Fault = misplaced p (list (λ g. groupSlots p c (g * groupWords p)) 0 groups) in
       placed-number (openIn p c groups is) (unlessFound (cond closed fill none) (roomed p c groups logRoom timeRoom (logOf is)))
@@ -251,10 +251,10 @@ module _ (closed : Bool) (p : Plan) (ks : List Kind) (c : List ℕ) (logRoom tim
   reading-number =
       let all : Reading = settled p c groups logRoom timeRoom closed (readGroups p ks c groups 0 Nothing 0) in
       let whole : Bool = leb (length c) 1048576 && eqb (length c % (3 * groupWords p)) 0 in
-      either ReadingNumber (legal p ks) (cond whole all (refuses 8 (length c))) (refuses 1 0)
-      (either ReadingNumber whole all (refuses 8 (length c)) (settled-number (readGroups p ks c groups 0 Nothing 0) (groups-number p ks c groups 0 Nothing 0)) (omega arith, omega arith))
+      either ReadingNumber (legal p ks) (cond whole all (refuses 8 (length c) 0)) (refuses 1 0 0)
+      (either ReadingNumber whole all (refuses 8 (length c) 0) (settled-number (readGroups p ks c groups 0 Nothing 0) (groups-number p ks c groups 0 Nothing 0)) (omega arith, omega arith))
       (omega arith, omega arith)
 
-pub reading-refused : (closed : Bool) (p : Plan) (ks : List Kind) (c : List ℕ) (logRoom timeRoom n q : ℕ) → reading closed p ks c logRoom timeRoom ≡ refuses n q
+pub reading-refused : (closed : Bool) (p : Plan) (ks : List Kind) (c : List ℕ) (logRoom timeRoom n q second : ℕ) → reading closed p ks c logRoom timeRoom ≡ refuses n q second
     → (1 ≤ n) × (n ≤ 15)
-reading-refused closed p ks c logRoom timeRoom n q e = rw e at (reading-number closed p ks c logRoom timeRoom)
+reading-refused closed p ks c logRoom timeRoom n q second e = rw e at (reading-number closed p ks c logRoom timeRoom)

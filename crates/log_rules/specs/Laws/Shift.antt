@@ -156,7 +156,7 @@ pub record ShiftOf (log times : List ℕ) (by : ℤ) (is : List Item) (out times
   pub new : LogOf out (map (movedItem by) is)
   pub moved-times : times′ ≡ map (moved by) times
 
-no-gives : {A : Type 0} {n q : ℕ} {log times : List ℕ} → refuses n q ≡ gives log times → A
+no-gives : {A : Type 0} {n q second : ℕ} {log times : List ℕ} → refuses n q second ≡ gives log times → A
 no-gives e = let z : _≡_ {A = ℕ} 0 1 = cc in absurd (omega arith)
 
 pub or-none : (f g : Fault) → orElse f g ≡ none → (f ≡ none) × (g ≡ none)
@@ -177,7 +177,7 @@ shifted-items log times by room is out times′ l e = go (unshifted by times is)
     new : List ℕ
     new = logOf (map (movedItem by) is)
 
-    fits : (b : Bool) → (leb (length new) 32768 && leb (length new) room) ≡ b → cond b (gives new (map (moved by) times)) (refuses 6 (length new)) ≡ gives out times′
+    fits : (b : Bool) → (leb (length new) 32768 && leb (length new) room) ≡ b → cond b (gives new (map (moved by) times)) (refuses 6 (length new) 0) ≡ gives out times′
         → unshifted by times is ≡ none → ShiftOf log times by is out times′
     fits true t z n =
         let a = or-none _ _ n in
@@ -241,15 +241,15 @@ rest-stays by (i ∷ is) = ap₂ (λ (x : Item) (l : List Item). x ∷ l) (item-
 
 -- ---- refusals, in their order
 
-pub shift-refuses : (log times : List ℕ) (by : ℤ) (room n p : ℕ) → parsed onNoPlan log ≡ fault n p → shifted log times by room ≡ refuses n p
+pub shift-refuses : (log times : List ℕ) (by : ℤ) (room n p : ℕ) → parsed onNoPlan log ≡ fault n p → shifted log times by room ≡ refuses n p 0
 unfolding shifted
 shift-refuses log times by room n p e = rw e refl
 
-pub shift-beyond : {log : List ℕ} {is : List Item} (times : List ℕ) (by : ℤ) (room : ℕ) → LogOf log is → inLimits by ≡ false → shifted log times by room ≡ refuses 17 0
+pub shift-beyond : {log : List ℕ} {is : List Item} (times : List ℕ) (by : ℤ) (room : ℕ) → LogOf log is → inLimits by ≡ false → shifted log times by room ≡ refuses 17 0 0
 unfolding shifted
 shift-beyond times by room l h = rw (l .parses, h) refl
 
 pub shift-unmovable : {log : List ℕ} {is : List Item} (times : List ℕ) (by : ℤ) (room p : ℕ) → LogOf log is → inLimits by ≡ true
-    → firstFailing (itemMoves by) 17 0 is ≡ found 17 p → shifted log times by room ≡ refuses 17 p
+    → firstFailing (itemMoves by) 17 0 is ≡ found 17 p → shifted log times by room ≡ refuses 17 p 0
 unfolding shifted
 shift-unmovable times by room p l h e = rw (l .parses, h, e) refl

@@ -28,13 +28,13 @@ refusal-requires : tie.Need-refusal-requires
 refusal-requires c κs = search needs
 
 returns : tie.Need-returns
-returns c = λ whole b. let e = c .before .before .room-number .ensures ∙ ap₂ (λ (x : ℕ) (y : ℕ). roomNumber x (length (c .before .before .before .before .before .before .before .before .args .log .now)) y (length (c .before .before .before .before .before .before .before .before .args .times .now))) (b .size) (c .before .before .before .times-of .ensures) in given-refused (c .before .before .before .before .before .before .before .before .args .log .now) (c .before .before .before .before .before .before .before .before .args .times .now) (log-beyond (c .before .before .before .before .before .before .before .before .args .plan) (c .before .before .before .before .before .before .before .before .args .capture .now) (c .before .before .before .before .before .before .before .before .args .n) (length (c .before .before .before .before .before .before .before .before .args .log .now)) (length (c .before .before .before .before .before .before .before .before .args .times .now)) whole (sym e ∙ c .before .if1 .taken) ∙ ap (refuses 6) (sym (b .size))) (c .refusal .ensures)
+returns c = λ whole b. let e = c .before .before .room-number .ensures ∙ ap₂ (λ (x : ℕ) (y : ℕ). roomNumber x (length (c .before .before .before .before .before .before .before .before .args .log .now)) y (length (c .before .before .before .before .before .before .before .before .args .times .now))) (b .size) (c .before .before .before .times-of .ensures) in given-refused (c .before .before .before .before .before .before .before .before .args .log .now) (c .before .before .before .before .before .before .before .before .args .times .now) (log-beyond (c .before .before .before .before .before .before .before .before .args .plan) (c .before .before .before .before .before .before .before .before .args .capture .now) (c .before .before .before .before .before .before .before .before .args .n) (length (c .before .before .before .before .before .before .before .before .args .log .now)) (length (c .before .before .before .before .before .before .before .before .args .times .now)) whole (sym e ∙ c .before .if1 .taken) ∙ ap (λ (k : ℕ). refuses 6 k 0) (sym (b .size))) (c .refusal .ensures)
 
 refusal-requires-2 : tie.Need-refusal-requires-2
 refusal-requires-2 c κs = search needs
 
 returns-2 : tie.Need-returns-2
-returns-2 c = λ whole b. let e = c .before .before .before .room-number .ensures ∙ ap₂ (λ (x : ℕ) (y : ℕ). roomNumber x (length (c .before .before .before .before .before .before .before .before .before .args .log .now)) y (length (c .before .before .before .before .before .before .before .before .before .args .times .now))) (b .size) (c .before .before .before .before .times-of .ensures) in given-refused (c .before .before .before .before .before .before .before .before .before .args .log .now) (c .before .before .before .before .before .before .before .before .before .args .times .now) (times-beyond (c .before .before .before .before .before .before .before .before .before .args .plan) (c .before .before .before .before .before .before .before .before .before .args .capture .now) (c .before .before .before .before .before .before .before .before .before .args .n) (length (c .before .before .before .before .before .before .before .before .before .args .log .now)) (length (c .before .before .before .before .before .before .before .before .before .args .times .now)) whole (sym e ∙ c .before .if2 .taken) ∙ ap (refuses 7) (sym (c .before .before .before .before .times-of .ensures))) (c .refusal2 .ensures)
+returns-2 c = λ whole b. let e = c .before .before .before .room-number .ensures ∙ ap₂ (λ (x : ℕ) (y : ℕ). roomNumber x (length (c .before .before .before .before .before .before .before .before .before .args .log .now)) y (length (c .before .before .before .before .before .before .before .before .before .args .times .now))) (b .size) (c .before .before .before .before .times-of .ensures) in given-refused (c .before .before .before .before .before .before .before .before .before .args .log .now) (c .before .before .before .before .before .before .before .before .before .args .times .now) (times-beyond (c .before .before .before .before .before .before .before .before .before .args .plan) (c .before .before .before .before .before .before .before .before .before .args .capture .now) (c .before .before .before .before .before .before .before .before .before .args .n) (length (c .before .before .before .before .before .before .before .before .before .args .log .now)) (length (c .before .before .before .before .before .before .before .before .before .args .times .now)) whole (sym e ∙ c .before .if2 .taken) ∙ ap (λ (k : ℕ). refuses 7 k 0) (sym (c .before .before .before .before .times-of .ensures))) (c .refusal2 .ensures)
 
 copy-requires : tie.Need-copy-requires
 copy-requires c κs = let f = fit (c .before .before .before .before .before .before .before .before .before .args .bytes) (length (c .before .before .before .before .before .before .before .before .before .args .log .now)) (c .before .before .before .before .times-of .result) (length (c .before .before .before .before .before .before .before .before .before .args .times .now)) (λ z. c .before .before .if1 .left (c .before .before .before .room-number .ensures ∙ z)) (λ z. c .before .if2 .left (c .before .before .before .room-number .ensures ∙ z)) in (f .1, omega (arith, c .before .before .before .before .before .before .before .before .before .pre .1 (f .0) (f .1)))

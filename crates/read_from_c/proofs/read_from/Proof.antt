@@ -48,7 +48,7 @@ returns-2 c =
     rw
     (read-unnamed (a .words) (a .tracks) (a .frame-time) (a .crc) (a .parity) (a .crc-label) (a .fill-bus) (a .kinds .now) (a .closed) (a .capture .now) (length (a .log .now))
     (length (a .times .now)) (sym (c .before .before .named .ensures) ∙ c .before .if1 .left))
-    (given-none _ (a .log .now) (a .times .now) 1 0 (c .unnamed .ensures))
+    (given-none _ (a .log .now) (a .times .now) 1 0 0 (c .unnamed .ensures))
 
 pub read-from-spec : {M : Type 1} → statement M
 read-from-spec =

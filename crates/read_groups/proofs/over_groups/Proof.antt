@@ -8,7 +8,6 @@ use lib.ListN.{length, getD, take, drop}
 use Rattle.format.specs.Plan.{groupWords, slots, lead}
 use Rattle.format.specs.Group.{none, groupFault, groupSlots}
 use Rattle.format.specs.Reader.{counted}
-use Rattle.format.specs.Read.{stopped}
 use Rattle.format.specs.Laws.Limits.{Shape, group-most, mostGroupWords, slots-most, lead-few}
 use Rattle.format.specs.Laws.Reader.Named.{wordsIn}
 use Rattle.format.specs.Laws.Word.Bytes.{all-bytes}
@@ -19,7 +18,7 @@ use Rattle.read_groups.specs.Groups.{Over}
 use Rattle.notices.specs.Laws.Groups.{openNumber, NotedTo, noted-none, noted-more, noted-all}
 use Rattle.notices.specs.Table.{earliestOf}
 use Rattle.notices.specs.Laws.Rows.{no-arinc-open}
-use Rattle.read_groups.proofs.Groups.{over-none, over-fault, over-bad, over-more, over-all, since-low, numbers-few, dealt-all, group-room}
+use Rattle.read_groups.proofs.Groups.{over-none, over-fault, over-bad, walked-bad, over-more, over-all, told-low, numbers-few, dealt-all, group-room}
 use Rattle.read_groups.proofs.Groups.{part-length, dealt-none, dealt-found, dealt-low, dealt-words}
 use Rattle.read_groups.proofs.over_groups.Statement.{statement}
 use Rattle.read_groups.proofs.over_groups.Tie as tie
@@ -148,23 +147,28 @@ of-row c = c .before .before .before .before
 abbrev out : Ran-row → List ℕ
 out c = c .on-row .last .1 .1 .1 .1 .1 .1 .0
 
-since-few : (c : Ran-row) → c .on-row .result .since < 2 ^ 32
-since-few c =
+told-few : (c : Ran-row) → (c .on-row .result .since < 2 ^ 32) × (c .on-row .result .bad < 2 ^ 32)
+told-few c =
     let e = of-row c in
     let l = group e in
-    omega (
-      arith,
-      since-low (start l .args .kinds) (plan l) (capture l) (start l .args .groups) (start l .args .out .now) (shape l) (l .loop .g) (in-loop (dealt e) .loop-test .taken)
-          (l .loop .pass) (l .loop .out) (over l) (counted (l .loop .from) (part e)) (counted-is e) (sound e) (c .on-row .result) (out c) (c .on-row .ensures .0),
-      numbers e,
-    )
+    let t =
+    told-low (start l .args .kinds) (plan l) (capture l) (start l .args .groups) (start l .args .out .now) (shape l) (l .loop .g) (in-loop (dealt e) .loop-test .taken)
+    (l .loop .pass) (l .loop .out) (over l) (counted (l .loop .from) (part e)) (counted-is e) (sound e) (c .on-row .result) (out c) (c .on-row .ensures .0) in
+    (omega (arith, t .0, numbers e), omega (arith, t .1, numbers e))
+
+-- a word of it is bad
+abbrev Bad-row : Type 0
+Bad-row = tie.Then2 Inv-loop μ-loop
+
+abbrev bad-row : Bad-row → Ran-row
+bad-row c = c .before .before .before .before
 
 -- no word of it is bad
 abbrev Good-row : Type 0
 Good-row = tie.Else2 Inv-loop μ-loop
 
 abbrev good : Good-row → Ran-row
-good c = c .before .before .before
+good c = c .before .before .before .before
 
 abbrev good-group : Good-row → Sound-group
 good-group c = of-row (good c)
@@ -249,11 +253,11 @@ deal-requires c κs =
       omega (arith, l .loop .inv .2, start l .pre .0 .2 (omega (arith, i .loop-test .taken))),
     )
 
-mul-t29 : tie.Need-mul-t29 Inv-loop μ-loop
-mul-t29 c = let d = c .before .before .before .before in omega (arith, room (in-loop d), start (loop d) .pre .1 .1)
+mul-place : tie.Need-mul-place Inv-loop μ-loop
+mul-place c = let d = c .before .before .before .before in omega (arith, room (in-loop d), start (loop d) .pre .1 .1)
 
-add-t30 : tie.Need-add-t30 Inv-loop μ-loop
-add-t30 c = let d = c .before .before .before .before .before in omega (arith, low d, room (in-loop d), start (loop d) .pre .1 .1)
+add-place : tie.Need-add-place Inv-loop μ-loop
+add-place c = let d = c .before .before .before .before .before in omega (arith, low d, room (in-loop d), start (loop d) .pre .1 .1)
 
 same-length : tie.Need-same-length Inv-loop μ-loop
 same-length c = search needs
@@ -297,31 +301,31 @@ on-row-requires c κs =
       shape l .filling,
     )
 
-stored-place-requires : tie.Need-stored-place-requires Inv-loop μ-loop
-stored-place-requires c κs = let r = c .before .before .before in let l = group (of-row r) in (shape l, start l .pre .0 .1, since-few r)
+broken-requires : tie.Need-broken-requires Inv-loop μ-loop
+broken-requires c κs =
+    let r = bad-row c in
+    let l = group (of-row r) in
+    let t = told-few r in
+    (shape l, start l .pre .0 .1, omega (arith, c .if2 .taken), t .1, t .0)
 
 same-length-3 : tie.Need-same-length-3 Inv-loop μ-loop
 same-length-3 c =
-    let e = of-row (c .before .before .before .before) in
+    let e = of-row (bad-row (c .before)) in
     dealt e .deal .ensures .long ∙ group e .loop .inv .2
 
 same-length-4 : tie.Need-same-length-4 Inv-loop μ-loop
-same-length-4 c = c .before .before .before .out .given ∙ over (group (of-row (c .before .before .before .before))) .brought .long
+same-length-4 c = c .before .before .before .before .out .given ∙ over (group (of-row (bad-row (c .before)))) .brought .long
 
 returns-2 : tie.Need-returns-2 Inv-loop μ-loop
 returns-2 c =
     let t = c .before in
-    let r = t .before .before .before in
+    let r = bad-row t in
     let e = of-row r in
     let l = group e in
-    record {
-      through = λ z. absurd (omega arith);
-      notice = λ z. absurd (omega arith);
-      stops = λ z.
-          over-bad (start l .args .kinds) (plan l) (capture l) (start l .args .groups) (start l .args .out .now) (shape l) (l .loop .g) (in-loop (dealt e) .loop-test .taken)
-          (l .loop .pass) (l .loop .out) (over l) (counted (l .loop .from) (part e)) (counted-is e) (sound e) (r .on-row .result) (out r) (r .on-row .ensures .0) (t .if2 .taken)
-          ∙ ap (stopped 13) (sym (c .stored-place .ensures));
-    }
+    walked-bad _ _ _ _ _ (r .on-row .result .bad) (r .on-row .result .since)
+    (over-bad (start l .args .kinds) (plan l) (capture l) (start l .args .groups) (start l .args .out .now) (shape l) (l .loop .g) (in-loop (dealt e) .loop-test .taken)
+    (l .loop .pass) (l .loop .out) (over l) (counted (l .loop .from) (part e)) (counted-is e) (sound e) (r .on-row .result) (out r) (r .on-row .ensures .0) (t .if2 .taken))
+    (c .broken .ensures)
 
 mul-note-row : tie.Need-mul-note-row Inv-loop μ-loop
 mul-note-row c = let e = good-group c in omega (arith, first e, lead-few (plan (group e)))
@@ -336,7 +340,7 @@ part-note-row-end : tie.Need-part-note-row-end Inv-loop μ-loop
 part-note-row-end c = part-room (good-group (c .before))
 
 slice-aggregate-note-row : tie.Need-slice-aggregate-note-row Inv-loop μ-loop
-slice-aggregate-note-row c = search needs
+slice-aggregate-note-row c = sym (group (good-group (c .before .before .before)) .loop .inv .4)
 
 note-row-requires : tie.Need-note-row-requires Inv-loop μ-loop
 note-row-requires c κs =
@@ -416,8 +420,8 @@ over-groups-spec =
     part-deal-start
     part-deal-end
     deal-requires
-    mul-t29
-    add-t30
+    mul-place
+    add-place
     same-length
     same-length-2
     returns
@@ -426,7 +430,7 @@ over-groups-spec =
     part-on-row-start
     part-on-row-end
     on-row-requires
-    stored-place-requires
+    broken-requires
     same-length-3
     same-length-4
     returns-2

@@ -23,19 +23,19 @@ use Rattle.format.specs.declared.Held.{Held}
 use Rattle.format.specs.declared.Held.the-variants.{Nothing}
 
 -- a refusal is no reading
-no-got : {A : Type 0} (n p : ℕ) (is : List Item) → stopped n p ≡ got is → A
-no-got n p is e = let z : _≡_ {A = ℕ} 0 1 = cc in absurd (omega arith)
+no-got : {A : Type 0} (n p q : ℕ) (is : List Item) → stopped n p q ≡ got is → A
+no-got n p q is e = let z : _≡_ {A = ℕ} 0 1 = cc in absurd (omega arith)
 
 before-got : (is js : List Item) (g : Got) → before is g ≡ got js → (ks : List Item) × (g ≡ got ks)
 before-got is js (got ks) e = (ks, refl)
-before-got is js (stopped n p) e = no-got n p js e
+before-got is js (stopped n p q) e = no-got n p q js e
 
 -- what follows an accepted run is accepted
 onward-got : (r : Ran) (k : Held → ℕ → Got) (is : List Item) → onward r k ≡ got is → (h : Held) × (p : ℕ) × (js : List Item) × (k h p ≡ got js)
-onward-got (badAt p) k is e = no-got 13 p is e
+onward-got (badAt p q) k is e = no-got 13 p q is e
 onward-got (ran js h p) k is e = let b = before-got js is (k h p) e in (h, p, b .0, b .1)
 
-accepted-sound : (p : Plan) (ks : List Kind) (c : List ℕ) (n g : ℕ) (h : Held) (at : ℕ) (is : List Item) → readGroups p ks c n g h at ≡ got is → Faultless p c n g
+pub accepted-sound : (p : Plan) (ks : List Kind) (c : List ℕ) (n g : ℕ) (h : Held) (at : ℕ) (is : List Item) → readGroups p ks c n g h at ≡ got is → Faultless p c n g
 unfolding readGroups
 accepted-sound p ks c zero g h at is e = last
 accepted-sound p ks c (suc n) g h at is e = go (groupFault p c (g * groupWords p)) refl e (λ h′ at′ js e′. accepted-sound p ks c n (g + 1) h′ at′ js e′)
@@ -46,7 +46,7 @@ accepted-sound p ks c (suc n) g h at is e = go (groupFault p c (g * groupWords p
     go none f e ih =
         let r = onward-got (run ks (p .parity) (groupSlots p c (g * groupWords p)) h at) (λ h′ at′. readGroups p ks c n (g + 1) h′ at′) is e in
         next f (ih (r .0) (r .1) (r .2) (r .3))
-    go (found k q) f e ih = no-got k q is e
+    go (found k q) f e ih = no-got k q 0 is e
 
 -- its data words say what the words of lawful items say
 pub accepted-parts : (p : Plan) (ks : List Kind) (c : List ℕ) (n : ℕ) (is : List Item) → readGroups p ks c n 0 Nothing 0 ≡ got is

@@ -11,7 +11,7 @@ use Rattle.format.specs.Time.{belowTick}
 use Rattle.format.specs.Plan.{kindOn, lead, slots, groupWords, placeOf, storedAt}
 use Rattle.format.specs.Lists.{list, All, nil, cons}
 use Rattle.format.specs.Group.{groupFault, groupSlots}
-use Rattle.format.specs.Reader.{Fed, bad, fed, feed, starts, isHigh, isPair, run, Ran, badAt, ran, since, join, more, Slot, counted}
+use Rattle.format.specs.Reader.{Fed, bad, fed, feed, starts, isHigh, isPair, run, Ran, badAt, ran, since, begun, join, more, Slot, counted}
 use Rattle.format.specs.Read.{Got, onward, before, ifSound, readGroups}
 use Rattle.format.specs.declared.Kind.{Kind}
 use Rattle.format.specs.declared.Kind.the-variants.{Unused, Mil1553, Arinc429}
@@ -27,7 +27,7 @@ abbrev pub named : (ℕ → ℕ) → Slot → Slot
 named f s = (f (s .0), s .1)
 
 abbrev pub renamed : (ℕ → ℕ) → Ran → Ran
-renamed f (badAt p) = badAt (f p)
+renamed f (badAt p q) = badAt (f p) (f q)
 renamed f (ran is h p) = ran is h (f p)
 
 since-named : (f : ℕ → ℕ) (h : Held) (old here : ℕ) → since h (f old) (f here) ≡ f (since h old here)
@@ -39,14 +39,22 @@ since-named f (TagHigh x high) old here = refl
 since-named f (TagLow x high low) old here = refl
 since-named f (Answering bus r) old here = refl
 
+begun-named : (f : ℕ → ℕ) (h : Held) (first here : ℕ) → begun h (f first) (f here) ≡ f (begun h first here)
+begun-named f Nothing first here = refl
+begun-named f (Taggable x) first here = refl
+begun-named f (Half bus c high) first here = refl
+begun-named f (TagHigh x high) first here = refl
+begun-named f (TagLow x high low) first here = refl
+begun-named f (Answering bus r) first here = refl
+
 more-named : (f : ℕ → ℕ) (is : List Item) (r : Ran) → more is (renamed f r) ≡ renamed f (more is r)
-more-named f is (badAt p) = refl
+more-named f is (badAt p q) = refl
 more-named f is (ran js h p) = refl
 
-join-named : (f : ℕ → ℕ) (x : Fed) (old here : ℕ) (go go′ : Held → ℕ → Ran) → ((h : Held) (p : ℕ) → go′ h (f p) ≡ renamed f (go h p))
-    → join x (f old) (f here) go′ ≡ renamed f (join x old here go)
-join-named f bad old here go go′ e = refl
-join-named f (fed is h) old here go go′ e =
+join-named : (f : ℕ → ℕ) (x : Fed) (old second here : ℕ) (go go′ : Held → ℕ → Ran) → ((h : Held) (p : ℕ) → go′ h (f p) ≡ renamed f (go h p))
+    → join x (f old) (f second) (f here) go′ ≡ renamed f (join x old second here go)
+join-named f bad old second here go go′ e = refl
+join-named f (fed is h) old second here go go′ e =
     ap (λ (p : ℕ). more is (go′ h p)) (since-named f h old here) ∙ ap (more is) (e h (since h old here)) ∙ more-named f is (go h (since h old here))
 
 pub run-named : (ks : List Kind) (parity : Bool) (f : ℕ → ℕ) (ss : List Slot) (h : Held) (p : ℕ)
@@ -59,10 +67,12 @@ run-named ks parity f (s ∷ ss) h p = go (isFill (s .1)) (run-named ks parity f
     x = feed ks h (busOf parity (s .1)) (labelOf (s .1)) (infoOf (s .1))
 
     go : (t : Bool) → ((h′ : Held) (p′ : ℕ) → run ks parity (map (named f) ss) h′ (f p′) ≡ renamed f (run ks parity ss h′ p′))
-        → cond t (run ks parity (map (named f) ss) h (f p)) (join x (f p) (f (s .0)) (λ h′ p′. run ks parity (map (named f) ss) h′ p′))
-        ≡ renamed f (cond t (run ks parity ss h p) (join x p (s .0) (λ h′ p′. run ks parity ss h′ p′)))
+        → cond t (run ks parity (map (named f) ss) h (f p)) (join x (f p) (begun h (f p) (f (s .0))) (f (s .0)) (λ h′ p′. run ks parity (map (named f) ss) h′ p′))
+        ≡ renamed f (cond t (run ks parity ss h p) (join x p (begun h p (s .0)) (s .0) (λ h′ p′. run ks parity ss h′ p′)))
     go true ih = ih h p
-    go false ih = join-named f x p (s .0) (λ h′ p′. run ks parity ss h′ p′) (λ h′ p′. run ks parity (map (named f) ss) h′ p′) ih
+    go false ih =
+        ap (λ (q : ℕ). join x (f p) q (f (s .0)) (λ h′ p′. run ks parity (map (named f) ss) h′ p′)) (begun-named f h p (s .0))
+        ∙ join-named f x p (begun h p (s .0)) (s .0) (λ h′ p′. run ks parity ss h′ p′) (λ h′ p′. run ks parity (map (named f) ss) h′ p′) ih
 
 -- ---- where nothing is held, its place does not matter
 
@@ -98,9 +108,9 @@ starts-fresh p q here Arinc429 bus label info =
     (fresh-if p q here (eqb label 2) _ _ refl
     (fresh-if p q here (eqb label 0) _ _ refl tt))))
 
-join-fresh : (p q here : ℕ) (f : Fed) (go : Held → ℕ → Ran) → Fresh p q here f → join f p here go ≡ join f q here go
-join-fresh p q here bad go e = refl
-join-fresh p q here (fed is h) go e = ap (λ (m : ℕ). more is (go h m)) e
+join-fresh : (p q second here : ℕ) (f : Fed) (go : Held → ℕ → Ran) → Fresh p q here f → join f p second here go ≡ join f q second here go
+join-fresh p q second here bad go e = refl
+join-fresh p q second here (fed is h) go e = ap (λ (m : ℕ). more is (go h m)) e
 
 pub run-fresh : (ks : List Kind) (parity : Bool) (ss : List Slot) (k : Held → ℕ → Got) → ((a b : ℕ) → k Nothing a ≡ k Nothing b) → (p q : ℕ)
     → onward (run ks parity ss Nothing p) k ≡ onward (run ks parity ss Nothing q) k
@@ -112,12 +122,12 @@ run-fresh ks parity (s ∷ ss) k e p q = go (isFill (s .1)) (run-fresh ks parity
     x = starts (kindOn ks (busOf parity (s .1))) (busOf parity (s .1)) (labelOf (s .1)) (infoOf (s .1))
 
     go : (t : Bool) → onward (run ks parity ss Nothing p) k ≡ onward (run ks parity ss Nothing q) k
-        → onward (cond t (run ks parity ss Nothing p) (join x p (s .0) (λ h′ p′. run ks parity ss h′ p′))) k
-        ≡ onward (cond t (run ks parity ss Nothing q) (join x q (s .0) (λ h′ p′. run ks parity ss h′ p′))) k
+        → onward (cond t (run ks parity ss Nothing p) (join x p (s .0) (s .0) (λ h′ p′. run ks parity ss h′ p′))) k
+        ≡ onward (cond t (run ks parity ss Nothing q) (join x q (s .0) (s .0) (λ h′ p′. run ks parity ss h′ p′))) k
     go true ih = ih
     go false ih =
         ap (λ (r : Ran). onward r k)
-        (join-fresh p q (s .0) x (λ h′ p′. run ks parity ss h′ p′)
+        (join-fresh p q (s .0) (s .0) x (λ h′ p′. run ks parity ss h′ p′)
         (starts-fresh p q (s .0) (kindOn ks (busOf parity (s .1))) (busOf parity (s .1)) (labelOf (s .1)) (infoOf (s .1))))
 
 pub groups-fresh : (p : Plan) (ks : List Kind) (c : List ℕ) (n g a b : ℕ) → readGroups p ks c n g Nothing a ≡ readGroups p ks c n g Nothing b
@@ -130,7 +140,7 @@ groups-fresh p ks c (suc n) g a b =
 -- ---- the places that a run tells of are those of its slots, and what it began with
 
 abbrev pub RanIn : (ℕ → Type 0) → Ran → Type 0
-RanIn P (badAt q) = P q
+RanIn P (badAt q r) = P q × P r
 RanIn P (ran is h q) = P q
 
 since-in : (P : ℕ → Type 0) (h : Held) (old here : ℕ) → P old → P here → P (since h old here)
@@ -142,13 +152,22 @@ since-in P (TagHigh x high) old here a b = a
 since-in P (TagLow x high low) old here a b = a
 since-in P (Answering bus r) old here a b = b
 
+begun-in : (P : ℕ → Type 0) (h : Held) (first here : ℕ) → P first → P here → P (begun h first here)
+begun-in P Nothing first here a b = b
+begun-in P (Taggable x) first here a b = b
+begun-in P (Half bus c high) first here a b = a
+begun-in P (TagHigh x high) first here a b = a
+begun-in P (TagLow x high low) first here a b = a
+begun-in P (Answering bus r) first here a b = a
+
 more-in : (P : ℕ → Type 0) (is : List Item) (r : Ran) → RanIn P r → RanIn P (more is r)
-more-in P is (badAt q) a = a
+more-in P is (badAt q r) a = a
 more-in P is (ran js h q) a = a
 
-join-in : (P : ℕ → Type 0) (f : Fed) (old here : ℕ) (go : Held → ℕ → Ran) → ((h : Held) (p : ℕ) → P p → RanIn P (go h p)) → P old → P here → RanIn P (join f old here go)
-join-in P bad old here go e a b = b
-join-in P (fed is h) old here go e a b = more-in P is (go h (since h old here)) (e h (since h old here) (since-in P h old here a b))
+join-in : (P : ℕ → Type 0) (f : Fed) (old second here : ℕ) (go : Held → ℕ → Ran) → ((h : Held) (p : ℕ) → P p → RanIn P (go h p)) → P old → P second → P here
+    → RanIn P (join f old second here go)
+join-in P bad old second here go e a s b = (b, s)
+join-in P (fed is h) old second here go e a s b = more-in P is (go h (since h old here)) (e h (since h old here) (since-in P h old here a b))
 
 pub run-in : (ks : List Kind) (parity : Bool) (P : ℕ → Type 0) (ss : List Slot) → All (λ (s : Slot). P (s .0)) ss → (h : Held) (p : ℕ) → P p → RanIn P (run ks parity ss h p)
 unfolding run
@@ -159,9 +178,9 @@ run-in ks parity P (s ∷ ss) (cons b all) h p a = go (isFill (s .1)) (run-in ks
     x = feed ks h (busOf parity (s .1)) (labelOf (s .1)) (infoOf (s .1))
 
     go : (t : Bool) → ((h′ : Held) (p′ : ℕ) → P p′ → RanIn P (run ks parity ss h′ p′))
-        → RanIn P (cond t (run ks parity ss h p) (join x p (s .0) (λ h′ p′. run ks parity ss h′ p′)))
+        → RanIn P (cond t (run ks parity ss h p) (join x p (begun h p (s .0)) (s .0) (λ h′ p′. run ks parity ss h′ p′)))
     go true ih = ih h p a
-    go false ih = join-in P x p (s .0) (λ h′ p′. run ks parity ss h′ p′) ih a b
+    go false ih = join-in P x p (begun h p (s .0)) (s .0) (λ h′ p′. run ks parity ss h′ p′) ih a (begun-in P h p (s .0) a b) b
 
 -- ---- the words of a group's slots, told by their numbers among the data words of all groups
 
