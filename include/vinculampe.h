@@ -412,7 +412,21 @@ vin_answer vin_read_closed(uint32_t words, uint32_t tracks,
  *
  * They take no plan: one bus may carry 1553 and ARINC items, and no bus is wrong. The log that they
  * give is a log of its own, with its end mark; but for the times that vin_shift moves its items are
- * as they were. */
+ * as they were.
+ *
+ * They may be reordered. Of calls that all answer VIN_DONE it is proved that the same bytes come out,
+ * also in the time row:
+ *
+ *   - picking from a joined log, and joining the picked logs
+ *   - picking buses s, then t, and picking s & t
+ *   - joining (a with b) with c, and a with (b with c); a log joined with the empty log (one byte
+ *     00) on either side, and that log
+ *   - shifting by m, then by n, and shifting by m + n; shifting by 0, and not shifting
+ *   - picking and then shifting, and shifting and then picking
+ *
+ * Whether the calls of one order answer VIN_DONE says nothing of the other's; but where shifting by
+ * m and then by n do, and m + n is at most VIN_SHIFT_MOST either way, so does shifting by m + n with
+ * room for log_len bytes. */
 
 /* Picks the items on a set of buses, in the log's order: exactly those.
  *

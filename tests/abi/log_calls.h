@@ -3,59 +3,11 @@
 #ifndef LOG_CALLS_H
 #define LOG_CALLS_H
 
-#include "draw.h"
+#include "calls.h"
 
-#define EVERY_FUNCTION(one) one(pick) one(join) one(shift) one(profile) one(replay)
+#define EVERY_FUNCTION(one) one(pick) one(join) one(shift) one(profile) one(replay) one(laws)
 
-/* ==== A call ==== */
-
-/* An answer as a row of numbers, so that every struct of the header fits: number, place, second, bytes, and what a function answers
- * more; 0 where it has no such number. */
-enum { NUMBER, PLACE, SECOND, BYTES, MORE, VALUES = MORE + 3 };
-
-typedef struct {
-    uint64_t of[VALUES];
-} outcome;
-
-/* What a run of bytes is to a call. */
-enum role {
-    READ_ONLY,
-    ROOM, /* its first bytes are written, as many as outcome.of[counted_by] x unit; it holds a pattern before */
-    ROW   /* it is read, and its first bytes are written over in the same way */
-};
-
-typedef struct {
-    enum role role;
-    const uint8_t *bytes; /* what it holds, of a room NULL */
-    size_t length;
-    int counted_by;
-    size_t unit;
-} lent_run;
-
-enum { RUNS_MOST = 4, NUMBERS_MOST = 3 };
-
-typedef struct call {
-    lent_run runs[RUNS_MOST];
-    size_t count;
-    uint64_t numbers[NUMBERS_MOST]; /* what is handed over beside the runs */
-    /* The call itself; at[n] is where run n stands. */
-    outcome (*library)(const struct call *, uint8_t *const at[]);
-    outcome (*independent)(const struct call *, uint8_t *const at[]);
-} call;
-
-/* Lends every run to both, each run once ending or beginning at a page that may not be touched, and ends the program with the case's
- * number if answers or bytes differ, or a byte was written that is not answered for. */
-outcome compare(const call *c);
-
-/* ==== A function ==== */
-
-typedef struct {
-    const char *name;
-    const char *can_answer; /* a letter for each number: y if it can occur; those behind the last cannot */
-    void (*one_case)(void); /* draws a case and makes its calls */
-} log_function;
-
-#define DECLARE_FUNCTION(name) extern const log_function name##_function;
+#define DECLARE_FUNCTION(name) extern const compared name##_function;
 EVERY_FUNCTION(DECLARE_FUNCTION)
 
 /* ==== What is drawn ==== */

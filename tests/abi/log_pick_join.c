@@ -86,7 +86,7 @@ static void pick_case(void)
         pick(buses, draw_room(needed(&o)));
 }
 
-const log_function pick_function = {"pick", "y.y.y.y", pick_case};
+const compared pick_function = {"pick", "y.y.y.y", pick_case};
 
 /* ==== join ==== */
 
@@ -138,4 +138,4 @@ static void join_case(void)
         join(draw_room(needed(&o)));
 }
 
-const log_function join_function = {"join", "y.y.y.y", join_case};
+const compared join_function = {"join", "y.y.y.y", join_case};

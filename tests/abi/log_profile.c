@@ -330,4 +330,4 @@ static void one_case(void)
 }
 
 /* "Refusals: 2, 4 as in composing; then 18" */
-const log_function profile_function = {"profile", "y.y.y.............y", one_case};
+const compared profile_function = {"profile", "y.y.y.............y", one_case};

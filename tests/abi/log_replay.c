@@ -241,4 +241,4 @@ static void one_case(void)
 }
 
 /* "Refusals: 2, 4 as in composing; then 19 ..; then 6." */
-const log_function replay_function = {"replay", "y.y.y.y............y", one_case};
+const compared replay_function = {"replay", "y.y.y.y............y", one_case};

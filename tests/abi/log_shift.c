@@ -135,4 +135,4 @@ static void shift_case(void)
 }
 
 /* "2, 4 as in composing; 17 ..; 6 last" */
-const log_function shift_function = {"shift", "y.y.y.y..........y", shift_case};
+const compared shift_function = {"shift", "y.y.y.y..........y", shift_case};

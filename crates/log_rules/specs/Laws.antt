@@ -9,4 +9,6 @@ pub mod Faults
 pub mod Profile
 pub mod Replay
 pub mod Shift
+pub mod Succeeds
+pub mod Scripts
 pub mod Second

@@ -4,5 +4,6 @@ pub mod Items
 pub mod Profile
 pub mod Replay
 pub mod Shift
+pub mod Scripts
 pub mod Laws
 pub mod Promises

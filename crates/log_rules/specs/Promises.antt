@@ -19,12 +19,15 @@ use Rattle.log_rules.specs.Laws.Shift.{ShiftOf}
 use Rattle.format.specs.Group.{found}
 use Rattle.format.specs.Read.{gives, refuses}
 use Rattle.format.specs.Time.{timeEnd}
+use lib.Bits.{bitAnd}
 use lib.IntN.{ℤ, pos, _+ℤ_}
 use Rattle.format.specs.declared.Item.{Item}
 use Rattle.log_rules.specs.Profile.{Judged, Rules, BreaksAt}
 use Rattle.log_rules.specs.Replay.{Replay, ReplayOf, Replays, replayed}
+use Rattle.log_rules.specs.Scripts.{PicksTo, JoinsTo, ShiftsTo}
 use Rattle.log_rules.specs.Laws.Profile.Exactly as Profile
 use Rattle.log_rules.specs.Laws.Replay.Accounts as Replaying
+use Rattle.log_rules.specs.Laws.Scripts.Calls as Scripts
 use Rattle.log_rules.specs.declared.Replayed.{Replayed}
 
 -- ---- K7: pick and join
@@ -144,3 +147,48 @@ shift-out-of-limits log times is by room = Shift.shift-beyond times by room
 pub shift-refused-tag : (log times : List ℕ) (is : List Item) (by : ℤ) (room p : ℕ) → LogOf log is → inLimits by ≡ true
     → firstFailing (itemMoves by) 17 0 is ≡ found 17 p → shifted log times by room ≡ refuses 17 p 0
 shift-refused-tag log times is by room p = Shift.shift-unmovable times by room p
+
+-- ---- K12: laws our scripts lean on, "where every call named succeeds" (`PicksTo`, `JoinsTo`, `ShiftsTo`: a call, and the bytes it gave)
+
+-- "Picking from a joined log is joining the picked logs."
+pub pick-of-join : {first second both out a b out′ : List ℕ} {set : ℕ} → Bytes first → Bytes second
+    → JoinsTo first second both → PicksTo both set out
+    → PicksTo first set a → PicksTo second set b → JoinsTo a b out′ → out ≡ out′
+pick-of-join = Scripts.pick-of-join
+
+-- "Picking twice is picking the common buses."
+pub pick-twice : {log once twice out : List ℕ} {s t : ℕ} → Bytes log
+    → PicksTo log s once → PicksTo once t twice → PicksTo log (bitAnd s t) out → twice ≡ out
+pick-twice = Scripts.pick-twice
+
+-- "Joining is associative,"
+pub join-associates : {a b c ab abc bc abc′ : List ℕ} → Bytes a → Bytes b → Bytes c
+    → JoinsTo a b ab → JoinsTo ab c abc → JoinsTo b c bc → JoinsTo a bc abc′ → abc ≡ abc′
+join-associates = Scripts.join-associates
+
+-- "and the empty log on either side changes nothing."
+pub join-empty : {log out : List ℕ} → Bytes log → JoinsTo log (0 ∷ []) out → out ≡ log
+join-empty = Scripts.join-empty
+
+pub empty-join : {log out : List ℕ} → Bytes log → JoinsTo (0 ∷ []) log out → out ≡ log
+empty-join = Scripts.empty-join
+
+-- "Shifting by a, then by b, is shifting by a + b,": the log and the time row
+pub shift-twice : {log times l1 t1 l2 t2 l3 t3 : List ℕ} {a b : ℤ} → Bytes log
+    → ShiftsTo log times a l1 t1 → ShiftsTo l1 t1 b l2 t2 → ShiftsTo log times (a +ℤ b) l3 t3 → (l2 ≡ l3) × (t2 ≡ t3)
+shift-twice = Scripts.shift-twice
+
+-- and more: where the two shifts succeed and a + b is within the limits, the one shift succeeds, in the room of the log
+pub shift-once : {log times l1 t1 l2 t2 : List ℕ} {a b : ℤ} → Bytes log → ShiftsTo log times a l1 t1 → ShiftsTo l1 t1 b l2 t2
+    → (room : ℕ) → inLimits (a +ℤ b) ≡ true → length log ≤ room → shifted log times (a +ℤ b) room ≡ gives l2 t2
+shift-once = Scripts.shift-once
+
+-- "and by 0 changes nothing."
+pub shift-none : {log times out times′ : List ℕ} → Bytes log → ShiftsTo log times (pos 0) out times′ → (out ≡ log) × (times′ ≡ times)
+shift-none = Scripts.shift-none
+
+-- "Picking and shifting may change places.": the time row is shifted once, on either side
+pub pick-shift : {log times p x t q y t′ : List ℕ} {set : ℕ} {by : ℤ} → Bytes log
+    → PicksTo log set p → ShiftsTo p times by x t
+    → ShiftsTo log times by q t′ → PicksTo q set y → (x ≡ y) × (t ≡ t′)
+pick-shift = Scripts.pick-shift

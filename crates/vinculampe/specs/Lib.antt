@@ -1,4 +1,6 @@
 -- What is promised of the C functions.
 pub mod Before
+pub mod Calls
 pub mod Laws
+pub mod Scripts
 pub mod Promises

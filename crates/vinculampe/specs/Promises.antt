@@ -1,13 +1,16 @@
 -- What a C caller is promised, as theorems over what the functions answer: a plan and kinds as numbers, times as runs of eight bytes. They
--- are the promises of `format` (crates/format/specs/Promises.antt), carried over to C; Laws has how.
+-- are the promises of `format` (crates/format/specs/Promises.antt), carried over to C, and those of `log_rules` (crates/log_rules/specs/Promises.antt)
+-- where times cross; Laws and Scripts have how.
 use Prim.Native.Nat.{ℕ, _*_, _/_, _%_, _^_, _<_, _≤_}
 use native.Mathlib.Omega.{arith}
 use mathlib.Core.Bool.{Bool, true}
 use mathlib.Core.Path.{_≡_, refl, ap, sym, _∙_}
 use mathlib.Core.Logic.{_↔_, _⊎_}
-use mathlib.Core.List.{List, map, flatMap}
-use lib.IntN.{ℤ}
-use lib.ListN.{length, take}
+use mathlib.Core.List.{List, [], _∷_, map, flatMap}
+use lib.Bits.{bitAnd}
+use lib.IntN.{ℤ, pos, _+ℤ_}
+use lib.ListN.{length, take, drop}
+use lib.Seq.{take-at}
 use Rattle.format.specs.Answer.{Made, over, success}
 use Rattle.format.specs.Compose.{Composed, made, refused, composed, captureOf}
 use Rattle.format.specs.Item.{itemWords}
@@ -33,10 +36,13 @@ use Rattle.read_from_c.specs.Reading.{GivenBytes, readingFrom, timeBytesAfter}
 use Rattle.read_from_c.specs.Reading as Reading-from
 use Rattle.log_rules.specs.Profile.{Judged, profiled}
 use Rattle.log_rules.specs.Replay.{Replay, Replays}
-use Rattle.log_rules.specs.Shift.{shifted}
+use Rattle.log_rules.specs.Shift.{inLimits, shifted}
+use Rattle.log_rules.specs.Promises as logs
 use Rattle.log_rules.specs.Laws.Second.{profile-none, replay-none, shift-none}
 use Rattle.log_rules.specs.declared.Replayed.{Replayed}
 use Rattle.log_shift.specs.Shifted.{Shifted}
+use Rattle.vinculampe.specs.Calls.{VinPick, VinJoin, VinShift}
+use Rattle.vinculampe.specs.Scripts.{row-after, row-stays, two-rows, vin-joins, vin-picked, vin-picks, vin-shifts}
 use Rattle.vinculampe.specs.Before as was
 use Rattle.vinculampe.specs.Laws.{named-sixteen, made-bytes, composed-refused-from, reading-refused-from, read-only-from}
 use Rattle.vinculampe.specs.Laws.{made-from, from-made, gives-from, from-gives, composed-from-before, reading-from-before}
@@ -61,6 +67,70 @@ bytes-back = Times.bytes-back
 -- so a reading that gives the times that some bytes say leaves those very bytes
 pub bytes-left : (log times old : List ℕ) → Bytes times → length times % 8 ≡ 0 → timeBytesAfter (gives log (timesFrom times)) old ≡ over times old
 bytes-left log times old bytes whole = ap (λ (b : List ℕ). over b old) (bytes-back times bytes whole)
+
+-- ---- Laws our scripts lean on (document 02, K12): of calls that answered 0 (`VinPick`, `VinJoin`, `VinShift`: what was handed over, and the
+-- bytes that were written), "where every call named succeeds"
+
+-- "Picking from a joined log is joining the picked logs."
+pub c-pick-of-join : {first second both out a b out′ : List ℕ} {buses : ℕ} → Bytes first → Bytes second
+    → VinJoin first second both → VinPick both buses out
+    → VinPick first buses a → VinPick second buses b → VinJoin a b out′ → out ≡ out′
+c-pick-of-join f s j p one other k = logs.pick-of-join f s (vin-joins j) (vin-picks p) (vin-picks one) (vin-picks other) (vin-joins k)
+
+-- "Picking twice is picking the common buses."
+pub c-pick-twice : {log once twice out : List ℕ} {s t : ℕ} → Bytes log
+    → VinPick log s once → VinPick once t twice → VinPick log (bitAnd s t) out → twice ≡ out
+c-pick-twice bytes one two both = logs.pick-twice bytes (vin-picks one) (vin-picks two) (vin-picks both)
+
+-- "Joining is associative, and the empty log on either side changes nothing."
+pub c-join-associates : {a b c ab abc bc abc′ : List ℕ} → Bytes a → Bytes b → Bytes c
+    → VinJoin a b ab → VinJoin ab c abc → VinJoin b c bc → VinJoin a bc abc′ → abc ≡ abc′
+c-join-associates x y z ab abc bc abc′ = logs.join-associates x y z (vin-joins ab) (vin-joins abc) (vin-joins bc) (vin-joins abc′)
+
+pub c-join-empty : {log out : List ℕ} → Bytes log → VinJoin log (0 ∷ []) out → out ≡ log
+c-join-empty bytes j = logs.join-empty bytes (vin-joins j)
+
+pub c-empty-join : {log out : List ℕ} → Bytes log → VinJoin (0 ∷ []) log out → out ≡ log
+c-empty-join bytes j = logs.empty-join bytes (vin-joins j)
+
+-- "Shifting by a, then by b, is shifting by a + b,": the log, and the time row with its spare bytes
+pub c-shift-twice : {log times l1 t1 l2 t2 l3 t3 : List ℕ} {a b : ℤ} → Bytes log
+    → VinShift log times a l1 t1 → VinShift l1 t1 b l2 t2 → VinShift log times (a +ℤ b) l3 t3 → (l2 ≡ l3) × (t2 ≡ t3)
+c-shift-twice bytes one two sum =
+    let s = vin-shifts bytes one in
+    let u = vin-shifts (s .bytes) two in
+    let v = vin-shifts bytes sum in
+    let e = logs.shift-twice bytes (s .shifts) (u .shifts) (v .shifts) in
+    (e .0, two-rows s u v (e .1))
+
+-- and more: where the two answer 0 and a + b is within the limits, the one shift, lent room for the log, answers 0 and leaves the same
+pub c-shift-once : {log times l1 t1 l2 t2 : List ℕ} {a b : ℤ} → Bytes log → VinShift log times a l1 t1 → VinShift l1 t1 b l2 t2
+    → inLimits (a +ℤ b) ≡ true → (lent left times′ : List ℕ) (r : Answer) → length log ≤ length lent
+    → Shifted (shifted log (timesFrom times) (a +ℤ b) (length lent)) r lent left times times′
+    → (r .number ≡ 0) × (take (r .bytes) left ≡ l2) × (times′ ≡ t2)
+c-shift-once {log} {l2 = l2} bytes one two limits lent left times′ r fits contract =
+    let s = vin-shifts bytes one in
+    let u = vin-shifts (s .bytes) two in
+    let e = logs.shift-once bytes (s .shifts) (u .shifts) (length lent) limits fits in
+    let c = rw e at contract in
+    (ap (λ (x : Answer). x .number) (c .0), rw (c .0, c .1) (take-at l2 (drop (length l2) lent) (length l2) refl), c .2 ∙ sym (row-after s u))
+
+-- "and by 0 changes nothing."
+pub c-shift-none : {log times out times′ : List ℕ} → Bytes log → Bytes times → VinShift log times (pos 0) out times′ → (out ≡ log) × (times′ ≡ times)
+c-shift-none {times = times} bytes whole none =
+    let s = vin-shifts bytes none in
+    let e = logs.shift-none bytes (s .shifts) in
+    (e .0, s .row ∙ ap (λ (row : List ℕ). over (flatMap timeBytes row) times) (e .1) ∙ row-stays times whole)
+
+-- "Picking and shifting may change places."
+pub c-pick-shift : {log times p x t q y t′ : List ℕ} {buses : ℕ} {by : ℤ} → Bytes log
+    → VinPick log buses p → VinShift p times by x t
+    → VinShift log times by q t′ → VinPick q buses y → (x ≡ y) × (t ≡ t′)
+c-pick-shift {times = times} bytes pick of-picked shift of-shifted =
+    let u = vin-shifts (vin-picked bytes pick) of-picked in
+    let v = vin-shifts bytes shift in
+    let e = logs.pick-shift bytes (vin-picks pick) (u .shifts) (v .shifts) (vin-picks of-shifted) in
+    (e .0, u .row ∙ ap (λ (row : List ℕ). over (flatMap timeBytes row) times) (e .1) ∙ sym (v .row))
 
 -- ---- Composing and the readings, by the numbers that name a plan, the CRC word's label and the fill bus code among them
 

@@ -36,6 +36,11 @@ log-of log is b e =
 pub log-new : (is : List Item) → All (Logged onNoPlan) is → length (logOf is) ≤ 32768 → LogOf (logOf is) is
 log-new is w h = record { bytes = refl; parses = log-back onNoPlan is w h; logged = w; short = h }
 
+-- and is bytes
+pub log-bytes : {log : List ℕ} {is : List Item} → LogOf log is → Bytes log
+unfolding logOf
+log-bytes {log} {is} l = rw (l .bytes) at (packs (flatMap itemBits is ++ bitsOf 4 0) (all-append (items-low is) (bits-low 4 0)) .bytes)
+
 -- the length of a log goes by how many bits its items have
 pub length-log : (is : List Item) → (length (flatMap itemBits is) + 4 ≤ length (logOf is) * 8) × (length (logOf is) * 8 < length (flatMap itemBits is) + 12)
 unfolding logOf bitsOf

@@ -6,8 +6,8 @@ use mathlib.Core.Path.{_≡_, refl, ap, ap₂, sym, _∙_}
 use mathlib.Core.List.{List, [], _∷_, _++_, map, flatMap}
 use lib.ListN.{length, length-append, length-map}
 use lib.Dec.{leb, ltb}
-use lib.IntN.{ℤ, pos, negsuc, natAbs, _+ℤ_, +ℤ-assoc, +ℤ-idr}
-use borrow.Author.Tests.{leb-true, ltb-true}
+use lib.IntN.{ℤ, pos, negsuc, natAbs, _+ℤ_}
+use borrow.Author.Tests.{le-leb, leb-true, ltb-true}
 use Rattle.format.specs.Lists.{All, nil, cons, Bytes}
 use Rattle.format.specs.Bits.{bitsOf}
 use Rattle.format.specs.Item.{busOfItem, itemBits, itemFields, inTime, Field}
@@ -17,11 +17,13 @@ use Rattle.format.specs.Group.{Fault, none, found, orElse, unless}
 use Rattle.format.specs.Read.{Reading, gives, refuses}
 use Rattle.format.specs.Compose.{made}
 use Rattle.format.specs.Time.{timeEnd, highPart, lowPart, microPart, microseconds}
-use Rattle.log_rules.specs.Shift.{inLimits, isTime, moves, moved, timeOf, tagTime, movedTag, tagMoves, movedItem, itemMoves, firstFailing, firstUnmoved, unshifted, shiftedIn, ifShifted, shiftParsed, shifted, timeless, timelessTag}
+use Rattle.log_rules.specs.Shift.{inLimits, isTime, moves, moved, timeOf, tagTime, movedTag, tagMoves, movedItem, itemMoves, firstFailing, firstUnmoved}
+use Rattle.log_rules.specs.Shift.{unshifted, shiftedIn, ifShifted, shiftParsed, shifted, timeless, timelessTag}
 use Rattle.format.specs.Laws.Tests.{clash, and-true}
 use Rattle.format.specs.Laws.Log.Fields.{size}
 use Rattle.format.specs.Laws.Log.Back.{Logged}
 use Rattle.format.specs.Laws.Log.Sizes.{narrow-of, in-time, fields-length}
+use Rattle.log_rules.specs.Laws.Faults.{not-none, or-none, unless-none}
 use Rattle.log_rules.specs.Laws.Logs.{LogOf, log-of, log-new, same-length, logged-sized}
 use Rattle.format.specs.declared.Time.{Time}
 use Rattle.format.specs.declared.Tag.{Tag}
@@ -41,10 +43,6 @@ pub moved-sum : (by : ℤ) (t : ℕ) → moves by t ≡ true → (pos (moved by 
 moved-sum by t e = is-time (pos t +ℤ by) e
 
 -- ---- a tag
-
--- a number of microseconds as a tag, and back
-pub tag-there : (n : ℕ) → tagTime (timeOf n) ≡ n
-tag-there n = omega arith
 
 time-sized : (n : ℕ) → n < timeEnd → tagSized (At (timeOf n))
 time-sized n h = let q : n / 10000 < 4294967296 = omega arith in omega arith
@@ -106,9 +104,6 @@ moved-logged by i w e =
 
 -- ---- a row
 
-pub not-none : {A : Type 0} {n q : ℕ} → found n q ≡ none → A
-not-none z = let y : _≡_ {A = ℕ} 0 1 = cc in absurd (omega arith)
-
 -- each passes the test
 abbrev pub Passes : {A : Type 0} → (A → Bool) → List A → Type 0
 Passes f l = All (λ a. f a ≡ true) l
@@ -132,6 +127,17 @@ all-unmoved by k (t ∷ ts) e = go (moves by t) refl e (all-unmoved by (k + 1) t
         → (firstUnmoved by (k + 1) ts ≡ none → Passes (moves by) ts) → Passes (moves by) (t ∷ ts)
     go true m z ih = cons m (ih z)
     go false m z ih = not-none z
+
+-- and what passes has no first that fails
+pass-all : (test : Item → Bool) (number p : ℕ) (is : List Item) → Passes test is → firstFailing test number p is ≡ none
+unfolding firstFailing
+pass-all test number p [] nil = refl
+pass-all test number p (i ∷ is) (cons z zs) = rw z (pass-all test number (p + length (itemBits i)) is zs)
+
+unmoved-all : (by : ℤ) (k : ℕ) (ts : List ℕ) → Passes (moves by) ts → firstUnmoved by k ts ≡ none
+unfolding firstUnmoved
+unmoved-all by k [] nil = refl
+unmoved-all by k (t ∷ ts) (cons z zs) = rw z (unmoved-all by (k + 1) ts zs)
 
 moved-row : (by : ℤ) (is : List Item) → All (Logged onNoPlan) is → Passes (itemMoves by) is → All (Logged onNoPlan) (map (movedItem by) is)
 moved-row by [] w z = nil
@@ -158,14 +164,6 @@ pub record ShiftOf (log times : List ℕ) (by : ℤ) (is : List Item) (out times
 
 no-gives : {A : Type 0} {n q second : ℕ} {log times : List ℕ} → refuses n q second ≡ gives log times → A
 no-gives e = let z : _≡_ {A = ℕ} 0 1 = cc in absurd (omega arith)
-
-pub or-none : (f g : Fault) → orElse f g ≡ none → (f ≡ none) × (g ≡ none)
-or-none none g e = (refl, e)
-or-none (found n q) g e = not-none e
-
-pub unless-none : (b : Bool) (n q : ℕ) → unless b n q ≡ none → b ≡ true
-unless-none true n q e = refl
-unless-none false n q e = not-none e
 
 same-gives : {a b c d : List ℕ} → gives a b ≡ gives c d → (a ≡ c) × (b ≡ d)
 same-gives e = (cc, cc)
@@ -210,6 +208,12 @@ shift-from log times by room out times′ b e =
     let r = parsed-of (parsed onNoPlan log) times by room out times′ e in
     (r .0, shifted-items log times by room (r .0) out times′ (log-of log (r .0) b (r .1)) (rw (r .1) at e))
 
+-- the same, of a log whose items are known
+pub shift-gives : {log : List ℕ} {is : List Item} (times : List ℕ) (by : ℤ) (room : ℕ) (out times′ : List ℕ) → LogOf log is
+    → shifted log times by room ≡ gives out times′ → ShiftOf log times by is out times′
+unfolding shifted
+shift-gives {log} {is} times by room out times′ l e = shifted-items log times by room is out times′ l (rw (l .parses) at e)
+
 -- "Response times, item order and log length stay."
 pub shift-length : (log times : List ℕ) (by : ℤ) (room : ℕ) (out times′ : List ℕ) → Bytes log → shifted log times by room ≡ gives out times′
     → (length out ≡ length log) × (length times′ ≡ length times)
@@ -218,6 +222,23 @@ shift-length log times by room out times′ b e =
       sym (ap length (s .1 .new .bytes)) ∙ same-length (map (movedItem by) (s .0)) (s .0) (row-length by (s .0)) ∙ ap length (s .1 .old .bytes),
       ap length (s .1 .moved-times) ∙ length-map times (moved by),
     )
+
+-- and it succeeds where nothing refuses it, in the room of its log
+pub shift-fits : {log : List ℕ} {is : List Item} (times : List ℕ) (by : ℤ) (room : ℕ) → LogOf log is → inLimits by ≡ true
+    → Passes (itemMoves by) is → Passes (moves by) times → length log ≤ room
+    → shifted log times by room ≡ gives (logOf (map (movedItem by) is)) (map (moved by) times)
+unfolding shifted
+shift-fits {log} {is} times by room l limits tags row fits =
+    let new : List ℕ = logOf (map (movedItem by) is) in
+    let n : length new ≡ length log = same-length (map (movedItem by) is) is (row-length by is) ∙ ap length (l .bytes) in
+    rw (
+      l .parses,
+      limits,
+      pass-all (itemMoves by) 17 0 is tags,
+      unmoved-all by 0 times row,
+      le-leb (length new) 32768 (omega (arith, n, l .short)),
+      le-leb (length new) room (omega (arith, n)),
+    ) refl
 
 -- what is not a time stays
 tag-timeless : (by : ℤ) (t : Tag) → timelessTag (movedTag by t) ≡ timelessTag t
