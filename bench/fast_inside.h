@@ -64,6 +64,8 @@ int fast_plan_of(fast_plan *p, uint32_t words, uint32_t tracks, uint32_t frame_t
 /* The quick ways only find out that something is wrong; these find out what, and where. */
 vin_answer refuse_log(const fast_plan *p, const uint8_t *log, size_t log_len);
 vin_answer refuse_capture(const fast_plan *p, const uint8_t *capture, size_t capture_len, int closed);
+vin_answer refuse_frames(const fast_plan *p, const uint8_t *capture, size_t groups);
+vin_answer refuse_words(const fast_plan *p, const uint32_t *row, size_t row_len);
 
 /* The remainder after one word, and after two: a byte's share of it is looked up for each. */
 static inline uint32_t crc_one(uint32_t r, uint32_t w)

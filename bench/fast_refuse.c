@@ -157,20 +157,27 @@ static int walk(walker *k, const fast_plan *p, uint32_t w, size_t place)
     return 1;
 }
 
-/* 12 and 13 */
-static vin_answer dealt_fault(const fast_plan *p, const uint8_t *capture, size_t group, walker *k)
+/* 12 */
+static vin_answer time_fault(const fast_plan *p, const uint8_t *capture, size_t group)
 {
-    for (size_t dealt = 0; dealt < p->furniture + p->slots; dealt++) {
+    for (size_t dealt = 0; dealt < p->furniture; dealt++) {
         size_t place = place_of(p, group, dealt);
         uint32_t w = load24(capture + 3 * place) & (p->parity ? 0x7FFFFF : 0xFFFFFF);
-        if (dealt < p->furniture) {
-            if (w >> 16 != 7 - dealt || (dealt == 2 && (w & 0xFFFF) >= 10000))
-                return refused(12, place);
-        } else {
-            size_t first_word = k->next != FREE ? k->first : place;
-            if ((w & 0xFFFFF) != FILL && !walk(k, p, w, place))
-                return broken(place, first_word);
-        }
+        if (w >> 16 != 7 - dealt || (dealt == 2 && (w & 0xFFFF) >= 10000))
+            return refused(12, place);
+    }
+    return refused(0, 0);
+}
+
+/* 13 */
+static vin_answer data_fault(const fast_plan *p, const uint8_t *capture, size_t group, walker *k)
+{
+    for (size_t dealt = p->furniture; dealt < p->furniture + p->slots; dealt++) {
+        size_t place = place_of(p, group, dealt);
+        uint32_t w = load24(capture + 3 * place) & (p->parity ? 0x7FFFFF : 0xFFFFFF);
+        size_t first_word = k->next != FREE ? k->first : place;
+        if ((w & 0xFFFFF) != FILL && !walk(k, p, w, place))
+            return broken(place, first_word);
     }
     return refused(0, 0);
 }
@@ -193,18 +200,22 @@ static vin_answer misplaced_fill(const fast_plan *p, const uint8_t *capture, siz
     return refused(0, 0);
 }
 
-/* K2: bus, channel and whether it is a notice, of the data word n of a capture that reads as items; 0 if it begins neither. */
-static uint32_t begins(const fast_plan *p, const uint8_t *capture, size_t n, size_t *place)
+/* K2: bus, channel and whether it is a notice, of a data word, without its parity bit, among such as read as items; 0 if it begins
+ * neither. */
+static uint32_t begins_word(const fast_plan *p, uint32_t w)
 {
-    uint32_t w, label;
-    *place = place_of(p, n / p->slots, p->furniture + n % p->slots);
-    w = load24(capture + 3 * *place) & (p->parity ? 0x7FFFFF : 0xFFFFFF);
-    label = w >> 16 & 15;
+    uint32_t label = w >> 16 & 15;
     if ((w & 0xFFFFF) == FILL || p->kinds[w >> 20] != 2)
         return 0;
     if (label == 4)
         return 256 | 128 | w >> 20 << 2 | (w >> 13 & 3);
     return label >= 9 && (label & 1) ? 256 | w >> 20 << 2 | (label >> 1 & 3) : 0;
+}
+
+static uint32_t begins(const fast_plan *p, const uint8_t *capture, size_t n, size_t *place)
+{
+    *place = place_of(p, n / p->slots, p->furniture + n % p->slots);
+    return begins_word(p, load24(capture + 3 * *place) & (p->parity ? 0x7FFFFF : 0xFFFFFF));
 }
 
 static vin_answer open_in_capture(const fast_plan *p, const uint8_t *capture, size_t groups)
@@ -230,7 +241,9 @@ vin_answer refuse_capture(const fast_plan *p, const uint8_t *capture, size_t cap
     for (size_t group = 0; group < groups; group++) {
         a = stored_fault(p, capture, group);
         if (a.number == 0)
-            a = dealt_fault(p, capture, group, &k);
+            a = time_fault(p, capture, group);
+        if (a.number == 0)
+            a = data_fault(p, capture, group, &k);
         if (a.number != 0)
             return a;
     }
@@ -244,6 +257,59 @@ vin_answer refuse_capture(const fast_plan *p, const uint8_t *capture, size_t cap
         if (a.number != 0)
             return a;
     }
+    k.bits += 4;
+    if ((k.bits + 7) / 8 <= VIN_LOG_MAX)
+        abort(); /* the quick way refused what has no fault */
+    return refused(6, (k.bits + 7) / 8);
+}
+
+/* ==== The halves of a reading ==== */
+
+/* 9 to 12 alone. */
+vin_answer refuse_frames(const fast_plan *p, const uint8_t *capture, size_t groups)
+{
+    for (size_t group = 0; group < groups; group++) {
+        vin_answer a = stored_fault(p, capture, group);
+        if (a.number == 0)
+            a = time_fault(p, capture, group);
+        if (a.number != 0)
+            return a;
+    }
+    abort(); /* the quick way refused what has no fault */
+}
+
+static vin_answer open_in_row(const fast_plan *p, const uint32_t *row, size_t row_len)
+{
+    size_t waits[64] = {0}, open = SIZE_MAX;
+    for (size_t n = 0; n < row_len; n++) {
+        uint32_t begun = begins_word(p, row[n] & (p->parity ? 0x7FFFFF : 0xFFFFFF)), key = begun & 63;
+        if (begun == 0)
+            continue;
+        if ((begun & 128) && waits[key] != 0 && waits[key] - 1 < open)
+            open = waits[key] - 1;
+        waits[key] = begun & 128 ? n + 1 : 0;
+    }
+    for (uint32_t key = 0; key < 64; key++)
+        if (waits[key] != 0 && waits[key] - 1 < open)
+            open = waits[key] - 1;
+    return open == SIZE_MAX ? refused(0, 0) : refused(15, open);
+}
+
+vin_answer refuse_words(const fast_plan *p, const uint32_t *row, size_t row_len)
+{
+    walker k = {FREE, 0, FREE, 0, 0};
+    vin_answer a;
+    for (size_t n = 0; n < row_len; n++) {
+        size_t first_word = k.next != FREE ? k.first : n;
+        uint32_t w = row[n] & (p->parity ? 0x7FFFFF : 0xFFFFFF);
+        if (row[n] > 0xFFFFFF || ((w & 0xFFFFF) != FILL && !walk(&k, p, w, n)))
+            return broken(n, first_word);
+    }
+    if (k.next != FREE)
+        return broken(k.first, k.first);
+    a = open_in_row(p, row, row_len);
+    if (a.number != 0)
+        return a;
     k.bits += 4;
     if ((k.bits + 7) / 8 <= VIN_LOG_MAX)
         abort(); /* the quick way refused what has no fault */

@@ -61,6 +61,24 @@ vin_answer vin_read_closed_full(FULL, const uint8_t *kinds, size_t kinds_len, co
     CALL_FULL(vin_read_closed_full);
 }
 
+INNER_FULL(vin_read_words);
+void inner_vin_read_items(vin_answer *answer, FULL, const run *kinds, const run *words_in, const run *log);
+
+vin_answer vin_read_words(FULL, const uint8_t *kinds, size_t kinds_len, const uint8_t *a, size_t a_len, uint32_t *b, size_t b_len,
+                          uint8_t *c, size_t c_len)
+{
+    CALL_FULL(vin_read_words);
+}
+
+vin_answer vin_read_items(FULL, const uint8_t *kinds, size_t kinds_len, const uint32_t *words_in, size_t words_in_len, uint8_t *log,
+                          size_t log_len)
+{
+    vin_answer answer;
+    run k = {kinds, kinds_len}, w = {words_in, words_in_len}, l = {log, log_len};
+    inner_vin_read_items(&answer, words, tracks, frame_time, crc, parity, crc_label, fill_bus, &k, &w, &l);
+    return answer;
+}
+
 void inner_vin_pick(vin_answer *answer, const run *log, uint16_t buses, const run *out);
 void inner_vin_join(vin_answer *answer, const run *first, const run *second, const run *out);
 

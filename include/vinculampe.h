@@ -5,7 +5,8 @@
  * times back: vin_compose_full, vin_read_full and vin_read_closed_full; over them vin_plan_compose,
  * vin_plan_read and vin_plan_read_closed, which take the plan as a struct and null pointers for
  * runs of length 0; and vin_compose, vin_read and vin_read_closed, with the usual CRC label and fill
- * bus, as they were before these could be chosen. Logs alone, without a plan, are worked on by
+ * bus, as they were before these could be chosen. vin_read_words and vin_read_items are the two halves
+ * of a reading: the words in the data slots, and the log that such words are. Logs alone, without a plan, are worked on by
  * vin_pick, vin_join, vin_shift, vin_profile and vin_replay; over them functions of the same names
  * with vin_log_ in front, as vin_log_pick, take null pointers for runs of length 0. C99 or later, or
  * C++. Link with libvinculampe.a (x86-64, System V calling convention; that of `make NATIVE=yes` is
@@ -24,7 +25,7 @@
  * What the caller promises
  *   - A pointer is valid for its length. Null pointers, with length 0, are taken by the functions
  *     whose names begin with vin_plan_ or vin_log_, and by no other.
- *   - The runs of one call that are written (out; log and times of a reading; the times of
+ *   - The runs of one call that are written (out; log, words and times of a reading; the times of
  *     vin_shift, the only run that is both read and written) overlap no other run of that call.
  *     Runs that are only read may overlap each other: vin_join may be given one log twice.
  *
@@ -132,7 +133,8 @@ typedef struct {
     uint32_t number; /* VIN_DONE, or the refusal's number: enum vin_number */
     uint64_t place;  /* the refusal's place; 0 if done */
     uint64_t second; /* VIN_DATA_WORD's second place: where the item that broke begins; else 0 */
-    uint64_t bytes;  /* bytes written: composing: of capture; all others: of log; 0 if refused */
+    uint64_t bytes;  /* bytes written: composing: of capture; all others: of log; vin_read_words: the
+                        words written; 0 if refused */
     uint64_t times;  /* reading, shifting: frame times written, of eight bytes each; 0 if refused */
 } vin_answer;
 
@@ -163,15 +165,16 @@ enum vin_number {
     VIN_TIMES = 5,
 
     /* C R L  The room for the output is too short; or, in reading and joining, the log would be above
-     *        VIN_LOG_MAX, whatever the room. Place: the bytes needed. */
+     *        VIN_LOG_MAX, whatever the room. Place: the bytes needed; of vin_read_words the words. */
     VIN_ROOM = 6,
 
     /*   R    The room for frame times is too short. Place: the frame times needed, of eight bytes
      *        each. */
     VIN_TIME_ROOM = 7,
 
-    /*   R    The capture is above VIN_CAPTURE_MAX bytes or not whole groups. Place: its length in
-     *        bytes. */
+    /*   R    The capture is above VIN_CAPTURE_MAX bytes or not whole groups: place is its length in
+     *        bytes. Of vin_read_items: there are more than VIN_WORDS_MAX words: place is their
+     *        number. */
     VIN_CAPTURE = 8,
 
     /*   R    A frame's first word is not FAF320. Place: that word. */
@@ -265,6 +268,7 @@ static inline const char *vin_text(uint32_t number_)
 #define VIN_COMPOSED_MAX 49896       /* bytes of a capture that is composed, by any plan */
 #define VIN_COMPOSED_GROUPS_MAX 120  /* its groups, by any plan */
 #define VIN_READ_GROUPS_MAX 2730     /* groups of a capture that is read: 1,048,576 / (3 x 128) */
+#define VIN_WORDS_MAX 349525         /* words that vin_read_items takes: 1,048,576 / 3 */
 #define VIN_TIME_BYTES 8             /* bytes of a frame time */
 #define VIN_CRC_LABEL 3              /* the usual label of the CRC word */
 #define VIN_FILL_BUS 0               /* the usual bus code of fill */
@@ -308,6 +312,14 @@ static inline const char *vin_text(uint32_t number_)
     ((size_t)(capture_len) / VIN_GROUP_BYTES(words, tracks))
 #define VIN_READ_TIMES_BYTES(capture_len, words, tracks, frame_time) \
     ((frame_time) ? VIN_TIME_BYTES * VIN_READ_GROUPS(capture_len, words, tracks) : 0)
+
+/* The halves of a reading: the words that vin_read_words makes of a capture of whole groups, exactly;
+ * and bytes of room that always suffice for the log of so many words. */
+#define VIN_READ_WORDS(capture_len, words, tracks, frame_time, crc) \
+    (VIN_READ_GROUPS(capture_len, words, tracks) * VIN_GROUP_SLOTS(words, tracks, frame_time, crc))
+#define VIN_ITEMS_LOG_BYTES(words_len) \
+    (VIN_LOG_OF_WORDS_((size_t)(words_len)) < VIN_LOG_MAX ? VIN_LOG_OF_WORDS_((size_t)(words_len)) \
+                                                          : VIN_LOG_MAX)
 
 /* Picking from a log of log_len bytes, and joining two: bytes of room that always suffice. (Shifting
  * needs log_len, no more and no less.) A log has
@@ -407,6 +419,48 @@ vin_answer vin_read_closed(uint32_t words, uint32_t tracks,
                            const uint8_t *capture, size_t capture_len,
                            uint8_t *log, size_t log_len,
                            uint8_t *times, size_t times_len);
+
+/* The first half of a reading: undoes frames and tracks. Hands out the words of the data slots of all
+ * groups, in dealt order, as stored: of 24 bits, the parity bit with them, and fill among them. Nothing
+ * is asked of the data words themselves; a capture of no bytes gives no words.
+ *
+ *   capture, capture_len      the capture
+ *   words_out, words_out_len  room for the words, an entry each; answer.bytes entries, not bytes, are
+ *                             written: VIN_READ_WORDS of the capture
+ *   times, times_len          room for the frame times, as vin_read has it
+ *
+ * Checks, in this order: VIN_PLAN, VIN_CAPTURE; then group by group, as vin_read does, VIN_SYNC,
+ * VIN_PARITY, VIN_CRC and VIN_FRAME_TIME; then VIN_ROOM, its place the words needed, VIN_TIME_ROOM. */
+vin_answer vin_read_words(uint32_t words, uint32_t tracks,
+                          uint32_t frame_time, uint32_t crc, uint32_t parity,
+                          uint32_t crc_label, uint32_t fill_bus,
+                          const uint8_t *kinds, size_t kinds_len,
+                          const uint8_t *capture, size_t capture_len,
+                          uint32_t *words_out, size_t words_out_len,
+                          uint8_t *times, size_t times_len);
+
+/* The second half: turns such words into a log. Any number of words up to VIN_WORDS_MAX, not only those
+ * of whole groups; none at all give the empty log. Fill is dropped on any bus. With parity no notice is
+ * taken of bit 1: its test is the first half's. Of the plan only kinds and parity matter, but all of it
+ * must be legal.
+ *
+ *   words_in, words_in_len   the words, an entry each; a number above 24 bits is no word, nor fill
+ *   log, log_len             room for the log; answer.bytes are written
+ *
+ * Checks, in this order: VIN_PLAN; VIN_CAPTURE for the number of words; VIN_DATA_WORD word by word, also
+ * for a number above 24 bits in its turn; VIN_DATA_WORD for a cut item; VIN_NOTICE; VIN_ROOM. Places
+ * count the words given, from 0.
+ *
+ * Where both halves are done, vin_read_full of the capture is, with the same log and times. Where the
+ * second is refused by VIN_DATA_WORD or VIN_NOTICE, vin_read_full is by the same number, at the words as
+ * they are stored; where the first is refused, vin_read_full is as well, at the same place, or by
+ * VIN_DATA_WORD in an earlier group. */
+vin_answer vin_read_items(uint32_t words, uint32_t tracks,
+                          uint32_t frame_time, uint32_t crc, uint32_t parity,
+                          uint32_t crc_label, uint32_t fill_bus,
+                          const uint8_t *kinds, size_t kinds_len,
+                          const uint32_t *words_in, size_t words_in_len,
+                          uint8_t *log, size_t log_len);
 
 /* ==== The functions on logs alone ================================================================
  *
@@ -617,6 +671,32 @@ static inline vin_answer vin_plan_read_closed(const vin_plan *plan_,
                                 vin_run_(capture_), capture_len_,
                                 vin_room_(log_), log_len_,
                                 vin_room_(times_), times_len_);
+}
+
+static inline vin_answer vin_plan_read_words(const vin_plan *plan_,
+                                             const uint8_t *capture_, size_t capture_len_,
+                                             uint32_t *words_, size_t words_len_,
+                                             uint8_t *times_, size_t times_len_)
+{
+    static uint32_t nothing_[1];
+    return vin_read_words(plan_->words, plan_->tracks, plan_->frame_time, plan_->crc, plan_->parity,
+                          vin_plan_label_(plan_), plan_->fill_bus,
+                          plan_->kinds, sizeof plan_->kinds,
+                          vin_run_(capture_), capture_len_,
+                          words_ ? words_ : nothing_, words_len_,
+                          vin_room_(times_), times_len_);
+}
+
+static inline vin_answer vin_plan_read_items(const vin_plan *plan_,
+                                             const uint32_t *words_, size_t words_len_,
+                                             uint8_t *log_, size_t log_len_)
+{
+    static const uint32_t nothing_[1] = {0};
+    return vin_read_items(plan_->words, plan_->tracks, plan_->frame_time, plan_->crc, plan_->parity,
+                          vin_plan_label_(plan_), plan_->fill_bus,
+                          plan_->kinds, sizeof plan_->kinds,
+                          words_ ? words_ : nothing_, words_len_,
+                          vin_room_(log_), log_len_);
 }
 
 static inline vin_answer vin_log_pick(const uint8_t *log_, size_t log_len_,

@@ -58,6 +58,14 @@ ind_answer ind_read_closed_full(uint32_t words, uint32_t tracks, uint32_t frame_
                                 uint8_t *log, size_t log_len,
                                 uint8_t *times, size_t times_len);
 
+/* Document 02, K3: what vin_read_words and vin_read_items must answer. The bytes that the first answers count words. */
+ind_answer ind_read_words(uint32_t words, uint32_t tracks, uint32_t frame_time, uint32_t crc, uint32_t parity, uint32_t crc_label,
+                          uint32_t fill_bus, const uint8_t *kinds, size_t kinds_len, const uint8_t *capture, size_t capture_len,
+                          uint32_t *row, size_t row_len, uint8_t *times, size_t times_len);
+ind_answer ind_read_items(uint32_t words, uint32_t tracks, uint32_t frame_time, uint32_t crc, uint32_t parity, uint32_t crc_label,
+                          uint32_t fill_bus, const uint8_t *kinds, size_t kinds_len, const uint32_t *row, size_t row_len, uint8_t *log,
+                          size_t log_len);
+
 /* Document 02, K7: what vin_pick and vin_join must answer. Bit c of `buses` is bus code c. */
 ind_answer ind_pick(const uint8_t *log, size_t log_len, uint16_t buses, uint8_t *out, size_t out_len);
 ind_answer ind_join(const uint8_t *first, size_t first_len, const uint8_t *second, size_t second_len, uint8_t *out, size_t out_len);

@@ -1,4 +1,4 @@
-/* The named cases of the functions on logs, a call a line; crates/log_cases/stdin says at its top what the lines mean. */
+/* The named cases of the functions on logs and of some on captures, a call a line; crates/log_cases/stdin says at its top what the lines mean. */
 #include "log_cases.h"
 
 #include <stdlib.h>
@@ -17,6 +17,11 @@ uint64_t number_field(const char *line, int spaces)
 {
     line = field(line, spaces);
     return *line == 'x' ? strtoull(line + 1, NULL, 16) : strtoull(line, NULL, 10);
+}
+
+uint32_t small_field(const char *line, int spaces)
+{
+    return (uint32_t)number_field(line, spaces);
 }
 
 static int digit(char letter)
@@ -74,18 +79,18 @@ uint64_t digest_of(const run *r)
 /* "On success: number 0, place 0 and the lengths written"; "A refusal returns number, place and lengths 0". */
 static bool is_asked(ind_answer a, uint64_t asked, uint64_t value)
 {
-    if (a.number != asked || a.second != 0)
+    if (a.number != asked)
         return false;
     if (asked == 0)
         return a.place == 0 && a.bytes == value;
     return a.place == value && a.bytes == 0 && a.times == 0;
 }
 
-static bool is_made(ind_answer a, const run *out, const char *asked)
+static bool is_made(uint64_t bytes, const run *out, const char *asked)
 {
     static run made;
     run_field(asked, 3, &made);
-    return a.bytes == made.length && memcmp(out->bytes, made.bytes, made.length) == 0;
+    return bytes == made.length && memcmp(out->bytes, made.bytes, made.length) == 0;
 }
 
 void say_unless(bool good)
@@ -94,12 +99,30 @@ void say_unless(bool good)
         printf(" differs");
 }
 
-void say_call(const char *name, ind_answer a, const run *out, const char *asked)
+static void say_answer(const char *name, ind_answer a, size_t unit, uint64_t second, const run *out, const char *asked)
 {
     printf("%s %" PRIu32 " %" PRIu64 " %" PRIu64 " %" PRIu64 " %" PRIu64 " %" PRIu64, name, a.number, a.place, a.second, a.bytes, a.times,
            digest_of(out));
-    say_unless(is_asked(a, number_field(asked, 1), number_field(asked, 2)));
-    say_unless(is_made(a, out, asked));
+    say_unless(a.second == second && is_asked(a, number_field(asked, 1), number_field(asked, 2)));
+    say_unless(is_made(unit * a.bytes, out, asked));
+}
+
+void say_call(const char *name, ind_answer a, const run *out, const char *asked)
+{
+    say_answer(name, a, 1, 0, out, asked);
+}
+
+void say_found(const char *name, ind_answer a, size_t unit, const run *out, const char *asked)
+{
+    say_answer(name, a, unit, number_field(asked, 4), out, asked);
+}
+
+void say_times(uint64_t entries, const run *times, const char *asked, int spaces)
+{
+    static run row;
+    run_field(asked, spaces + 1, &row);
+    printf(" %" PRIu64, digest_of(times));
+    say_unless(entries == number_field(asked, spaces) && row.length <= times->length && memcmp(times->bytes, row.bytes, row.length) == 0);
 }
 
 void say_made(const char *name, ind_answer a, const run *out, const char *asked)
@@ -113,7 +136,8 @@ void say_made(const char *name, ind_answer a, const run *out, const char *asked)
 static const struct {
     const char *name;
     void (*line)(const char *line, const char *asked);
-} calls[] = {{"pick ", pick_line}, {"join ", join_line}, {"shift ", shift_line}, {"profile ", profile_line}, {"replay ", replay_line}};
+} calls[] = {{"pick ", pick_line}, {"join ", join_line}, {"shift ", shift_line}, {"profile ", profile_line}, {"replay ", replay_line},
+             {"slots ", slots_line}, {"items ", items_line}};
 
 static void step(const char *line)
 {

@@ -36,11 +36,25 @@ void say_made(const char *name, ind_answer a, const run *out, const char *asked)
 uint64_t digest_of(const run *r);
 void say_unless(bool good);
 
+/* The seven numbers of a call's whole plan; its kinds, a run, stand behind them. */
+#define PLAN_FIELDS(line) \
+    small_field(line, 1), small_field(line, 2), small_field(line, 3), small_field(line, 4), small_field(line, 5), small_field(line, 6), \
+        small_field(line, 7)
+uint32_t small_field(const char *line, int spaces);
+
+/* As say_call, where a refusal may have a second place, which is asked for behind what is made; an entry of that is so many bytes. */
+void say_found(const char *name, ind_answer a, size_t unit, const run *out, const char *asked);
+
+/* The row of times: its digest, and whether so many entries were counted and it begins as asked for, from the field `spaces` on. */
+void say_times(uint64_t entries, const run *times, const char *asked, int spaces);
+
 /* Each makes the call of a line. */
 void pick_line(const char *line, const char *asked);
 void join_line(const char *line, const char *asked);
 void shift_line(const char *line, const char *asked);
 void profile_line(const char *line, const char *asked);
 void replay_line(const char *line, const char *asked);
+void slots_line(const char *line, const char *asked);
+void items_line(const char *line, const char *asked);
 
 #endif

@@ -3,68 +3,9 @@
 
 #include "rules.h"
 
-/* A capture and the plan it is read by. */
-typedef struct {
-    const plan *p;
-    const uint8_t *bytes;
-    uint64_t groups;
-} capture;
-
-static word word_at(const capture *c, uint64_t place)
-{
-    return received(c->p, stored(c->bytes, place));
-}
-
-/* "each word as stored (9 for a frame's first word, 10 for any other, 11 after 10 for a CRC word)" */
-static ind_answer check_stored(const capture *c, uint64_t group)
-{
-    const plan *p = c->p;
-    for (uint32_t track = 0; track < p->tracks; track++) {
-        uint64_t first = group * group_words(p) + (uint64_t)track * p->length;
-        for (uint32_t position = 0; position < p->length; position++) {
-            uint32_t bits = stored(c->bytes, first + position);
-            if (position == 0) {
-                if (bits != SYNC)
-                    return refused(9, first);
-                continue;
-            }
-            if (p->parity && !odd(bits))
-                return refused(10, first + position);
-            if (p->crc && position == p->length - 1 && bits != crc_word(p, c->bytes + 3 * first))
-                return refused(11, first + position);
-        }
-    }
-    return passed();
-}
-
-/* "12: frame time word: bus, label or micro wrong" */
-static ind_answer check_frame_time(const capture *c, uint64_t group)
-{
-    static const uint32_t labels[3] = {LABEL_HIGH, LABEL_LOW, LABEL_MICRO};
-    for (uint64_t dealt = 0; dealt < furniture(c->p); dealt++) {
-        uint64_t place = dealt_place(c->p, group, dealt);
-        word w = word_at(c, place);
-        if (w.bus != 0 || w.label != labels[dealt] || (w.label == LABEL_MICRO && w.information >= MICRO_LIMIT))
-            return refused(12, place);
-    }
-    return passed();
-}
-
-static uint64_t frame_time_of(const capture *c, uint64_t group)
-{
-    time_words t = {word_at(c, dealt_place(c->p, group, 0)).information, word_at(c, dealt_place(c->p, group, 1)).information,
-                    word_at(c, dealt_place(c->p, group, 2)).information};
-    return time_join(t);
-}
-
-static uint64_t slot_place(const capture *c, uint64_t group, uint64_t slot)
-{
-    return dealt_place(c->p, group, furniture(c->p) + slot);
-}
-
 /* "13: data word starts or continues no item, fill not AAAA". "The plain reading drops fill on any bus in any slot". K8: "the first
  * word of the item that was unfinished when the bad word came, or the bad word itself if none was". */
-static ind_answer read_slots(const capture *c, uint64_t group, held *h, log_writer *log)
+static ind_answer read_slots(const tape *c, uint64_t group, held *h, log_writer *log)
 {
     for (uint64_t slot = 0; slot < group_slots(c->p); slot++) {
         uint64_t place = slot_place(c, group, slot);
@@ -77,13 +18,11 @@ static ind_answer read_slots(const capture *c, uint64_t group, held *h, log_writ
 }
 
 /* "then group by group: each word as stored .., then 12, then 13, both in dealt order; after the last group the cut item" */
-static ind_answer read_groups(const capture *c, log_writer *log)
+static ind_answer read_groups(const tape *c, log_writer *log)
 {
     held h = {.stage = NOTHING};
     for (uint64_t group = 0; group < c->groups; group++) {
-        ind_answer answer = check_stored(c, group);
-        if (answer.number == 0)
-            answer = check_frame_time(c, group);
+        ind_answer answer = group_fault(c, group);
         if (answer.number == 0)
             answer = read_slots(c, group, &h, log);
         if (answer.number != 0)
@@ -93,24 +32,16 @@ static ind_answer read_groups(const capture *c, log_writer *log)
     return reader_end(&h, log) ? passed() : broken(h.first, h.first);
 }
 
-/* The notice, or the ARINC word, that the data word at a slot begins, the slots of all groups counted: its kind and channel; END if
- * it begins neither. A notice's information begins with its channel's high label, an ARINC word with its high syllable. */
-static uint32_t begins(const capture *c, uint64_t slot, word *w, uint32_t *channel)
+/* The notice, or the ARINC word, that the data word at a slot begins, the slots of all groups counted. */
+static uint32_t begins(const tape *c, uint64_t slot, word *w, uint32_t *channel)
 {
-    uint32_t label;
     *w = word_at(c, slot_place(c, slot / group_slots(c->p), slot % group_slots(c->p)));
-    if (is_fill(*w) || c->p->kinds[w->bus] != BUS_ARINC)
-        return END;
-    label = w->label == LABEL_NOTICE ? w->information >> 12 : w->label;
-    for (*channel = 0; *channel < 4; ++*channel)
-        if (label == high_label(*channel))
-            return w->label == LABEL_NOTICE ? NOTICE : ARINC_WORD;
-    return END;
+    return word_begins(c->p, *w, channel);
 }
 
 /* K2: "Call a notice open if no ARINC word of its bus and channel stands between it and their next notice, or the end." Of the data
  * words behind a notice's slot. */
-static bool notice_open(const capture *c, uint64_t slot, uint32_t bus, uint32_t channel)
+static bool notice_open(const tape *c, uint64_t slot, uint32_t bus, uint32_t channel)
 {
     while (++slot < c->groups * group_slots(c->p)) {
         word w;
@@ -122,7 +53,7 @@ static bool notice_open(const capture *c, uint64_t slot, uint32_t bus, uint32_t 
 }
 
 /* "15, at the earliest open notice (.. its word)", of a capture that reads as items: "after the cut item and before 14" */
-static ind_answer check_notices(const capture *c)
+static ind_answer check_notices(const tape *c)
 {
     for (uint64_t slot = 0; slot < c->groups * group_slots(c->p); slot++) {
         word w;
@@ -135,7 +66,7 @@ static ind_answer check_notices(const capture *c)
 
 /* "Fill is misplaced if a data word follows it, if neither its group nor a later one has a data word, or if its bus is not"
  * the plan's: "Misplaced fill is judged against the plan's code" (K5). "14: earliest such word, dealt order" */
-static ind_answer check_fill(const capture *c)
+static ind_answer check_fill(const tape *c)
 {
     uint64_t slots = group_slots(c->p);
     uint64_t data_end = 0; /* one more than the last data word's slot, counted over all groups; 0 if there is none */
@@ -161,14 +92,13 @@ static ind_answer reading(bool closed, uint32_t words, uint32_t tracks, uint32_t
     log_writer made;
     ind_answer answer;
     uint64_t log_bytes, times_needed;
-    capture c = {&p, bytes, 0};
+    tape c;
 
     /* "Reading checks 1, 8" */
     if (!plan_of(&p, words, tracks, frame_time, crc, parity, crc_label, fill_bus, kinds, kinds_len))
         return refused(1, 0);
-    if (bytes_len > CAPTURE_MAX || bytes_len % (3 * group_words(&p)) != 0)
+    if (!capture_of(&c, &p, bytes, bytes_len))
         return refused(8, bytes_len);
-    c.groups = bytes_len / (3 * group_words(&p));
 
     log_begin(&made);
     answer = read_groups(&c, &made);
@@ -184,13 +114,12 @@ static ind_answer reading(bool closed, uint32_t words, uint32_t tracks, uint32_t
     log_bytes = log_end(&made);
     if (log_bytes > LOG_MAX || log_bytes > log_len)
         return refused(6, log_bytes);
-    times_needed = p.frame_time ? c.groups : 0;
+    times_needed = times_of(&c);
     if (times_len / 8 < times_needed)
         return refused(7, times_needed);
 
     memcpy(log, made.bytes, log_bytes);
-    for (uint64_t group = 0; group < times_needed; group++)
-        time_to_bytes(times + 8 * group, frame_time_of(&c, group));
+    put_times(&c, times);
     return (ind_answer){.bytes = log_bytes, .times = times_needed};
 }
 

@@ -148,4 +148,36 @@ bool reader_feed(held *h, const plan *p, word w, uint64_t place, log_writer *log
 /* Ends the reading; false if an item is cut. */
 bool reader_end(held *h, log_writer *log);
 
+/* ---- Notices (notices.c) ---- */
+
+/* What a data word begins: NOTICE or ARINC_WORD and its channel; END if neither. */
+uint32_t word_begins(const plan *p, word w, uint32_t *channel);
+
+/* For each bus and channel the notice that no ARINC word has answered yet, by a number that rises in dealt order; 0 for none. */
+typedef struct {
+    uint64_t waiting[16][4];
+} notices;
+
+/* A data word with its number, in dealt order; the number of the notice that it shows open, being the next of its channel; or 0. */
+uint64_t notices_see(notices *n, const plan *p, word w, uint64_t number);
+uint64_t notices_earliest(const notices *n);
+uint64_t earlier(uint64_t one, uint64_t other); /* of two such numbers */
+
+/* ---- A capture (capture.c) ---- */
+
+/* A capture and the plan it is read by. */
+typedef struct {
+    const plan *p;
+    const uint8_t *bytes;
+    uint64_t groups;
+} tape;
+
+bool capture_of(tape *c, const plan *p, const uint8_t *bytes, size_t bytes_len); /* false: 8 */
+word word_at(const tape *c, uint64_t place);
+ind_answer group_fault(const tape *c, uint64_t group); /* the first of 9 to 12; number 0 if there is none */
+uint64_t frame_time_of(const tape *c, uint64_t group);
+uint64_t slot_place(const tape *c, uint64_t group, uint64_t slot); /* where a data slot is stored */
+uint64_t times_of(const tape *c);                                  /* how many frame times it has */
+void put_times(const tape *c, uint8_t *times);
+
 #endif

@@ -359,6 +359,7 @@ int main(void)
     puts("selftest: K7, K11, K13: as document 02 says");
     selftest_shift();
     selftest_full_plan();
-    puts("selftest: K9, K5, K8: as document 02 says");
+    selftest_split();
+    puts("selftest: K9, K5, K8, K3: as document 02 says");
     return 0;
 }

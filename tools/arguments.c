@@ -24,6 +24,7 @@ static const struct option long_options[] = {
     ROW("--csv", OPT_CSV, no_argument),
     ROW("--decode", OPT_DECODE, no_argument),
     ROW("--stored", OPT_STORED, no_argument),
+    ROW("--text", OPT_TEXT, no_argument),
     ROW("--from", OPT_FROM, required_argument),
     ROW("--count", OPT_COUNT, required_argument),
     ROW("--group", OPT_GROUP, required_argument),

@@ -15,6 +15,7 @@ enum option_id {
     OPT_CSV,
     OPT_DECODE,
     OPT_STORED,
+    OPT_TEXT,
     OPT_FROM,
     OPT_COUNT,
     OPT_GROUP,

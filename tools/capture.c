@@ -23,16 +23,23 @@ static enum slot slot_of(const vin_plan *plan, uint32_t track, uint32_t position
     return plan->frame_time && dealt < FRAME_TIME_WORDS ? SLOT_HIGH + (enum slot)dealt : SLOT_DATA;
 }
 
-stored stored_at(const vin_plan *plan, const run *capture, uint64_t place)
+stored word_alone(const vin_plan *plan, uint32_t word, uint64_t place)
 {
-    const uint8_t *at = capture->bytes + 3 * place;
-    uint32_t in_group = (uint32_t)(place % group_words(plan));
     stored s = {0};
-    s.word = (uint32_t)at[0] << 16 | (uint32_t)at[1] << 8 | at[2];
+    s.word = word;
     s.bus = s.word >> 20 & (plan->parity ? 7u : 15u);
     s.label = s.word >> 16 & 15;
     s.info = s.word & 0xFFFF;
     s.place = place;
+    s.slot = SLOT_DATA;
+    return s;
+}
+
+stored stored_at(const vin_plan *plan, const run *capture, uint64_t place)
+{
+    const uint8_t *at = capture->bytes + 3 * place;
+    uint32_t in_group = (uint32_t)(place % group_words(plan));
+    stored s = word_alone(plan, (uint32_t)at[0] << 16 | (uint32_t)at[1] << 8 | at[2], place);
     s.group = place / group_words(plan);
     s.track = in_group / plan->words + 1;
     s.position = in_group % plan->words + 1;
@@ -106,8 +113,11 @@ unsigned channel_of(unsigned label)
 place_text tell_place(const stored *s)
 {
     place_text t;
-    snprintf(t.text, sizeof t.text,
-             "word %" PRIu64 " (group %" PRIu64 ", track %" PRIu32 ", word %" PRIu32 ")", s->place, s->group,
-             s->track, s->position);
+    if (s->track == 0)
+        snprintf(t.text, sizeof t.text, "word %" PRIu64, s->place);
+    else
+        snprintf(t.text, sizeof t.text,
+                 "word %" PRIu64 " (group %" PRIu64 ", track %" PRIu32 ", word %" PRIu32 ")", s->place,
+                 s->group, s->track, s->position);
     return t;
 }

@@ -33,6 +33,9 @@ typedef struct {
 
 stored stored_at(const vin_plan *plan, const run *capture, uint64_t place);
 
+/* A data slot's word alone, as vin_read_words gives it: its place counts such words, and it has no track. */
+stored word_alone(const vin_plan *plan, uint32_t word, uint64_t place);
+
 uint64_t capture_words(const run *capture);
 uint64_t group_words(const vin_plan *plan);
 
@@ -55,7 +58,7 @@ const char *label_name(unsigned kind, unsigned label);
 /* The ARINC channel, 1 to 4, of a syllable's label. */
 unsigned channel_of(unsigned label);
 
-/* "word 386 (group 0, track 4, word 0)" */
+/* "word 386 (group 0, track 4, word 0)"; of a word alone "word 386" */
 typedef struct {
     char text[80];
 } place_text;

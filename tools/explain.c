@@ -12,7 +12,7 @@ static const struct {
 } numbers[] = {
     [VIN_DONE] = {"every command", "0", "The work is done."},
     [VIN_PLAN] =
-        {"compose, read, check, dump, info, plan", "0",
+        {"compose, read, words, items, check, dump, info, plan", "0",
          "The plan breaks a rule. vin names the rule: the number of words or tracks is outside its\n"
          "limits, several tracks go with other than exactly one used bus, parity goes with a used bus\n"
          "above 7, the CRC word's label is above 7, or fill's bus is above 15, or above 7 with parity."},
@@ -32,33 +32,35 @@ static const struct {
          "A plan with frame time needs one time for each group, a plan without it none; and a time is\n"
          "below 42949672960000 microseconds."},
     [VIN_ROOM] =
-        {"read, check, info, join, replay", "the bytes that the log would have",
+        {"read, items, check, info, join, replay", "the bytes that the log would have",
          "The capture's log, or the joined log, would be longer than 32768 bytes. (To a caller in C\n"
          "also: the room lent for the output is too short. vin lends enough.)"},
     [VIN_TIME_ROOM] = {"callers in C only", "the number of times needed",
                        "The room lent for the frame times is too short. vin lends enough."},
     [VIN_CAPTURE] =
-        {"read, check, dump, info", "the capture's length in bytes",
+        {"read, words, items, check, dump, info",
+         "the capture's length in bytes; of items the number of words",
          "The capture is longer than 1048576 bytes, or is not whole groups: the file was cut, or the\n"
-         "plan's words or tracks are not those of the capture."},
+         "plan's words or tracks are not those of the capture. Of items: there are more than 349525\n"
+         "words."},
     [VIN_SYNC] =
-        {"read, check, info; dump marks it", WORD,
+        {"read, words, check, info; dump marks it", WORD,
          "A frame does not begin with the sync word FAF320. At word 0 the file is no capture; at the\n"
          "second frame the plan's words are probably wrong; later, words were lost."},
-    [VIN_PARITY] = {"read, check, info; dump marks it", WORD,
+    [VIN_PARITY] = {"read, words, check, info; dump marks it", WORD,
                     "The plan has parity and this word has an even number of ones: it was damaged, or the\n"
                     "capture was made without parity."},
-    [VIN_CRC] = {"read, check, info; dump marks it", WORD,
+    [VIN_CRC] = {"read, words, check, info; dump marks it", WORD,
                  "The last word of this frame is not the CRC word of the words before it, with the plan's\n"
                  "label: the frame was damaged, or the capture was made without CRC or with another\n"
                  "crc-label."},
     [VIN_FRAME_TIME] =
-        {"read, check, info; dump marks it", WORD,
+        {"read, words, check, info; dump marks it", WORD,
          "A group begins with three words of frame time on bus 0: label 7 (high), 6 (low) and 5\n"
          "(micro, below 10000). This is not such a word: it was damaged, or the capture was made\n"
          "without frame time."},
     [VIN_DATA_WORD] =
-        {"read, check, info; dump marks it", WORD,
+        {"read, items, check, info; dump marks it", WORD "; of items its number among the words",
          "This word starts or continues no item: its bus is unused; its label does not follow what\n"
          "came before it (a low syllable without its high one, a time word without its command); it is\n"
          "a word of another bus or item inside an item that is not finished; a micro or response is\n"
@@ -74,7 +76,7 @@ static const struct {
          "word's group, or on another bus than the plan's fill-bus; vin says which. The plain reading,\n"
          "vin read, passes over such fill."},
     [VIN_NOTICE] =
-        {"compose, read, check, info",
+        {"compose, read, items, check, info",
          "in a log the bit where the notice begins, in a capture its word, both counted from 0",
          "An error notice tells of the next ARINC word of its bus and channel. This one is open: the\n"
          "channel's next notice, or the end, comes before such a word. It is the earliest such notice;\n"

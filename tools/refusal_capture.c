@@ -85,12 +85,7 @@ static void bad_word(const call *c, const stored *s, const vin_answer *a, char *
     case VIN_FRAME_TIME: bad_frame_time(s, why); break;
     case VIN_DATA_WORD: bad_data_word(plan, &c->capture, a, why); break;
     case VIN_FILL: bad_fill(plan, &c->capture, s, why); break;
-    case VIN_NOTICE:
-        snprintf(why, WHY_MOST,
-                 "error notice on bus %" PRIu32
-                 " without its ARINC word: the channel's next notice, or the end, comes first",
-                 s->bus);
-        break;
+    case VIN_NOTICE: tell_open(s->bus, why); break;
     default: snprintf(why, WHY_MOST, "%s", vin_text(a->number));
     }
 }

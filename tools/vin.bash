@@ -4,9 +4,10 @@ _vin_options() { # COMMAND
     case $1 in
     compose) echo "-o --times" ;;
     read) echo "-o --times-out" ;;
+    words) echo "-o --text --times-out" ;;
     dump) echo "--from --count --group --bus --stored --no-fill --faults -o" ;;
     list) echo "--json --csv --decode -o" ;;
-    pack | info | pick | join) echo "-o" ;;
+    items | pack | info | pick | join) echo "-o" ;;
     shift) echo "--by -o --times --times-out" ;;
     replay) echo "--capacity --least --events --every --slots --plan -o" ;;
     esac
@@ -19,7 +20,7 @@ _vin_plans() { # WORD: files that look like a plan, if any does
 
 _vin() {
     local word=${COMP_WORDS[COMP_CWORD]} before=${COMP_WORDS[COMP_CWORD - 1]} command=${COMP_WORDS[1]} n files=0
-    local commands="compose read check dump info list pack pick join shift profile replay plan explain"
+    local commands="compose read words items check dump info list pack pick join shift profile replay plan explain"
     COMPREPLY=()
     if [ "$COMP_CWORD" -eq 1 ]; then
         mapfile -t COMPREPLY < <(compgen -W "$commands help --help --version" -- "$word")
@@ -48,7 +49,7 @@ _vin() {
         esac
     done
     case $command:$files in # the first file of these is a plan
-    compose:0 | read:0 | check:0 | dump:0 | plan:0) _vin_plans "$word" ;;
+    compose:0 | read:0 | words:0 | items:0 | check:0 | dump:0 | plan:0) _vin_plans "$word" ;;
     *) mapfile -t COMPREPLY < <(compgen -f -- "$word") ;;
     esac
 }

@@ -177,14 +177,23 @@ void tell_break(const vin_plan *plan, const walk *before, const stored *s, char 
 void tell_cut(const vin_plan *plan, const walk *at_end, char why[WHY_MOST])
 {
     const stored *s = &at_end->first;
+    const char *ends = s->track == 0 ? "the words end" : "the capture ends";
     bool arinc = plan->kinds[s->bus] == VIN_KIND_ARINC;
     if (at_end->awaits == AWAIT_STATUS)
-        snprintf(why, WHY_MOST, "response time on bus %u: the capture ends before its status", s->bus);
+        snprintf(why, WHY_MOST, "response time on bus %u: %s before its status", s->bus, ends);
     else if (at_end->awaits == AWAIT_LOW_SYLLABLE)
-        snprintf(why, WHY_MOST, "high syllable of channel %u on bus %u: the capture ends before its low one",
-                 channel_of(s->label), s->bus);
+        snprintf(why, WHY_MOST, "high syllable of channel %u on bus %u: %s before its low one",
+                 channel_of(s->label), s->bus, ends);
     else
-        snprintf(why, WHY_MOST, "%s on bus %u: the capture ends before the %s word of its time",
-                 arinc ? "ARINC word" : label_name(VIN_KIND_1553, s->label), s->bus,
+        snprintf(why, WHY_MOST, "%s on bus %u: %s before the %s word of its time",
+                 arinc ? "ARINC word" : label_name(VIN_KIND_1553, s->label), s->bus, ends,
                  at_end->awaits == AWAIT_LOW ? "low" : "micro");
+}
+
+void tell_open(uint32_t bus, char why[WHY_MOST])
+{
+    snprintf(
+        why, WHY_MOST,
+        "error notice on bus %u without its ARINC word: the channel's next notice, or the end, comes first",
+        bus);
 }

@@ -32,7 +32,10 @@ enum { WHY_MOST = 240 };
 /* Why the word breaks what waited before it. */
 void tell_break(const vin_plan *plan, const walk *before, const stored *s, char why[WHY_MOST]);
 
-/* What the capture's end cuts. */
+/* What the end of the capture, or of the words, cuts. */
 void tell_cut(const vin_plan *plan, const walk *at_end, char why[WHY_MOST]);
+
+/* An open notice. */
+void tell_open(uint32_t bus, char why[WHY_MOST]);
 
 #endif

@@ -29,7 +29,8 @@ static uint8_t *before[RUNS_MOST], *expected[RUNS_MOST]; /* of run_most bytes ea
 /* What stands before its name: a law is of several functions. */
 static const char *prefix(void)
 {
-    return strcmp(run.function->name, "laws") == 0 ? "" : "vin_";
+    const char *name = run.function->name;
+    return strcmp(name, "laws") == 0 || strcmp(name, "halves") == 0 ? "" : "vin_";
 }
 
 static void say_repeat(void)

@@ -30,7 +30,7 @@ typedef struct {
     size_t unit;
 } lent_run;
 
-enum { RUNS_MOST = 4, NUMBERS_MOST = 3 };
+enum { RUNS_MOST = 5, NUMBERS_MOST = 8 };
 
 typedef struct call {
     lent_run runs[RUNS_MOST];

@@ -156,6 +156,36 @@ static void replaying(void)
     }
 }
 
+/* The halves of a reading: their sizes, null pointers, and that the two together are the reading. */
+static void halves(void)
+{
+    static const uint8_t log[] = {0x32, 0x5F, 0x77, 0x80};
+    static uint8_t capture[VIN_GROUP_BYTES(129, 1)], back[VIN_LOG_MAX];
+    static uint32_t words[128];
+    vin_plan plan = VIN_PLAN_INIT(129, 1);
+    vin_answer a;
+    plan.parity = 1;
+    plan.kinds[2] = VIN_KIND_1553;
+    CHECK(VIN_WORDS_MAX == VIN_CAPTURE_MAX / 3 && VIN_READ_WORDS(3 * 387, 129, 1, 1, 1) == 3 * 124);
+    CHECK(VIN_ITEMS_LOG_BYTES(0) == 1 && VIN_ITEMS_LOG_BYTES(1) == 4 && VIN_ITEMS_LOG_BYTES(VIN_WORDS_MAX) == VIN_LOG_MAX);
+    a = vin_plan_compose(&plan, log, sizeof log, NULL, 0, capture, sizeof capture);
+    CHECK(a.number == VIN_DONE && a.bytes == sizeof capture);
+    a = vin_plan_read_words(&plan, capture, sizeof capture, NULL, 0, NULL, 0);
+    CHECK(a.number == VIN_ROOM && a.place == 128 && VIN_READ_WORDS(sizeof capture, 129, 1, 0, 0) == 128);
+    a = vin_plan_read_words(&plan, capture, sizeof capture, words, 128, NULL, 0);
+    CHECK(a.number == VIN_DONE && a.bytes == 128 && a.times == 0);
+    CHECK(words[0] == 0x2DBEEF && words[1] == 0x01AAAA && words[127] == 0x01AAAA);
+    a = vin_plan_read_items(&plan, words, 128, back, sizeof back);
+    CHECK(a.number == VIN_DONE && a.bytes == sizeof log && memcmp(back, log, sizeof log) == 0);
+    words[1] = 0x1000000;
+    a = vin_plan_read_items(&plan, words, 128, back, sizeof back);
+    CHECK(a.number == VIN_DATA_WORD && a.place == 1 && a.second == 1);
+    a = vin_plan_read_items(&plan, NULL, 0, NULL, 0);
+    CHECK(a.number == VIN_ROOM && a.place == 1);
+    a = vin_plan_read_words(&plan, NULL, 0, NULL, 0, NULL, 0);
+    CHECK(a.number == VIN_DONE && a.bytes == 0 && a.times == 0);
+}
+
 /* The limits of a frame's length, for each number of tracks: both are legal in all three functions, one less and one more in none. */
 static void lengths(void)
 {
@@ -257,6 +287,7 @@ int main(void)
     shifted();
     replaying();
     lengths();
+    halves();
     full_plans();
     most_groups();
     puts("header: its sizes, its limits and its example hold");

@@ -1,6 +1,6 @@
 /* The stack that a call needs: each function is called in a thread whose stack is painted, and what lost its paint is measured and
- * held to VIN_STACK_BYTES of include/vinculampe.h. Plans of all tracks and choices, and labels, also by the functions that take none;
- * logs from one item to the longest; captures up to the largest; calls that are refused. The functions on logs are held to
+ * held to VIN_STACK_BYTES of include/vinculampe.h. Plans of all tracks and choices, and labels, also by the functions that take none; logs from one item to the longest; captures up to
+ * the largest; calls that are refused. The other functions on captures: a line each in `over_captures`. The functions on logs are held to
  * VIN_LOG_STACK_BYTES: a line each in `over_logs`. */
 #define _GNU_SOURCE
 #include <pthread.h>
@@ -56,15 +56,37 @@ static const struct {
 } over_logs[] = {{"pick", call_pick}, {"join", call_join}, {"shift", call_shift}, {"profile", call_profile}, {"replay", call_replay}};
 enum { OVER_LOGS = sizeof over_logs / sizeof *over_logs };
 
+/* ==== The other functions on captures: each over the capture's first bytes, with room and without ==== */
+
+static uint32_t words[VIN_WORDS_MAX];
+static size_t words_length; /* of the capture at hand */
+
+static void call_read_words(const vin_plan *plan, size_t length, bool roomy)
+{
+    vin_plan_read_words(plan, capture, length, words, roomy ? VIN_WORDS_MAX : 0, back_times, sizeof back_times);
+}
+
+static void call_read_items(const vin_plan *plan, size_t length, bool roomy)
+{
+    (void)length;
+    vin_plan_read_items(plan, words, words_length, back, roomy ? sizeof back : 0);
+}
+
+static const struct {
+    const char *name;
+    void (*call)(const vin_plan *plan, size_t length, bool roomy);
+} over_captures[] = {{"read_words", call_read_words}, {"read_items", call_read_items}};
+enum { OVER_CAPTURES = sizeof over_captures / sizeof *over_captures };
+
 /* ==== A call in a painted stack ==== */
 
 typedef struct {
-    enum { COMPOSE, READ, READ_CLOSED, OVER_LOG } function;
+    enum { COMPOSE, READ, READ_CLOSED, OVER_LOG, OVER_CAPTURE = OVER_LOG + OVER_LOGS } function;
     vin_plan plan;
     size_t length, times_length, room;
     vin_answer answer;
     uint8_t *above; /* an address in the caller's frame */
-    size_t index;   /* in over_logs */
+    size_t index;   /* in over_logs or over_captures */
 } work;
 
 /* By the functions that take no CRC label and no fill bus. */
@@ -85,6 +107,8 @@ static void *run(void *given)
     w->above = &here;
     if (w->function == OVER_LOG)
         over_logs[w->index].call(w->length, w->room);
+    else if (w->function == OVER_CAPTURE)
+        over_captures[w->index].call(&w->plan, w->length, w->room > 0);
     else if (!w->plan.full)
         w->answer = called_without_label(w);
     else if (w->function == COMPOSE)
@@ -150,7 +174,7 @@ static size_t make_log(size_t most, unsigned kind)
     return (bits + 7) / 8;
 }
 
-static size_t most[OVER_LOG + OVER_LOGS];
+static size_t most[OVER_CAPTURE + OVER_CAPTURES];
 
 static vin_answer measure(work w, uint8_t *stack)
 {
@@ -166,6 +190,17 @@ static void measure_log(size_t length, uint8_t *stack)
     for (size_t n = 0; n < OVER_LOGS; n++)
         for (int roomy = 0; roomy < 2; roomy++) {
             work w = {OVER_LOG, VIN_PLAN_INIT(0, 0), length, 0, roomy ? sizeof back : 0, {0, 0, 0, 0, 0}, NULL, n};
+            measure(w, stack);
+        }
+}
+
+/* Each other function on captures over the capture's first bytes, with room and without. */
+static void measure_capture(vin_plan plan, size_t length, uint8_t *stack)
+{
+    words_length = (size_t)vin_plan_read_words(&plan, capture, length, words, VIN_WORDS_MAX, back_times, sizeof back_times).bytes;
+    for (size_t n = 0; n < OVER_CAPTURES; n++)
+        for (int roomy = 0; roomy < 2; roomy++) {
+            work w = {OVER_CAPTURE, plan, length, 0, (size_t)roomy, {0, 0, 0, 0, 0}, NULL, n};
             measure(w, stack);
         }
 }
@@ -191,10 +226,12 @@ static void measure_plan(vin_plan plan, size_t log_length, uint8_t *stack)
         r.room = 0;
         measure(r, stack);
     }
+    measure_capture(plan, length, stack);
     for (size_t at = length; at + group <= sizeof capture; at += group) /* the last group again and again */
         memcpy(capture + at, capture + length - group, group);
     work r = {READ, plan, sizeof capture / group * group, 0, sizeof back, {0, 0, 0, 0, 0}, NULL, 0};
     measure(r, stack);
+    measure_capture(plan, sizeof capture / group * group, stack);
     w.room = 0;
     measure(w, stack);
 }
@@ -232,6 +269,12 @@ int main(void)
         good = good && most[n] >= LEAST && most[n] <= VIN_STACK_BYTES;
     printf("stack: composing %zu bytes, reading %zu, closed reading %zu; the header says %d\n", most[COMPOSE], most[READ],
            most[READ_CLOSED], VIN_STACK_BYTES);
+    printf("stack, on captures:");
+    for (int n = 0; n < OVER_CAPTURES; n++) {
+        printf(" %s %zu,", over_captures[n].name, most[OVER_CAPTURE + n]);
+        good = good && most[OVER_CAPTURE + n] >= LEAST_OVER_LOGS && most[OVER_CAPTURE + n] <= VIN_STACK_BYTES;
+    }
+    printf(" the header says %d\n", VIN_STACK_BYTES);
     printf("stack, on logs:");
     for (int n = 0; n < OVER_LOGS; n++) {
         printf(" %s %zu,", over_logs[n].name, most[OVER_LOG + n]);

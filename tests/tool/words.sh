@@ -1,11 +1,5 @@
 # Refusals 13, 14 and 15 name their cause; what looks like another plan is told.
 plan "words 129" "tracks 1" "bus 2 1553" "bus 5 arinc"
-fill=$(printf '01AAAA%.0s' {1..128})
-group() { # WORD..: a frame of 129 words that holds these, then fill, as hexadecimal
-    local words
-    words=$(printf '%s' "$@")
-    printf 'FAF320%s%s' "$words" "${fill:${#words}}"
-}
 at1="word 1 (group 0, track 1, word 2)" at2="word 2 (group 0, track 1, word 3)" at3="word 3 (group 0, track 1, word 4)"
 at4="word 4 (group 0, track 1, word 5)"
 breaks() { # PLACE TEXT WORD..: a capture of these words is refused by 13

@@ -13,6 +13,8 @@ void module_vin_read_closed(vin_answer *answer, PLAN, RUN(const, capture), RUN(,
 void module_vin_compose_full(vin_answer *answer, FULL, RUN(const, log), RUN(const, times), RUN(, out));
 void module_vin_read_full(vin_answer *answer, FULL, RUN(const, capture), RUN(, log), RUN(, times));
 void module_vin_read_closed_full(vin_answer *answer, FULL, RUN(const, capture), RUN(, log), RUN(, times));
+void module_vin_read_words(vin_answer *answer, FULL, RUN(const, capture), uint32_t *words_out, size_t words_out_len, RUN(, times));
+void module_vin_read_items(vin_answer *answer, FULL, const uint32_t *words_in, size_t words_in_len, RUN(, log));
 void module_vin_pick(vin_answer *answer, RUN(const, log), uint16_t buses, RUN(, out));
 void module_vin_join(vin_answer *answer, RUN(const, first), RUN(const, second), RUN(, out));
 void module_vin_shift(vin_answer *answer, RUN(const, log), int64_t microseconds, RUN(, times), RUN(, out));
@@ -61,6 +63,20 @@ vin_answer vin_read_closed_full(FULL, RUN(const, capture), RUN(, log), RUN(, tim
 {
     vin_answer answer;
     module_vin_read_closed_full(&answer, ALL_GIVEN, capture, capture_len, log, log_len, times, times_len);
+    return answer;
+}
+
+vin_answer vin_read_words(FULL, RUN(const, capture), uint32_t *words_out, size_t words_out_len, RUN(, times))
+{
+    vin_answer answer;
+    module_vin_read_words(&answer, ALL_GIVEN, capture, capture_len, words_out, words_out_len, times, times_len);
+    return answer;
+}
+
+vin_answer vin_read_items(FULL, const uint32_t *words_in, size_t words_in_len, RUN(, log))
+{
+    vin_answer answer;
+    module_vin_read_items(&answer, ALL_GIVEN, words_in, words_in_len, log, log_len);
     return answer;
 }
 

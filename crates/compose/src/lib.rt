@@ -135,7 +135,7 @@ fn compose_laid(
     requires { ⌜ Shape plan × (length (now words) ≤ 15420) × Unsent plan (now words) ⌝ }
     ensures { λ r. ⌜ Made (composeLaid plan kinds (now (times .entry)) (length (now (out .entry))) (now (words .entry))) r (now (out .entry)) (now (out .exit)) ⌝ }
 {
-    let open = first_open(kinds, words);
+    let open = first_open(kinds, false, words);
     if open != 0 {
         let before = (open - 1) as usize;
         return refusal(15, bits_before(kinds, &words[..before]));

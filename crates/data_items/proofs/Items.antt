@@ -3,12 +3,12 @@ use Prim.Native.Nat.{ℕ, _+_, _*_, _/_, _%_, _^_}
 use native.Mathlib.Omega.{arith}
 use mathlib.Core.Bool.{Bool, true, false, cond, _&&_}
 use mathlib.Core.Path.{_≡_, refl, sym, ap, _∙_}
-use mathlib.Core.List.{List, [], _∷_, _++_, append-assoc}
+use mathlib.Core.List.{List, [], _∷_, _++_}
 use lib.Dec.{eqb}
 use borrow.Author.Tests.{eq-eqb, eqb-true}
 use Rattle.format.specs.Time.{belowTick}
 use Rattle.format.specs.Plan.{kindOn}
-use Rattle.format.specs.Reader.{Fed, bad, fed, Ran, badAt, ran, more, join, feed, since, starts, after, withTag, baseBus, isHigh, isPair}
+use Rattle.format.specs.Reader.{Fed, bad, fed, Ran, more, join, feed, since, starts, after, withTag, baseBus, isHigh, isPair}
 use Rattle.format.specs.declared.Kind.{Kind}
 use Rattle.format.specs.declared.Kind.the-variants.{Unused, Mil1553, Arinc429}
 use Rattle.format.specs.declared.Item.{Item}
@@ -19,15 +19,8 @@ use Rattle.format.specs.declared.Tag.the-variants.{Untagged}
 use Rattle.format.specs.Laws.Tests.{and-true}
 use Rattle.data_start.specs.declared.Holding.{Holding}
 use Rattle.data_word.specs.Holding.{heldOf}
+use Rattle.format.specs.Laws.Reader.Onward.{more-more}
 pub use Rattle.data_items.proofs.Words.{yes-or-no}
-
-pub more-more : (is js : List Item) (r : Ran) → more is (more js r) ≡ more (is ++ js) r
-more-more is js (badAt p q) = refl
-more-more is js (ran ks h p) = ap (λ (l : List Item). ran l h p) (sym (append-assoc is js ks))
-
-pub more-none : (r : Ran) → more [] r ≡ r
-more-none (badAt q r) = refl
-more-none (ran is h q) = refl
 
 -- nothing is held where nothing is awaited
 pub held-none : (h : Holding) → h .awaits ≡ 0 → heldOf h ≡ Nothing

@@ -19,7 +19,8 @@ use Rattle.format.specs.declared.Tag.the-variants.{Untagged, At}
 use Rattle.format.specs.Laws.Reader.Counted.{counted-next}
 use Rattle.data_items.specs.Row.{topOf}
 use Rattle.data_items.proofs.Words.{other-label, says-bus, says-label}
-use Rattle.data_items.proofs.Items.{flushed, more-more, more-none}
+use Rattle.data_items.proofs.Items.{flushed}
+use Rattle.format.specs.Laws.Reader.Onward.{more-none, more-more}
 
 -- the tag of three words
 abbrev pub tagged : ℕ → ℕ → ℕ → Tag

@@ -24,8 +24,8 @@ use Rattle.log_write.specs.Pen.{Wrote, penIn, penPut}
 use Rattle.log_write.proofs.Writing.{put-bits, put-long, wrote-more}
 use Rattle.data_items.specs.declared.Taken.{Taken}
 use Rattle.data_items.specs.Taken.{Roomy, Second, Took, bothOf, lastOf}
-use Rattle.data_items.proofs.Items.{more-more, more-none}
 use Rattle.data_items.proofs.Row.{Goes}
+use Rattle.format.specs.Laws.Reader.Onward.{more-none, more-more}
 
 -- ---- strings put
 

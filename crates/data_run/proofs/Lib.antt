@@ -1,3 +1,4 @@
 -- The laws of the data words of a row.
 pub mod OneSlot
 pub mod Rows
+pub mod Closing

@@ -19,7 +19,6 @@ use Rattle.data_word.specs.Holding.{heldOf, Sane}
 use Rattle.data_word.specs.Step.{stepOf}
 use Rattle.data_word.specs.Meaning.{Means, Brings}
 use Rattle.data_word.proofs.Meaning.{feed-means}
-use Rattle.data_items.proofs.Items.{more-more}
 use Rattle.data_items.proofs.Words.{bus-low, info-low, label-low, yes-or-no}
 use Rattle.log_write.specs.declared.Pen.{Pen}
 use Rattle.data_run.specs.declared.Pass.{Pass}
@@ -28,6 +27,7 @@ use Rattle.data_run.specs.Fills.{fillsIn, oddFill, onFill}
 use Rattle.log_write.specs.Pen.{penPut, penIn, Wrote}
 use Rattle.log_write.proofs.Writing.{put-bits, put-long, wrote-more}
 use Rattle.data_run.specs.Pass.{Strings, fillPass, stepPen, stepOut, stepPass, wordStep, wordPass, wordOut, Along}
+use Rattle.format.specs.Laws.Reader.Onward.{more-more}
 
 -- ---- a step's two strings in the log
 

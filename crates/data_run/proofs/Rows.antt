@@ -9,9 +9,9 @@ use lib.ListN.{length, take, drop, getD, take-append-drop, length-drop}
 use lib.Seq.{drop-append-le, getD-take, length-take-le}
 use lib.Dec.{eqb, leb}
 use borrow.Author.Tests.{eq-eqb, eqb-true, leb-false, leb-true, lt-ltb, ne-eqb}
-use Rattle.format.specs.Word.{fill, isFill, busOf, labelOf, infoOf, sent}
+use Rattle.format.specs.Word.{fill, isFill, busOf, sent}
 use Rattle.format.specs.Item.{itemBits}
-use Rattle.format.specs.Reader.{Slot, Fed, bad, fed, Ran, badAt, ran, run, more, join, feed, since, begun, counted}
+use Rattle.format.specs.Reader.{Slot, Ran, ran, run, more, counted}
 use Rattle.format.specs.declared.Kind.{Kind}
 use Rattle.format.specs.declared.Item.{Item}
 use Rattle.format.specs.declared.Held.{Held}
@@ -26,13 +26,14 @@ use Rattle.data_items.specs.declared.Taken.{Taken}
 use Rattle.data_items.specs.Taken.{Roomy, Took, lastOf}
 use Rattle.data_items.specs.Row.{Words}
 use Rattle.data_items.proofs.Words.{yes-or-no}
-use Rattle.data_items.proofs.Items.{held-none, more-more, more-none}
+use Rattle.data_items.proofs.Items.{held-none}
 use Rattle.data_run.specs.declared.Pass.{Pass}
 use Rattle.data_run.specs.declared.fill.Fills.{Fills}
 use Rattle.data_run.specs.Fills.{allFill, fillsIn, onData, quiet}
 use Rattle.log_write.specs.Pen.{Wrote, wordsIn}
 use Rattle.data_run.specs.Pass.{wordPass, wordOut, takenFrom, itemsPass, leastOf, Along, FromPass, PastFill, RanTo, Sound}
 use Rattle.data_run.proofs.OneSlot.{along-step, along-stop}
+use Rattle.format.specs.Laws.Reader.Onward.{andThen, more-none, more-more, more-then, run-append}
 
 -- fill that changes nothing
 
@@ -138,35 +139,7 @@ module _ (blank : ℕ) where
 
 -- ---- a row and its front
 
--- the run goes on behind the front
-abbrev andThen : Ran → (Held → ℕ → Ran) → Ran
-andThen (badAt p q) go = badAt p q
-andThen (ran is h p) go = more is (go h p)
-
-more-then : (is : List Item) (r : Ran) (go : Held → ℕ → Ran) → andThen (more is r) go ≡ more is (andThen r go)
-more-then is (badAt p q) go = refl
-more-then is (ran js h p) go = sym (more-more is js (go h p))
-
 module _ (ks : List Kind) (parity : Bool) where
-  join-then : (f : Fed) (old second here : ℕ) (go go′ : Held → ℕ → Ran) (next : Held → ℕ → Ran) → ((h : Held) (p : ℕ) → go′ h p ≡ andThen (go h p) next)
-      → join f old second here go′ ≡ andThen (join f old second here go) next
-  join-then bad old second here go go′ next e = refl
-  join-then (fed is h) old second here go go′ next e = ap (more is) (e h (since h old here)) ∙ sym (more-then is (go h (since h old here)) next)
-
-  run-append : (ss ts : List Slot) (h : Held) (p : ℕ) → run ks parity (ss ++ ts) h p ≡ andThen (run ks parity ss h p) (λ h p. run ks parity ts h p)
-  unfolding run
-  run-append [] ts h p = sym (more-none (run ks parity ts h p))
-  run-append (s ∷ ss) ts h p = go (isFill (s .1)) (run-append ss ts)
-    where
-      f : Fed
-      f = feed ks h (busOf parity (s .1)) (labelOf (s .1)) (infoOf (s .1))
-
-      go : (t : Bool) → ((h : Held) (p : ℕ) → run ks parity (ss ++ ts) h p ≡ andThen (run ks parity ss h p) (λ h p. run ks parity ts h p))
-          → cond t (run ks parity (ss ++ ts) h p) (join f p (begun h p (s .0)) (s .0) (λ h p. run ks parity (ss ++ ts) h p))
-          ≡ andThen (cond t (run ks parity ss h p) (join f p (begun h p (s .0)) (s .0) (λ h p. run ks parity ss h p))) (λ h p. run ks parity ts h p)
-      go true ih = ih h p
-      go false ih = join-then f p (begun h p (s .0)) (s .0) (λ h p. run ks parity ss h p) (λ h p. run ks parity (ss ++ ts) h p) (λ h p. run ks parity ts h p) ih
-
   module _ (row : List ℕ) (e : ℕ) (within : e ≤ length row) where
     front-long : length (take e row) ≡ e
     front-long = length-take-le e row within
@@ -184,7 +157,7 @@ module _ (ks : List Kind) (parity : Bool) where
     run-front : (n i old : ℕ) → i ≤ e → run ks parity (counted (n + i) (drop i row)) Nothing old ≡ andThen (run ks parity (front n i) Nothing old)
         (λ h p. run ks parity (counted (n + e) (drop e row)) h p)
     run-front n i old h =
-        ap (λ (ss : List Slot). run ks parity ss Nothing old) (rest-split n i h) ∙ run-append (front n i) (counted (n + e) (drop e row)) Nothing old
+        ap (λ (ss : List Slot). run ks parity ss Nothing old) (rest-split n i h) ∙ run-append ks parity (front n i) (counted (n + e) (drop e row)) Nothing old
 
     -- what was taken from the front of a row was taken from the row
     pub took-front : {t t′ : Taken} {out out′ : List ℕ} → Took ks parity (take e row) t out t′ out′ → Took ks parity row t out t′ out′

@@ -7,6 +7,10 @@ use Rattle.format.specs.Word.{isFill, busOf}
 use Rattle.format.specs.Reader.{Slot}
 use Rattle.data_run.specs.declared.fill.Fills.{Fills}
 
+-- none so far
+abbrev pub noFill : Fills
+noFill = record { first = 0; misplaced = 0 }
+
 abbrev pub orPlace : ℕ → ℕ → ℕ
 orPlace old number = cond (eqb old 0) (number + 1) old
 

@@ -20,8 +20,13 @@ use Rattle.data_items.specs.Taken.{Took}
 use Rattle.data_run.specs.declared.fill.Fills.{Fills}
 use Rattle.log_write.specs.declared.Pen.{Pen}
 use Rattle.data_run.specs.declared.Pass.{Pass}
-use Rattle.data_run.specs.Fills.{oddFill, onFill, onData, fillsIn, quiet}
-use Rattle.log_write.specs.Pen.{penPut, penIn, Wrote}
+use Rattle.data_run.specs.Fills.{oddFill, onFill, onData, fillsIn, quiet, noFill}
+use Rattle.log_write.specs.Pen.{penPut, penIn, Wrote, start}
+use Rattle.format.specs.declared.Held.the-variants.{Nothing}
+
+-- before the first word
+abbrev pub startPass : Pass
+startPass = record { held = flat Nothing; since = 0; pen = start; fills = noFill; bad = 0 }
 
 -- fill is looked at and dropped
 abbrev pub fillPass : Bool → ℕ → ℕ → ℕ → ℕ → Pass → Pass

@@ -11,7 +11,7 @@ ghost use Rattle.format.specs.Reader.{counted, run};
 ghost use Rattle.data_word.specs.Holding.{heldOf, Sane};
 ghost use Rattle.data_items.specs.Row.{Words};
 ghost use Rattle.data_run.specs.Fills.{fillsIn, allFill};
-ghost use Rattle.data_run.specs.Pass.{FromPass, PastFill, RanTo, Sound, Strings, itemsPass, leastOf, passOut, stepOut, stepPass, stepPen, wordOut, wordPass};
+ghost use Rattle.data_run.specs.Pass.{FromPass, PastFill, RanTo, Sound, Strings, itemsPass, leastOf, passOut, startPass, stepOut, stepPass, stepPen, wordOut, wordPass};
 use crate::fill::Fills;
 use crate::fill::is_odd_fill;
 use crate::fill::on_data;
@@ -31,6 +31,22 @@ pub struct Pass {
     pub pen: Pen,
     pub fills: Fills,
     pub bad: u64,
+}
+
+// Before the first word.
+pub fn start_pass() -> Pass
+    ensures { λ r. ⌜ r ≡ startPass ⌝ }
+{
+    Pass {
+        held: data_word::nothing(),
+        since: 0,
+        pen: Pen::start(),
+        fills: Fills {
+            first: 0,
+            misplaced: 0,
+        },
+        bad: 0,
+    }
 }
 
 // The bits of the items that a word finished.

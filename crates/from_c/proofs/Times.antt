@@ -8,7 +8,7 @@ use lib.Seq.{take-at, drop-at, drop-drop}
 use borrow.Rule.Slice.PartMut.{putMid}
 use Rattle.format.specs.Answer.{over}
 use Rattle.from_c.specs.Numbers.{timeBytes, timesFrom}
-use Rattle.format.specs.Laws.Front.{Front, take-more}
+use Rattle.format.specs.Laws.Front.{Front, front-part, take-more}
 use Rattle.format.specs.Laws.Lists.{flatMap-append}
 use Rattle.from_c.specs.Laws.{length-time, times-number}
 
@@ -23,18 +23,6 @@ eight-set a b c d e f g h (x0 ∷ x1 ∷ x2 ∷ []) z = absurd (omega arith)
 eight-set a b c d e f g h (x0 ∷ x1 ∷ []) z = absurd (omega arith)
 eight-set a b c d e f g h (x0 ∷ []) z = absurd (omega arith)
 eight-set a b c d e f g h [] z = absurd (omega arith)
-
--- the k elements behind the front are lent, and come back as F
-front-part : {P d xs ys : List ℕ} {a n : ℕ} (k : ℕ) (F : List ℕ) → Front P d xs a → length F ≡ k → a + k ≤ length d → a + k ≡ n → ys ≡ F → Front (P ++ F) d (putMid a k xs ys) n
-front-part {P} {d} {xs} {ys} {a} {n} k F p lf kd en ey = record {
-  is =
-      let d1 : drop a xs ≡ drop a d = rw (p .is) (drop-at P (drop a d) a (p .size)) in
-      let t1 : take a xs ≡ P = rw (p .is) (take-at P (drop a d) a (p .size)) in
-      let d2 : drop n d ≡ drop k (drop a d) = ap (λ (z : ℕ). drop z d) (sym en) ∙ sym (drop-drop k a d) in
-      rw (ey, d1, t1, d2) (simp append-assoc);
-  size = rw (length-append, p .size, lf) en;
-  fits = omega arith;
-}
 
 -- one time more of a row
 pub times-more : {d xs ys : List ℕ} (row : List ℕ) (i k : ℕ) → Front (flatMap timeBytes (take i row)) d xs (8 * i) → i < length row → k ≡ 8 → 8 * i + 8 ≤ length d → ys ≡ timeBytes (getD row i 0)

@@ -79,3 +79,12 @@ pub(crate) fn say_made(name: &[u8], a: Answer, out: &[u8], asked: &[u8]) {
     say_call(name, a, out, asked);
     io::write_all(1, b"\n");
 }
+
+// The same where a refusal may have a second place, which is asked for behind what is made: so many bytes of `out`.
+pub(crate) fn say_found(name: &[u8], a: Answer, bytes: u64, out: &[u8], asked: &[u8]) {
+    io::write_all(1, name);
+    say_answer(a);
+    say_number(digest_of(out));
+    say_unless(a.second == number(asked, 4) && is_asked(a, number(asked, 1), number(asked, 2)));
+    say_unless(is_made(bytes, out, asked));
+}

@@ -117,3 +117,7 @@ pub(crate) fn number(line: &[u8], spaces: usize) -> u64 {
 pub(crate) fn size(line: &[u8], spaces: usize) -> usize {
     (number(line, spaces) % 65536) as usize
 }
+
+pub(crate) fn small(line: &[u8], spaces: usize) -> u32 {
+    (number(line, spaces) % 4294967296) as u32
+}

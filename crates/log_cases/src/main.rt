@@ -1,28 +1,34 @@
-// The named cases of the functions on logs, from standard input: a call a line, with the answer that document 02 asks for behind `->`.
-// Each is made, its answer is written with a digest of what was lent for it, and `differs` behind an answer that is another.
-// `independent/log_cases.c`, the same over the independent implementation, must write the same; what the lines mean is said at the top
-// of that text.
+// The named cases of the functions on logs, and of those on captures beside composing and reading, from standard input: a call a line,
+// with the answer that document 02 asks for behind `->`. Each is made, its answer is written with a digest of what was lent for it, and
+// `differs` behind an answer that is another. `independent/log_cases.c`, the same over the independent implementation, must write the
+// same; what the lines mean is said at the top of that text.
 
 mod answers;
 mod digest;
 mod fields;
+mod items;
 mod join;
 mod pick;
+mod plans;
 mod profile;
 mod replay;
 mod runs;
 mod shift;
+mod slots;
+mod words;
 
 use crate::answers::say_unknown;
 use crate::fields::arrow;
 use crate::fields::line_end;
+use crate::items::items_line;
 use crate::join::join_line;
 use crate::pick::pick_line;
 use crate::profile::profile_line;
 use crate::replay::replay_line;
 use crate::shift::shift_line;
+use crate::slots::slots_line;
 
-// A call is told by its second letter: pick, join, shift, profile, replay.
+// A call is told by its second letter: pick, join, shift, profile, replay, slots, items.
 fn call_line(letter: u8, line: &[u8], asked: &[u8]) {
     match letter {
         b'i' => pick_line(line, asked),
@@ -30,6 +36,8 @@ fn call_line(letter: u8, line: &[u8], asked: &[u8]) {
         b'h' => shift_line(line, asked),
         b'r' => profile_line(line, asked),
         b'e' => replay_line(line, asked),
+        b'l' => slots_line(line, asked),
+        b't' => items_line(line, asked),
         _ => say_unknown(),
     }
 }

@@ -6,12 +6,9 @@ use crate::answers::say_unless;
 use crate::digest::digest_of;
 use crate::fields::number;
 use crate::fields::size;
+use crate::fields::small;
 use crate::runs::part;
 use crate::runs::run;
-
-fn small(line: &[u8], spaces: usize) -> u32 {
-    (number(line, spaces) % 4294967296) as u32
-}
 
 // "words sent, items lost, words held"
 struct Counts {

@@ -1,5 +1,5 @@
 -- A row of items or a fault, put into an array, and what is made of it.
-use Prim.Native.Nat.{ℕ, _+_, _≤_}
+use Prim.Native.Nat.{ℕ, _+_, _^_, _≤_, _<_}
 use mathlib.Core.Path.{_≡_}
 use mathlib.Core.List.{List, flatMap}
 use lib.ListN.{length}
@@ -9,6 +9,7 @@ use Rattle.format.specs.Item.{itemBits}
 use Rattle.format.specs.Log.{Parsed, items, fault}
 use Rattle.format.specs.Promises.{made-one}
 use Rattle.format.specs.declared.Answer.{Answer}
+use Rattle.format.specs.declared.Item.{Item}
 use Rattle.log_rules.specs.Pick.{logIn}
 use Rattle.log_write.specs.Pen.{Wrote, closedSize}
 use Rattle.log_write.specs.declared.Pen.{Pen}
@@ -27,7 +28,15 @@ madeOf room (fault n q) = refused n q
 
 -- a log may be closed in an array of so many bytes, and stands there if it is not refused for its length
 abbrev pub Closable : Pen → ℕ → Type 0
-Closable p n = (p .bits ≤ 1048576) × (closedSize p ≤ 32768 → closedSize p + 7 ≤ n)
+Closable p n = (p .bits < 2 ^ 40) × (closedSize p ≤ 32768 → closedSize p + 7 ≤ n)
+
+-- the log of the items whose bits stand in the array, closed and handed over, or 6
+abbrev pub Gives : Pen → List ℕ → Answer → List ℕ → List ℕ → Type 0
+Gives p built r out out′ = (is : List Item) → Wrote (flatMap itemBits is) built p → Made (logIn (length out) is) r out out′
+
+pub gives-one : (p : Pen) (built : List ℕ) (is : List Item) (r r′ : Answer) (out x x′ : List ℕ) → Wrote (flatMap itemBits is) built p
+    → Gives p built r out x → Gives p built r′ out x′ → (r ≡ r′) × (x ≡ x′)
+gives-one p built is r r′ out x x′ w a b = made-one (logIn (length out) is) r r′ out x x′ (a is w) (b is w)
 
 abbrev pub Finishable : Put → ℕ → Type 0
 Finishable (All p) n = Closable p n

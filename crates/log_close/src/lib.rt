@@ -1,15 +1,11 @@
 // What was put, handed over: the refusals of a log, "then 6", or the log itself.
 
 ghost use mathlib.Core.Path.{_≡_};
-ghost use mathlib.Core.List.{List, _++_, flatMap};
+ghost use mathlib.Core.List.{_++_};
 ghost use Prim.Native.Nat.{_≤_};
 ghost use lib.ListN.{length, take, drop};
-ghost use Rattle.format.specs.Answer.{Made, refusal};
-ghost use Rattle.format.specs.Item.{itemBits};
-ghost use Rattle.format.specs.declared.Item.{Item};
-ghost use Rattle.log_rules.specs.Pick.{logIn};
-ghost use Rattle.log_write.specs.Pen.{Wrote};
-ghost use Rattle.log_close.specs.Made.{Closable, Finishable, Finishes};
+ghost use Rattle.format.specs.Answer.{refusal};
+ghost use Rattle.log_close.specs.Made.{Closable, Finishable, Finishes, Gives};
 use format::Answer;
 use log_put::Put;
 use log_write::Pen;
@@ -39,9 +35,9 @@ pub fn refusal(number: u32, place: usize) -> Answer
 }
 
 // "then 6", and then the log, which is closed in `built` first.
-fn give(pen: Pen, built: &mut [u8], out: &mut [u8]) -> Answer
+pub fn give(pen: Pen, built: &mut [u8], out: &mut [u8]) -> Answer
     requires { ⌜ Closable pen (length (now built)) ⌝ }
-    ensures { λ r. ⌜ ((is : List Item) → Wrote (flatMap itemBits is) (now (built .entry)) pen → Made (logIn (length (now (out .entry))) is) r (now (out .entry)) (now (out .exit))) ⌝ }
+    ensures { λ r. ⌜ Gives pen (now (built .entry)) r (now (out .entry)) (now (out .exit)) ⌝ }
 {
     let bytes = pen.close(built);
     if 32768 < bytes {

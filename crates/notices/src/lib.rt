@@ -203,15 +203,15 @@ pub fn at_end(arinc: bool, table: &[u64], found: u64) -> u64
     0
 }
 
-// A whole row of words that were not sent yet: the number of the earliest open notice, one up, or 0.
-pub fn first_open(kinds: [Kind; 16], words: &[u32]) -> u64
+// A whole row of words: the number of the earliest open notice, one up, or 0.
+pub fn first_open(kinds: [Kind; 16], parity: bool, words: &[u32]) -> u64
     requires { ⌜ Words (now words) × (length (now words) < 2 ^ 31) ⌝ }
-    ensures { λ r. ⌜ r ≡ openRow (rolesIn kinds false (counted 0 (now (words .entry)))) ⌝ }
+    ensures { λ r. ⌜ r ≡ openRow (rolesIn kinds parity (counted 0 (now (words .entry)))) ⌝ }
 {
     if has_arinc(kinds) {
         if any_notice(words) {
             let mut table = [0u64; 64];
-            let found = over_row(kinds, false, words, 0, &mut table, 0);
+            let found = over_row(kinds, parity, words, 0, &mut table, 0);
             return least_of(&table, found);
         }
     }

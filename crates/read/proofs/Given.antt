@@ -28,16 +28,11 @@ use Rattle.read_groups.specs.Misplaced.{told, placeUp}
 use Rattle.read_groups.specs.Groups.{groupsOn}
 use Rattle.read_groups.specs.End.{Logged, Ended}
 use Rattle.read_groups.proofs.Misplaced.{told-none, told-found}
-use Rattle.read_groups.proofs.Groups.{numbers-few}
 use Rattle.notices.specs.Laws.Capture as notices
-use Rattle.read.specs.Room.{earlier, roomNumber, Built}
-
-pub given-refused : {g : Reading} {r : Answer} {number place second : ℕ} (log times : List ℕ) → g ≡ refuses number place second → r ≡ refusal number place second → Given g r log log times times
-given-refused {g} {r} log times e a = subst (λ (x : Reading). Given x r log log times times) (sym e) (a, refl, refl)
-
-given-whole : (g : Reading) (r : Answer) (log log′ times times′ whole table : List ℕ) → g ≡ gives whole table → r ≡ success (length whole) (length table)
-    → log′ ≡ whole ++ drop (length whole) log → times′ ≡ table ++ drop (length table) times → Given g r log log′ times times′
-given-whole g r log log′ times times′ whole table e a b c = subst (λ (x : Reading). Given x r log log′ times times′) (sym e) (a, b, c)
+use Rattle.read.specs.Room.{roomNumber, Built}
+use Rattle.capture_parts.proofs.Part.{numbers-few}
+use Rattle.capture_parts.proofs.Given.{given-whole, table-long}
+use Rattle.capture_parts.specs.Room.{earlier}
 
 -- "6, 7", by the number
 abbrev by-tests : Bool → Bool → ℕ
@@ -100,16 +95,6 @@ module _ (p : Plan) (c : List ℕ) (n logRoom timeRoom : ℕ) (whole : List ℕ)
   both-given : length whole ≤ 32768 → length whole ≤ logRoom → timesNeeded p n ≤ timeRoom
       → roomed p c n logRoom timeRoom whole ≡ given
   both-given h k l = rw (le-leb (length whole) 32768 h, le-leb (length whole) logRoom k, le-leb (timesNeeded p n) timeRoom l) refl
-
-table-long : (p : Plan) (c : List ℕ) (k : ℕ) → length (list (λ g. groupTime p c (g * groupWords p)) 0 k) ≡ k
-table-long p c k = length-list (λ g. groupTime p c (g * groupWords p)) 0 k
-
-pub times-few : (p : Plan) (n : ℕ) → timesNeeded p n ≤ n
-times-few p n = go (p .«frame_time»)
-  where
-    go : (b : Bool) → cond b n 0 ≤ n
-    go true = omega arith
-    go false = omega arith
 
 -- the log is copied and the times are written
 pub given-copied : (p : Plan) (c : List ℕ) (n : ℕ) (whole built : List ℕ) (bytes need : ℕ) (log log′ times times′ : List ℕ) → Built whole built bytes
@@ -189,9 +174,6 @@ module _ (p : Plan) (c : List ℕ) (n logRoom timeRoom : ℕ) (closed : Bool) wh
           none-settled l o ∙ none-by closed (roomed p c n logRoom timeRoom (logOf (l .items))) (misplaced p (groupsOn p c 0 n)) (storedAt p) (r .misplaced) (l .fill) (sym e ∙ z)
 
 -- ---- "Reading checks 1, 8"
-
-pub whole-groups : (p : Plan) (k : ℕ) → k % (3 * groupWords p) ≡ 0 → k ≡ k / (3 * groupWords p) * (3 * groupWords p)
-whole-groups p k e = sym (div-add-mod' k (3 * groupWords p)) ∙ rw e (omega arith)
 
 module _ (closed : Bool) (p : Plan) (ks : List Kind) (c : List ℕ) (logRoom timeRoom : ℕ) where
   pub illegal-refused : legal p ks ≡ false → reading closed p ks c logRoom timeRoom ≡ refuses 1 0 0

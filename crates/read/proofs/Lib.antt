@@ -1,4 +1,3 @@
 -- The laws of the readings.
 pub mod Given
-pub mod Times
 pub mod Short

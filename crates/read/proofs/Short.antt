@@ -28,8 +28,8 @@ use Rattle.format.specs.Laws.Accepted.Together.{data-all}
 use Rattle.format.specs.Laws.Limits.{Shape}
 use Rattle.read.specs.Room.{Enough}
 use Rattle.read_groups.proofs.Misplaced.{yes-or-no}
-use Rattle.read_groups.proofs.Groups.{slots-few}
-use Rattle.read.proofs.Given.{whole-groups}
+use Rattle.capture_parts.proofs.Part.{slots-few}
+use Rattle.capture_parts.proofs.Given.{whole-groups}
 
 item-short : (i : Item) → length (itemBits i) ≤ 26 * length (itemParts i)
 unfolding itemBits itemFields

@@ -1,10 +1,8 @@
 -- Room for the log and the times: the array that the log is built in, and the refusals for want of room.
 use Prim.Native.Nat.{ℕ, _+_, _*_, _/_, _≤_}
-use mathlib.Core.Bool.{cond}
 use mathlib.Core.Path.{_≡_}
 use mathlib.Core.List.{List}
 use lib.ListN.{length, take}
-use lib.Dec.{eqb, leb}
 use Rattle.format.specs.Log.{logOf}
 use Rattle.format.specs.Plan.{groupWords}
 use Rattle.format.specs.Read.{got, readGroups}
@@ -12,14 +10,9 @@ use Rattle.format.specs.declared.Item.{Item}
 use Rattle.format.specs.declared.Kind.{Kind}
 use Rattle.format.specs.declared.Held.the-variants.{Nothing}
 use Rattle.format.specs.declared.Plan.{Plan}
+use Rattle.capture_parts.specs.Room.{earlier, shortOf}
 
 -- "6, 7": the number of the refusal for want of room, 0 for none
-abbrev pub shortOf : ℕ → ℕ → ℕ → ℕ
-shortOf number needed room = cond (leb needed room) 0 number
-
-abbrev pub earlier : ℕ → ℕ → ℕ
-earlier first then = cond (eqb first 0) then first
-
 unfoldable pub roomNumber : ℕ → ℕ → ℕ → ℕ → ℕ
 roomNumber bytes logRoom needed timeRoom = earlier (shortOf 6 bytes 32768) (earlier (shortOf 6 bytes logRoom) (shortOf 7 needed timeRoom))
 

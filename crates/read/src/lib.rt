@@ -12,12 +12,17 @@ ghost use Rattle.format.specs.Plan.{groupWords, timesNeeded};
 ghost use Rattle.format.specs.Read.{reading, readGroups, roomed, settled};
 ghost use Rattle.format.specs.declared.Held.the-variants.{Nothing};
 ghost use Rattle.format.specs.Laws.Limits.{Shape};
-ghost use Rattle.read.specs.Room.{Built, Enough, earlier, roomNumber, shortOf};
+ghost use Rattle.read.specs.Room.{Built, Enough, roomNumber};
+use capture_parts::earlier;
+use capture_parts::groups_in;
+use capture_parts::is_whole;
+use capture_parts::refusal;
+use capture_parts::short_of;
+use capture_parts::times_of;
+use capture_parts::write_times;
 use format::Answer;
 use format::Kind;
 use format::Plan;
-use narrow;
-use plan::group_words;
 use plan::legal;
 use plan::slots;
 use read_groups::read_groups;
@@ -33,53 +38,6 @@ fn copy(to: &mut [u8], from: &[u8], n: usize)
         to[i] = from[i];
         i += 1;
     }
-}
-
-// The frame times of n groups.
-fn write_times(capture: &[u8], plan: Plan, n: usize, times: &mut [u64])
-    requires { ⌜ Shape plan × (3 * (n * groupWords plan) ≤ length (now capture)) × (length (now capture) ≤ 1048576) × (n ≤ length (now times)) ⌝ }
-    ensures { λ _. ⌜ now (times .exit) ≡ list (λ g. groupTime plan (now (capture .entry)) (g * groupWords plan)) 0 n ++ drop n (now (times .entry)) ⌝ }
-{
-    let size = 3 * group_words(plan);
-    let mut g: usize = 0;
-    while g < n {
-        let begin = g * size;
-        let end = begin + size;
-        times[g] = group_read::group_time(&capture[begin..end], plan);
-        g += 1;
-    }
-}
-
-fn refusal(number: u32, place: u64, second: u64) -> Answer
-    ensures { λ r. ⌜ r ≡ refusal number place second ⌝ }
-{
-    Answer {
-        number: number,
-        place: place,
-        second: second,
-        bytes: 0,
-        times: 0,
-    }
-}
-
-// The frame times that a capture of n groups has.
-fn times_of(plan: Plan, n: usize) -> usize
-    ensures { λ r. ⌜ r ≡ timesNeeded plan n ⌝ }
-{
-    if plan.frame_time { n } else { 0 }
-}
-
-// The number of a refusal where the room is less than what is needed, else 0.
-fn short_of(number: u32, needed: usize, room: usize) -> u32
-    ensures { λ r. ⌜ r ≡ shortOf number needed room ⌝ }
-{
-    if needed <= room { 0 } else { number }
-}
-
-fn earlier(first: u32, then: u32) -> u32
-    ensures { λ r. ⌜ r ≡ earlier first then ⌝ }
-{
-    if first == 0 { then } else { first }
 }
 
 // "6, 7": the number of the refusal for want of room, 0 for none.
@@ -123,22 +81,6 @@ fn give(
         bytes: bytes as u64,
         times: need as u64,
     }
-}
-
-// How many whole groups so many bytes have.
-fn groups_in(plan: Plan, length: usize) -> usize
-    requires { ⌜ Shape plan × (length ≤ 1048576) ⌝ }
-    ensures { λ r. ⌜ r ≡ length / (3 * groupWords plan) ⌝ }
-{
-    narrow::quotient(length, 3 * group_words(plan))
-}
-
-// Not "not whole groups" (answer 8).
-fn is_whole(plan: Plan, length: usize) -> bool
-    requires { ⌜ Shape plan × (length ≤ 1048576) ⌝ }
-    ensures { λ r. ⌜ r ≡ eqb (length % (3 * groupWords plan)) 0 ⌝ }
-{
-    narrow::remainder(length, 3 * group_words(plan)) == 0
 }
 
 // The plain reading asks nothing of fill.

@@ -26,7 +26,7 @@ use Rattle.format.specs.Laws.Tests.{and-true}
 use Rattle.format.specs.Laws.Limits.{groups-most, leastGroupBytes}
 use Rattle.format.specs.Laws.Lists.{length-list}
 use Rattle.format.specs.Laws.Legal.{shape-of}
-use Rattle.read.proofs.Given.{times-few}
+use Rattle.capture_parts.proofs.Given.{times-few}
 
 -- the times given are no more than there is room for
 abbrev pub Few : ℕ → Reading → Type 0

@@ -36,7 +36,7 @@ fn read_either(
     read(plan, kinds, capture, log, times)
 }
 
-fn least(a: usize, b: usize) -> usize
+pub fn least(a: usize, b: usize) -> usize
     ensures { λ r. ⌜ r ≡ cond (leb a b) a b ⌝ }
 {
     if a <= b {

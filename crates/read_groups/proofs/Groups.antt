@@ -29,22 +29,15 @@ use Rattle.data_word.proofs.Meaning.{nothing-is-sane}
 use Rattle.log_write.specs.Pen.{Wrote}
 use Rattle.data_run.specs.declared.Pass.{Pass}
 use Rattle.data_run.specs.declared.fill.Fills.{Fills}
-use Rattle.data_run.specs.Fills.{fillsIn}
-use Rattle.data_run.specs.Pass.{Brought, RanTo}
+use Rattle.data_run.specs.Fills.{fillsIn, noFill}
+use Rattle.data_run.specs.Pass.{Brought, RanTo, startPass}
 use Rattle.read_groups.specs.declared.Walk.{Walk}
-use Rattle.read_groups.specs.Misplaced.{noFill, fillsOver, numbersOf, numbersOn}
-use Rattle.read_groups.specs.Groups.{startPass, brokenAt, Over, Through, Walked}
+use Rattle.read_groups.specs.Misplaced.{fillsOver, numbersOf, numbersOn}
+use Rattle.read_groups.specs.Groups.{brokenAt, Over, Through, Walked}
 use Rattle.read_groups.proofs.Numbered.{Few, counted-below, counted-within, fills-few, ran-low}
+use Rattle.format.specs.Laws.Reader.Onward.{before-none, before-before}
 
 -- ---- from group to group
-
-pub before-before : (is js : List Item) (r : Got) → before is (before js r) ≡ before (is ++ js) r
-before-before is js (got ks) = ap got (sym (append-assoc is js ks))
-before-before is js (stopped n q s) = refl
-
-before-none : (r : Got) → before [] r ≡ r
-before-none (got is) = refl
-before-none (stopped n q s) = refl
 
 -- what was brought before, and then
 brought-more : {x₀ x y : Pass} {out₀ out out′ : List ℕ} {is js : List Item} → Brought x₀ out₀ is x out → Brought x out js y out′ → Brought x₀ out₀ (is ++ js) y out′
@@ -197,61 +190,3 @@ module _ (ks : List Kind) (p : Plan) (c : List ℕ) (n : ℕ) (out₀ : List ℕ
 
   pub over-all : (g : ℕ) {x : Pass} {out : List ℕ} → g ≡ n → Over ks p c n out₀ g x out → Through ks p c n out₀ x out
   over-all g e a = through (rw e at a)
-
--- ---- sizes
-
-module _ (p : Plan) (s : Shape p) where
-  pub dealt-few : dealtCount p ≤ groupWords p
-  dealt-few = let k : rows p ≤ p .words = omega (arith, rows-under p s) in mul-le-mul-left (p .tracks) k
-
-  pub slots-few : slots p ≤ groupWords p
-  unfolding slots
-  slots-few = omega (arith, dealt-few)
-
-  pub dealt-all : lead p + slots p ≡ dealtCount p
-  unfolding slots
-  dealt-all = omega (arith, lead-few p, room p s)
-
-  -- the data words of n groups
-  pub numbers-few : (n size : ℕ) → size ≡ n * (3 * groupWords p) → size ≤ 1048576 → n * slots p ≤ 349525
-  numbers-few n size e l = omega (arith, mul-le-mul-left n slots-few)
-
-  -- the group g of n is within the capture
-  pub group-room : (n g size : ℕ) → size ≡ n * (3 * groupWords p) → g < n → g * (3 * groupWords p) + 3 * groupWords p ≤ size
-  group-room n g size e l = let k : suc g ≤ n = l in omega (arith, mul-le-mul-right (3 * groupWords p) k)
-
-  -- what is lent of the capture for the group g, and of the row that it is dealt to
-  pub part-length : (c : List ℕ) (n g : ℕ) → length c ≡ n * (3 * groupWords p) → g < n
-      → length (take (g * (3 * groupWords p) + 3 * groupWords p - g * (3 * groupWords p)) (drop (g * (3 * groupWords p)) c)) ≡ 3 * groupWords p
-  part-length c n g e l = simp (length-take, length-drop) (omega (arith, group-room n g (length c) e l))
-
-  module _ (c : List ℕ) (g : ℕ) where
-    abbrev pub partOf : List ℕ
-    partOf = take (g * (3 * groupWords p) + 3 * groupWords p - g * (3 * groupWords p)) (drop (g * (3 * groupWords p)) c)
-
-    begins : g * (3 * groupWords p) ≡ 3 * (g * groupWords p)
-    begins = omega arith
-
-    sized : g * (3 * groupWords p) + 3 * groupWords p - g * (3 * groupWords p) ≡ 3 * groupWords p
-    sized = omega arith
-
-    module _ {r : Found} {row₀ row : List ℕ} (d : Deals p partOf row₀ r row) where
-      pub dealt-none : r .number ≡ 0 → groupFault p c (g * groupWords p) ≡ none
-      dealt-none z = answer-none p c (g * groupWords p) (g * (3 * groupWords p)) _ s begins sized (d .fault) z
-
-      pub dealt-found : (r .number ≡ 0 → ⊥) → groupFault p c (g * groupWords p) ≡ found (r .number) (g * groupWords p + r .place)
-      dealt-found z = answer-found p c (g * groupWords p) (g * (3 * groupWords p)) _ s begins sized (d .fault) z
-
-      pub dealt-low : r .place < groupWords p
-      dealt-low = answer-low p c (g * groupWords p) (g * (3 * groupWords p)) _ s begins sized (d .fault)
-
-      pub dealt-words : (first count : ℕ) → r .number ≡ 0 → first ≡ lead p → count ≡ slots p
-          → take (first + count - first) (drop first row) ≡ wordsIn (groupSlots p c (g * groupWords p))
-      dealt-words first count z e f =
-          let k : first + count - first ≡ slots p = omega arith in
-          ap (λ (n : ℕ). take (first + count - first) (drop n row)) e
-          ∙ answer-words p c (g * groupWords p) (g * (3 * groupWords p)) _ s begins sized (drop (dealtCount p) row₀) (first + count - first) k (d .words z)
-
-  -- the words of a group in a row that is as long as a third of the capture
-  pub row-room : (n size : ℕ) → size ≡ n * (3 * groupWords p) → 0 < n → 3 * dealtCount p ≤ size
-  row-room n size e l = let k : 1 ≤ n = l in omega (arith, mul-le-mul-right (3 * groupWords p) k, dealt-few)

@@ -14,8 +14,8 @@ use Rattle.format.specs.Read.{anyData, misplacedIn, misplaced}
 use Rattle.format.specs.declared.Plan.{Plan}
 use Rattle.format.specs.Laws.Tests.{clash, or-false}
 use Rattle.data_run.specs.declared.fill.Fills.{Fills}
-use Rattle.data_run.specs.Fills.{onSlot, orPlace, fillsIn}
-use Rattle.read_groups.specs.Misplaced.{noFill, fillsOver, told, earliest}
+use Rattle.data_run.specs.Fills.{onSlot, orPlace, fillsIn, noFill}
+use Rattle.read_groups.specs.Misplaced.{fillsOver, told, earliest}
 
 pub yes-or-no : {A : Type 0} (b : Bool) → (b ≡ true → A) → (b ≡ false → A) → A
 yes-or-no true y n = y refl

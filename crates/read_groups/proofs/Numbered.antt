@@ -18,9 +18,9 @@ use Rattle.format.specs.Laws.Reader.Named.{named, slots-counted, RanIn}
 use Rattle.format.specs.declared.Plan.{Plan}
 use Rattle.data_run.specs.declared.Pass.{Pass}
 use Rattle.data_run.specs.declared.fill.Fills.{Fills}
-use Rattle.data_run.specs.Fills.{onSlot, onFill, orPlace, oddFill, fillsIn}
+use Rattle.data_run.specs.Fills.{onSlot, onFill, orPlace, oddFill, fillsIn, noFill}
 use Rattle.data_run.specs.Pass.{RanTo}
-use Rattle.read_groups.specs.Misplaced.{noFill, fillsOver, numbersOf, numbersOn, told, placeUp, earliest}
+use Rattle.read_groups.specs.Misplaced.{fillsOver, numbersOf, numbersOn, told, placeUp, earliest}
 use Rattle.read_groups.specs.Groups.{groupsOn}
 use Rattle.read_groups.proofs.Misplaced.{fills-say-misplaced}
 

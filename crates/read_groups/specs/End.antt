@@ -12,10 +12,11 @@ use Rattle.format.specs.declared.Item.{Item}
 use Rattle.format.specs.declared.Held.the-variants.{Nothing}
 use Rattle.format.specs.declared.Plan.{Plan}
 use Rattle.read_groups.specs.declared.Outcome.{Outcome}
-use Rattle.read_groups.specs.Misplaced.{noFill, fillsOver, numbersOn, told, placeUp}
+use Rattle.read_groups.specs.Misplaced.{fillsOver, numbersOn, told, placeUp}
 use Rattle.read_groups.specs.Groups.{groupsOn}
 use Rattle.notices.specs.Laws.Capture.{told15, placedUp}
 use Rattle.notices.specs.Laws.Groups.{openNumber}
+use Rattle.data_run.specs.Fills.{noFill}
 
 -- n groups bring items: the length of their log, the log itself if the array has room for it, and the numbers of the earliest open
 -- notice and of the earliest misplaced fill, which stand at the definitions' places

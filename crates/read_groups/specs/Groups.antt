@@ -11,18 +11,13 @@ use Rattle.format.specs.declared.Kind.{Kind}
 use Rattle.format.specs.declared.Item.{Item}
 use Rattle.format.specs.declared.Held.the-variants.{Nothing}
 use Rattle.format.specs.declared.Plan.{Plan}
-use Rattle.log_write.specs.Pen.{start}
-use Rattle.data_start.specs.Holding.{flat}
 use Rattle.data_word.specs.Holding.{heldOf}
 use Rattle.data_run.specs.declared.Pass.{Pass}
 use Rattle.read_groups.specs.declared.Walk.{Walk}
-use Rattle.read_groups.specs.Misplaced.{noFill, fillsOver, numbersOn}
-use Rattle.data_run.specs.Pass.{Brought}
+use Rattle.read_groups.specs.Misplaced.{fillsOver, numbersOn}
+use Rattle.data_run.specs.Pass.{Brought, startPass}
 use Rattle.notices.specs.Laws.Groups.{openNumber}
-
--- before the first group
-abbrev pub startPass : Pass
-startPass = record { held = flat Nothing; since = 0; pen = start; fills = noFill; bad = 0 }
+use Rattle.data_run.specs.Fills.{noFill}
 
 -- a bad word, and the item that it broke
 abbrev pub brokenAt : Plan → Pass → ℕ → ℕ → Walk

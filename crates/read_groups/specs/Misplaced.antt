@@ -12,9 +12,6 @@ use Rattle.format.specs.declared.Plan.{Plan}
 use Rattle.data_run.specs.declared.fill.Fills.{Fills}
 use Rattle.data_run.specs.Fills.{fillsIn}
 
-abbrev pub noFill : Fills
-noFill = record { first = 0; misplaced = 0 }
-
 -- the slots of groups, one after the other
 unfoldable pub fillsOver : Plan → List (List Slot) → Fills → Fills
 fillsOver p [] f = f

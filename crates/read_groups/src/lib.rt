@@ -7,14 +7,13 @@ ghost use Rattle.format.specs.Plan.{groupWords, slots, storedAt};
 ghost use Rattle.format.specs.Laws.Limits.{Shape};
 ghost use Rattle.group_read.specs.Row.{dealtCount};
 ghost use Rattle.read_groups.specs.End.{Ended};
-ghost use Rattle.read_groups.specs.Groups.{brokenAt, startPass, Walked};
+ghost use Rattle.read_groups.specs.Groups.{brokenAt, Walked};
 use data_run::Pass;
-use data_run::fill::Fills;
 use data_run::on_row;
 use data_run::put_step;
+use data_run::start_pass;
 use format::Kind;
 use format::Plan;
-use log_write::Pen;
 use narrow;
 use notices::at_end;
 use notices::has_arinc;
@@ -38,21 +37,6 @@ pub struct Outcome {
     pub bytes: usize,
     pub notice: u64,
     pub misplaced: u64,
-}
-
-fn start_pass() -> Pass
-    ensures { λ r. ⌜ r ≡ startPass ⌝ }
-{
-    Pass {
-        held: data_word::nothing(),
-        since: 0,
-        pen: Pen::start(),
-        fills: Fills {
-            first: 0,
-            misplaced: 0,
-        },
-        bad: 0,
-    }
 }
 
 // Where the data word of this number stands in the capture: of its group, which has `count` of them, and there as it is dealt.

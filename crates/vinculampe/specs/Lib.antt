@@ -4,3 +4,4 @@ pub mod Calls
 pub mod Laws
 pub mod Scripts
 pub mod Promises
+pub mod SplitPromises

@@ -1,10 +1,10 @@
 -- No open notice: all is as it was before there was an answer 15.
-use Prim.Native.Nat.{ℕ, suc, _+_, _≤_}
+use Prim.Native.Nat.{ℕ, zero, suc, _+_, _≤_, _<_}
 use native.Mathlib.Omega.{arith}
 use mathlib.Core.Bool.{Bool, true, false, cond}
 use mathlib.Core.Path.{_≡_, refl}
 use mathlib.Core.List.{List, [], _∷_, flatMap}
-use lib.ListN.{length}
+use lib.ListN.{length, take, length-append}
 use lib.Dec.{eqb}
 use borrow.Author.Tests.{eq-eqb, eqb-true}
 use Rattle.format.specs.Item.{itemWords}
@@ -16,6 +16,8 @@ use Rattle.format.specs.Compose.{composeParsed, composeWords}
 use Rattle.format.specs.Read.{openIn, slotsFrom}
 use Rattle.format.specs.declared.Item.{Item}
 use Rattle.format.specs.declared.Plan.{Plan}
+use Rattle.format.specs.declared.Item.the-variants.{Command, Status, Data, BusError, Arinc, Notice, User, Overflow}
+use Rattle.format.specs.declared.Response.the-variants.{Untimed, After}
 
 -- every notice finds its word
 abbrev pub Answered : List Item → Type 0
@@ -54,3 +56,25 @@ first-within (i ∷ is) = go (isOpen i is) (first-within is)
     go : (t : Bool) → firstOpen is ≤ length is → cond t 0 (1 + firstOpen is) ≤ suc (length is)
     go true h = omega arith
     go false h = omega arith
+
+-- ---- an item has a word, so the words before one of the items are fewer than all
+
+some-words : (i : Item) → 1 ≤ length (itemWords i)
+unfolding itemWords
+some-words (Command b s tag w) = omega arith
+some-words (Status b s Untimed w) = omega arith
+some-words (Status b s (After r) w) = omega arith
+some-words (Data b s w) = omega arith
+some-words (BusError b s w) = omega arith
+some-words (Arinc b c tag w) = omega arith
+some-words (Notice b c diag) = omega arith
+some-words (User b three w) = omega arith
+some-words (Overflow b w) = omega arith
+
+pub words-before : (is : List Item) (k : ℕ) → k < length is → length (flatMap itemWords (take k is)) < length (flatMap itemWords is)
+unfolding flatMap
+words-before [] k l = absurd (omega arith)
+words-before (i ∷ is) zero l = rw (length-append (itemWords i) (flatMap itemWords is)) (omega (arith, some-words i))
+words-before (i ∷ is) (suc k) l =
+    rw (length-append (itemWords i) (flatMap itemWords is), length-append (itemWords i) (flatMap itemWords (take k is)))
+    (omega (arith, words-before is k (omega arith)))

@@ -2,7 +2,6 @@ use Rattle.notices.specs.Laws.Rows.{table-open}
 use mathlib.Core.Path.{_≡_, refl, ap, sym, _∙_}
 use Rattle.notices.specs.Laws.Rows.{no-arinc-open, no-notice-open, roles-low, roles-rise}
 use Rattle.notices.specs.Laws.Table.{notes-open}
-use mathlib.Core.Bool.{false}
 use borrow.Author.Needs.{needs}
 use Rattle.notices.proofs.first_open.Statement.{statement}
 use Rattle.notices.proofs.first_open.Tie as tie
@@ -34,13 +33,13 @@ least-of-requires c κs = search needs
 returns : tie.Need-returns
 returns c =
     let s = c .before .before .before .before .before .before .before .before .before .before in
-    c .least-of .ensures ∙ table-open (s .args .kinds) false (s .args .words .now) (s .pre .0) _ _ (c .before .before .before .over-row .ensures)
+    c .least-of .ensures ∙ table-open (s .args .kinds) (s .args .parity) (s .args .words .now) (s .pre .0) _ _ (c .before .before .before .over-row .ensures)
 
 returns-2 : tie.Need-returns-2
-returns-2 c = sym (no-notice-open (c .before .before .before .before .before .args .kinds) false 0 _ (sym (c .before .any-notice .ensures) ∙ c .if2 .left))
+returns-2 c = sym (no-notice-open (c .before .before .before .before .before .args .kinds) (c .before .before .before .before .before .args .parity) 0 _ (sym (c .before .any-notice .ensures) ∙ c .if2 .left))
 
 returns-3 : tie.Need-returns-3
-returns-3 c = sym (no-arinc-open (c .before .before .before .args .kinds) false (sym (c .before .has-arinc .ensures) ∙ c .if1 .left) _)
+returns-3 c = sym (no-arinc-open (c .before .before .before .args .kinds) (c .before .before .before .args .parity) (sym (c .before .has-arinc .ensures) ∙ c .if1 .left) _)
 
 pub first-open-spec : {M : Type 1} → statement M
 first-open-spec =

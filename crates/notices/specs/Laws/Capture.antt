@@ -16,10 +16,9 @@ use Rattle.format.specs.Reader.{Slot, counted, placesOf}
 use Rattle.format.specs.Read.{got, readGroups, slotsFrom, openIn}
 use Rattle.format.specs.Notices.{firstOpen, firstWordOf}
 use Rattle.format.specs.Laws.Lists.{map-append, length-list}
-use Rattle.format.specs.Laws.Reader.Named.{named, wordsIn, slots-counted}
-use Rattle.format.specs.Laws.Reader.Counted.{counted-append}
+use Rattle.format.specs.Laws.Reader.Named.{named, wordsIn}
 use Rattle.format.specs.Laws.Accepted.Faultless.{accepted-parts}
-use Rattle.format.specs.Laws.Accepted.Exact.{slots-low}
+use Rattle.format.specs.Laws.Accepted.Exact.{slots-low, slots-named}
 use Rattle.format.specs.Laws.Accepted.Together.{data-all}
 use Rattle.format.specs.declared.Kind.{Kind}
 use Rattle.format.specs.declared.Plan.{Plan}
@@ -69,38 +68,10 @@ open-named f ks parity (s ∷ ss) = go (roleIn ks (partOf parity (s .1))) (open-
     go (notice j) e = rw (lacked-named f ks parity ss j) (either (lacked r j) e)
     go (word j) e = e
 
--- ---- the data words of groups, by their numbers
-
-module _ (p : Plan) (c : List ℕ) where
-  abbrev slotAt : ℕ → ℕ → Slot
-  slotAt at s = (at + placeOf p s, wordAt c (at + placeOf p s))
-
-  pub group-count : (g : ℕ) → length (wordsIn (groupSlots p c (g * groupWords p))) ≡ slots p
-  unfolding groupSlots
-  group-count g =
-      length-map (list (slotAt (g * groupWords p)) (lead p) (slots p)) (λ (s : Slot). s .1) ∙ length-list (slotAt (g * groupWords p)) (lead p) (slots p)
-
-  pub from-counted : (n g : ℕ) → 1 ≤ slots p → slotsFrom p c n g ≡ map (named (storedAt p)) (counted (g * slots p) (wordsIn (slotsFrom p c n g)))
-  unfolding slotsFrom counted
-  from-counted zero g some = refl
-  from-counted (suc n) g some =
-      let a : List Slot = groupSlots p c (g * groupWords p) in
-      let b : List Slot = slotsFrom p c n (g + 1) in
-      let e : g * slots p + length (wordsIn a) ≡ (g + 1) * slots p = rw (group-count g) (omega arith) in
-      let w : wordsIn (a ++ b) ≡ wordsIn a ++ wordsIn b = map-append (λ (s : Slot). s .1) a b in
-      rw (
-        w,
-        counted-append (g * slots p) (wordsIn a) (wordsIn b),
-        e,
-        map-append (named (storedAt p)) (counted (g * slots p) (wordsIn a)) (counted ((g + 1) * slots p) (wordsIn b)),
-        ← (slots-counted p c some g),
-        ← (from-counted n (g + 1)),
-      )
-
 -- ---- a capture that reads as items
 
 -- the place of the definition
-up-fault : (place : ℕ → ℕ) (k n : ℕ) → unless (eqb k n) 15 (place k) ≡ told15 (upTo place k n)
+pub up-fault : (place : ℕ → ℕ) (k n : ℕ) → unless (eqb k n) 15 (place k) ≡ told15 (upTo place k n)
 up-fault place k n = go (eqb k n)
   where
     u : (m : ℕ) → told15 (m + 1) ≡ found 15 m
@@ -119,7 +90,7 @@ pub open-in : (p : Plan) (ks : List Kind) (c : List ℕ) (n : ℕ) (is : List It
 open-in p ks c n is some bytes e =
     let a = accepted-parts p ks c n is e (data-all _ (slots-low p c bytes n 0)) in
     let z : 0 * slots p ≡ 0 = omega arith in
-    let m : map (named (storedAt p)) (counted 0 (wordsIn (slotsFrom p c n 0))) ≡ slotsFrom p c n 0 = sym (rw z at (from-counted p c n 0 some)) in
+    let m : map (named (storedAt p)) (counted 0 (wordsIn (slotsFrom p c n 0))) ≡ slotsFrom p c n 0 = sym (rw z at (slots-named p c n 0 some)) in
     ap told15 (sym (open-named (storedAt p) ks (p .parity) (counted 0 (wordsIn (slotsFrom p c n 0)))) ∙ ap (λ (ss : List Slot). openRow (rolesIn ks (p .parity) ss)) m
     ∙ slots-open ks (p .parity) (slotsFrom p c n 0) is (a .1) (a .0))
     ∙ sym (up-fault (firstWordOf (placesOf (slotsFrom p c n 0)) is) (firstOpen is) (length is))

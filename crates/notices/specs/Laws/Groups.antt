@@ -20,7 +20,7 @@ use Rattle.format.specs.declared.Plan.{Plan}
 use Rattle.notices.specs.Roles.{Role, neither, notice, word, lacked, openRow, roleIn, rolesIn}
 use Rattle.notices.specs.Table.{Notes, noNotes, noted, notesOf, earliestOf, RowNoted}
 use Rattle.notices.specs.Laws.Rows.{all-words, open-most, table-open}
-use Rattle.notices.specs.Laws.Capture.{group-count}
+use Rattle.format.specs.Laws.Accepted.Tidy.{slots-length}
 
 -- the number of the earliest open notice among the data words of n groups, one up; 0 for none
 abbrev pub openNumber : List Kind → Plan → List ℕ → ℕ → ℕ
@@ -54,7 +54,7 @@ module _ (ks : List Kind) (p : Plan) (c : List ℕ) (n : ℕ) where
       let x : List Slot = groupSlots p c (g * groupWords p) in
       let y : List Slot = slotsFrom p c (n - (g + 1)) (g + 1) in
       let m : slotsFrom p c (n - g) g ≡ x ++ y = rw k in
-      let d : g * slots p + length (wordsIn x) ≡ (g + 1) * slots p = omega (arith, group-count p c g) in
+      let d : g * slots p + length (wordsIn x) ≡ (g + 1) * slots p = omega (arith, slots-length p c (g * groupWords p)) in
       let f : counted (g * slots p) (wordsIn (slotsFrom p c (n - g) g)) ≡ counted (g * slots p) (wordsIn x) ++ counted ((g + 1) * slots p) (wordsIn y) =
       ap (λ (ss : List Slot). counted (g * slots p) (wordsIn ss)) m ∙ ap (counted (g * slots p)) (map-append (λ (s : Slot). s .1) x y) ∙ counted-append (g * slots p) (wordsIn x) (wordsIn y)
       ∙ ap (λ (j : ℕ). counted (g * slots p) (wordsIn x) ++ counted j (wordsIn y)) d in

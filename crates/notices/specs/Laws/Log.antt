@@ -4,7 +4,7 @@ use native.Mathlib.Omega.{arith}
 use mathlib.Core.Bool.{Bool, true, false, cond}
 use mathlib.Core.Path.{_≡_, refl, ap, sym, _∙_}
 use mathlib.Core.List.{List, [], _∷_, map, flatMap}
-use lib.ListN.{length, take, getD, length-append}
+use lib.ListN.{length, take, getD}
 use lib.Dec.{eqb}
 use borrow.Author.Tests.{eqb-true, eqb-false}
 use Rattle.format.specs.Word.{partOf, isFill, sent}
@@ -14,13 +14,11 @@ use Rattle.format.specs.Lawful.{Sound}
 use Rattle.format.specs.Reader.{dataOf, placesOf, counted}
 use Rattle.format.specs.Notices.{firstOpen, firstWordOf}
 use Rattle.format.specs.Laws.Lists.{all-map}
-use Rattle.format.specs.Laws.Notices.{Answered, first-within}
+use Rattle.format.specs.Laws.Notices.{Answered, first-within, words-before}
 use Rattle.format.specs.Laws.Reader.Words.{words-said}
 use Rattle.format.specs.Laws.Composed.Read.{words-data}
 use Rattle.format.specs.declared.Kind.{Kind}
-use Rattle.format.specs.declared.Response.the-variants.{Untimed, After}
 use Rattle.format.specs.declared.Item.{Item}
-use Rattle.format.specs.declared.Item.the-variants.{Command, Status, Data, BusError, Arinc, Notice, User, Overflow}
 use Rattle.notices.specs.Roles.{openRow, rolesIn}
 use Rattle.notices.specs.Laws.Items.{upTo}
 use Rattle.notices.specs.Laws.Words.{slots-open}
@@ -45,26 +43,6 @@ unfolding counted placesOf
 counted-place a [] nil k l = absurd (omega arith)
 counted-place a (w ∷ ws) (cons h t) zero l = rw h (omega arith)
 counted-place a (w ∷ ws) (cons h t) (suc k) l = rw h (counted-place (a + 1) ws t k (omega arith) ∙ omega arith)
-
-some-words : (i : Item) → 1 ≤ length (itemWords i)
-unfolding itemWords
-some-words (Command b s tag w) = omega arith
-some-words (Status b s Untimed w) = omega arith
-some-words (Status b s (After r) w) = omega arith
-some-words (Data b s w) = omega arith
-some-words (BusError b s w) = omega arith
-some-words (Arinc b c tag w) = omega arith
-some-words (Notice b c diag) = omega arith
-some-words (User b three w) = omega arith
-some-words (Overflow b w) = omega arith
-
-words-before : (is : List Item) (k : ℕ) → k < length is → length (flatMap itemWords (take k is)) < length (flatMap itemWords is)
-unfolding flatMap
-words-before [] k l = absurd (omega arith)
-words-before (i ∷ is) zero l = rw (length-append (itemWords i) (flatMap itemWords is)) (omega (arith, some-words i))
-words-before (i ∷ is) (suc k) l =
-    rw (length-append (itemWords i) (flatMap itemWords is), length-append (itemWords i) (flatMap itemWords (take k is)))
-    (omega (arith, words-before is k (omega arith)))
 
 -- ---- the earliest open notice of a log, by the number of its word, one up
 

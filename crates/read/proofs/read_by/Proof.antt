@@ -10,9 +10,10 @@ use Rattle.format.specs.Answer.{Given}
 use Rattle.format.specs.Read.{roomed}
 use Rattle.format.specs.declared.Plan.{Plan}
 use Rattle.read_groups.specs.End.{Logged, Ended}
-use Rattle.read.proofs.Given.{given-refused, some-words, whole-groups, built-of, stops-settled, open-settled, open-few, fill-settled, fill-few, log-settled}
+use Rattle.read.proofs.Given.{some-words, built-of, stops-settled, open-settled, open-few, fill-settled, fill-few, log-settled}
 use Rattle.read.proofs.read_by.Statement.{statement}
 use Rattle.read.proofs.read_by.Tie as tie
+use Rattle.capture_parts.proofs.Given.{given-refused, whole-groups}
 
 -- ---- the places
 

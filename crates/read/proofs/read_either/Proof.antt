@@ -11,9 +11,10 @@ use Rattle.format.specs.Read.{reading, readGroups, settled}
 use Rattle.format.specs.declared.Held.the-variants.{Nothing}
 use Rattle.format.specs.Laws.Limits.{Shape}
 use Rattle.read.proofs.Short.{small-enough, room-enough}
-use Rattle.read.proofs.Given.{given-refused, shape-of, illegal-refused, long-refused, ragged-refused, read-on}
+use Rattle.read.proofs.Given.{shape-of, illegal-refused, long-refused, ragged-refused, read-on}
 use Rattle.read.proofs.read_either.Statement.{statement}
 use Rattle.read.proofs.read_either.Tie as tie
+use Rattle.capture_parts.proofs.Given.{given-refused}
 
 -- ---- the places
 

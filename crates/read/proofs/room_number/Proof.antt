@@ -1,13 +1,9 @@
-use Rattle.read.specs.Room.{earlier}
 use mathlib.Core.Path.{ap₂, _∙_}
 use Rattle.read.specs.Room.{roomNumber}
 use borrow.Author.Needs.{needs}
 use Rattle.read.proofs.room_number.Statement.{statement}
 use Rattle.read.proofs.room_number.Tie as tie
-use Rattle.read.proofs.room_number.Reads as reads
-use Rattle.read.proofs.room_number.Lts as lts
-use Rattle.read.proofs.earlier.Reads as earlier-reads
-use Rattle.read.proofs.short_of.Reads as short-of-reads
+use Rattle.capture_parts.specs.Room.{earlier}
 
 short-of-requires : tie.Need-short-of-requires
 short-of-requires c κs = search needs

@@ -18,10 +18,10 @@ use Rattle.read_groups.specs.Groups.{Over}
 use Rattle.notices.specs.Laws.Groups.{openNumber, NotedTo, noted-none, noted-more, noted-all}
 use Rattle.notices.specs.Table.{earliestOf}
 use Rattle.notices.specs.Laws.Rows.{no-arinc-open}
-use Rattle.read_groups.proofs.Groups.{over-none, over-fault, over-bad, walked-bad, over-more, over-all, told-low, numbers-few, dealt-all, group-room}
-use Rattle.read_groups.proofs.Groups.{part-length, dealt-none, dealt-found, dealt-low, dealt-words}
+use Rattle.read_groups.proofs.Groups.{over-none, over-fault, over-bad, walked-bad, over-more, over-all, told-low}
 use Rattle.read_groups.proofs.over_groups.Statement.{statement}
 use Rattle.read_groups.proofs.over_groups.Tie as tie
+use Rattle.capture_parts.proofs.Part.{dealt-all, numbers-few, group-room, part-length, dealt-none, dealt-found, dealt-low, dealt-words}
 
 abbrev Inv-loop : tie.InvT-loop
 Inv-loop kinds plan count capture groups row₀ out₀ size first behind start arinc table₀ found₀ pass₀ g₀ from₀ row out table found pass g from =

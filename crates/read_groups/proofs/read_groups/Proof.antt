@@ -13,10 +13,11 @@ use Rattle.data_word.specs.Meaning.{Closes}
 use Rattle.data_word.proofs.Meaning.{finish-means}
 use Rattle.data_run.specs.declared.Pass.{Pass}
 use Rattle.read_groups.specs.Groups.{Through}
-use Rattle.read_groups.proofs.Groups.{numbers-few}
-use Rattle.read_groups.proofs.End.{ends-stopped, ends-cut, closing-fits, end-bits, ends-log}
+use Rattle.data_run.proofs.Closing.{closing-fits, closed-bits}
+use Rattle.read_groups.proofs.End.{ends-stopped, ends-cut, ends-log}
 use Rattle.read_groups.proofs.read_groups.Statement.{statement}
 use Rattle.read_groups.proofs.read_groups.Tie as tie
+use Rattle.capture_parts.proofs.Part.{numbers-few}
 
 -- ---- the places
 
@@ -115,7 +116,7 @@ close-requires c κs =
     let p = c .before .before .before in
     let f = finished p in
     let a = all f in
-    let b = end-bits _ _ _ _ _ _ _ (through a) (f .finish .result) (closes f) (good p .if2 .left) in
+    let b = closed-bits _ _ _ _ _ (through a .brought) (since f) (f .finish .result) (closes f) (good p .if2 .left) in
     rw (p .put-step .ensures .0) (omega (arith, b, through a .few, few a))
 
 same-length-3 : tie.Need-same-length-3

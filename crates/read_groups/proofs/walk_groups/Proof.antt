@@ -4,9 +4,9 @@ use borrow.Author.Needs.{needs}
 use lib.ListN.{length}
 use Rattle.format.specs.Laws.Limits.{dealt-most}
 use Rattle.group_read.specs.Row.{dealtCount}
-use Rattle.read_groups.proofs.Groups.{row-room}
 use Rattle.read_groups.proofs.walk_groups.Statement.{statement}
 use Rattle.read_groups.proofs.walk_groups.Tie as tie
+use Rattle.capture_parts.proofs.Part.{row-room}
 
 -- a group's row is no longer than a third of the capture
 in-row : (s : tie.Start) → 0 < s .args .groups → 3 * dealtCount (s .args .plan) ≤ length (s .args .capture .now)

@@ -1,0 +1,14 @@
+use mathlib.Core.Path.{refl}
+use borrow.Author.Tests.{le-leb, lt-leb}
+use borrow.Author.Needs.{needs}
+use Rattle.capture_parts.proofs.short_of.Statement.{statement}
+use Rattle.capture_parts.proofs.short_of.Tie as tie
+
+returns : tie.Need-returns
+returns c = rw (le-leb _ _ (c .if1 .taken)) refl
+
+returns-2 : tie.Need-returns-2
+returns-2 c = rw (lt-leb _ _ (c .if1 .left)) refl
+
+pub short-of-spec : {M : Type 1} → statement M
+short-of-spec = tie.close (tie.spec returns returns-2)

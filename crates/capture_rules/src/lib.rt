@@ -1,0 +1,1 @@
+// The rules of what else is done with captures: definitions and laws, no code.

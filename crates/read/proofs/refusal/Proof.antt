@@ -1,9 +1,0 @@
-use mathlib.Core.Path.{refl}
-use Rattle.read.proofs.refusal.Statement.{statement}
-use Rattle.read.proofs.refusal.Tie as tie
-
-returns : tie.Need-returns
-returns c = refl
-
-pub refusal-spec : {M : Type 1} → statement M
-refusal-spec = tie.close (tie.spec returns)

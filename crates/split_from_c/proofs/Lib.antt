@@ -1,0 +1,3 @@
+-- The laws of the two operations from C.
+pub mod Rooms
+pub mod NamedKinds

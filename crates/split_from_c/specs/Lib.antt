@@ -1,0 +1,2 @@
+-- What both operations from C answer, from numbers and byte runs.
+pub mod Splitting

@@ -1,0 +1,3 @@
+-- What the contracts cite beside the definitions of `format` and `capture_rules`.
+pub mod Numbers
+pub mod Items

@@ -1,0 +1,3 @@
+-- The laws of the words that a capture hands out.
+pub mod Groups
+pub mod Given
