@@ -95,6 +95,37 @@ static void mark_cut(const walk *w, const vin_plan *plan, mark *marks)
     set_fault(&marks[w->first.place], VIN_DATA_WORD, "%s", why);
 }
 
+/* ==== Notices: 15 ==== */
+
+enum { CHANNELS = 4 };
+
+/* A notice is open if its bus and channel have another, or the end, before an ARINC word. */
+static void mark_notices(const vin_plan *plan, const run *capture, mark *marks)
+{
+    mark *waiting[BUSES][CHANNELS + 1] = {{NULL}};
+    char why[BUSES][WHY_MOST];
+    uint64_t groups = capture_words(capture) / group_words(plan);
+    for (unsigned bus = 0; bus < BUSES; bus++)
+        tell_open(bus, why[bus]);
+    for (uint64_t group = 0; group < groups; group++)
+        for (uint64_t n = plan->tracks; n < group_words(plan); n++) {
+            stored s = stored_at(plan, capture, dealt_place(plan, group, n));
+            mark *m = &marks[s.place];
+            bool notice = s.label == LABEL_4;
+            mark **of_channel;
+            if (!m->starts || plan->kinds[s.bus] != VIN_KIND_ARINC || (!notice && s.label < 8))
+                continue;
+            of_channel = &waiting[s.bus][channel_of(notice ? s.info >> 12 : s.label)];
+            if (notice && *of_channel)
+                set_fault(*of_channel, VIN_NOTICE, "%s", why[s.bus]);
+            *of_channel = notice ? m : NULL;
+        }
+    for (unsigned bus = 0; bus < BUSES; bus++)
+        for (unsigned channel = 0; channel <= CHANNELS; channel++)
+            if (waiting[bus][channel])
+                set_fault(waiting[bus][channel], VIN_NOTICE, "%s", why[bus]);
+}
+
 /* ==== Fill: 14 ==== */
 
 /* Back from the last slot, so that it is known what follows. */
@@ -152,6 +183,8 @@ mark *mark_words(const vin_plan *plan, const run *capture)
     }
     if (marks)
         mark_cut(&w, plan, marks);
+    if (marks && !any_fault(marks, count))
+        mark_notices(plan, capture, marks);
     if (marks && !any_fault(marks, count))
         mark_fill(plan, capture, marks);
     return marks;

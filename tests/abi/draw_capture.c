@@ -175,8 +175,8 @@ static void loose_words(loose *l, const plan *p, const item *i, uint32_t fills, 
     }
 }
 
-/* With `answered` a notice has its word right behind it (K2). */
-static void loose_item(loose *l, const plan *p, uint32_t fills, uint32_t faults, bool answered)
+/* A notice has its word right behind it (K2), but for one in `open` of them. */
+static void loose_item(loose *l, const plan *p, uint32_t fills, uint32_t faults, uint32_t open)
 {
     static const uint32_t kinds[2][8] = {{COMMAND, COMMAND, STATUS, STATUS, DATA, BUS_ERROR, USER, OVERFLOW_MARK},
                                          {ARINC_WORD, ARINC_WORD, ARINC_WORD, ARINC_WORD, NOTICE, NOTICE, USER, OVERFLOW_MARK}};
@@ -198,7 +198,7 @@ static void loose_item(loose *l, const plan *p, uint32_t fills, uint32_t faults,
         i.time.micro = i.response = 10000;
     l->count = l->taken = 0;
     loose_words(l, p, &i, fills, faults);
-    if (kind == NOTICE && answered) {
+    if (kind == NOTICE && (open == 0 || !one_in(open))) {
         i.kind = ARINC_WORD;
         i.word = draw(65536) << 16;
         loose_words(l, p, &i, fills, faults);
@@ -217,12 +217,15 @@ static uint32_t draw_groups(const plan *p)
 
 void draw_loose_capture(drawn *d)
 {
-    static const uint32_t rare[] = {0, 0, 3, 30, 300}, faulty[] = {0, 0, 0, 50, 500, 5000};
+    static const uint32_t rare[] = {0, 0, 3, 30, 300}, faulty[] = {0, 0, 0, 50, 500, 5000}, opens[] = {0, 1, 4, 40};
     plan p = rules_plan(d);
     loose l = {{0}, 0, 0};
     uint32_t groups = draw_groups(&p), fills = rare[draw(5)], faults = faulty[draw(6)];
-    bool answered = one_in(2);
+    uint32_t open = opens[draw(4)];
+    bool whole = !one_in(3); /* the last item is not cut */
     uint64_t data = one_in(2) ? UINT64_MAX : draw((uint32_t)(groups * group_slots(&p)) + 2); /* slots before the last fill */
+    if (data > groups * group_slots(&p))
+        data = groups * group_slots(&p);
     d->capture_len = 0;
     for (uint32_t group = 0; group < groups; group++) {
         size_t at = d->capture_len;
@@ -231,7 +234,9 @@ void draw_loose_capture(drawn *d)
             break;
         for (uint64_t slot = 0; slot < group_slots(&p) && data > 0; slot++, data--) {
             if (l.taken == l.count)
-                loose_item(&l, &p, fills, faults, answered);
+                loose_item(&l, &p, fills, faults, open);
+            if (whole && l.taken == 0 && l.count > data)
+                break;
             store(d->capture + at, dealt_place(&p, 0, furniture(&p) + slot), l.queue[l.taken++]);
         }
     }

@@ -93,6 +93,15 @@ says 0 "$head_line
       6      0     1    7  0x000012 200000    2     0    0  overflow          4
       7      0     1    8  0x000015 D90000    5     9    0  high syllable 1   5  !13 high syllable of channel 1 on bus 5: the capture ends before its low one
       8      0     1    9  0x000018 01AAAA    0     1 AAAA  fill" dump p bad --count 9
+# Open notices, all of them, in a capture that is right else: one before the channel's next, one at the end; a word between answers.
+plan "words 129" "tracks 1" "bus 5 arinc"
+open=54980154980259000158000254980354BA0454BA05
+bytes "FAF320$open${fill:${#open}}" >bad
+says 0 "$head_line
+      1      0     1    2  0x000003 549801    5     4 9801  error notice      1  !15 error notice on bus 5 without its ARINC word: the channel's next notice, or the end, comes first
+      5      0     1    6  0x00000F 549803    5     4 9803  error notice      4  !15 error notice on bus 5 without its ARINC word: the channel's next notice, or the end, comes first
+      6      0     1    7  0x000012 54BA04    5     4 BA04  error notice      5  !15 error notice on bus 5 without its ARINC word: the channel's next notice, or the end, comes first
+      7      0     1    8  0x000015 54BA05    5     4 BA05  error notice      6  !15 error notice on bus 5 without its ARINC word: the channel's next notice, or the end, comes first" dump p bad --faults
 misuse "vin: dump: --bus 16: a bus is 0 to 15" dump p bad --bus 16
 misuse "vin: dump: --group 1: the capture has 1 groups, counted from 0" dump p bad --group 1
 misuse "vin: dump: --from 129: the capture has 129 words, counted from 0" dump p bad --from 129

@@ -164,8 +164,8 @@ const command dump_command = {
     .more =
         "\nA line a word: its place, where that is, its byte offset, bus, label and information, what it\n"
         "is, the item it belongs to (1, then 1+ for its further words), the time it ends, and behind !\n"
-        "the number of a refusal and why. All faults are marked, not only the first; misplaced fill, 14,\n"
-        "which check refuses, only where there is no other.\n",
+        "the number of a refusal and why. All faults are marked, not only the first; open notices, 15, only\n"
+        "where there is no other, and misplaced fill, 14, which check refuses, only where there is none.\n",
     .least = 2,
     .most = 2,
     .output = PRINTS,
