@@ -12,10 +12,11 @@ static plan rules_plan(const drawn *d)
     return p;
 }
 
-static uint32_t draw_bus(const plan *p)
+/* A used bus; with `strays` now and then another. */
+static uint32_t draw_bus(const plan *p, bool strays)
 {
     uint32_t bus = draw(16);
-    for (uint32_t n = 0; n < 16 && !one_in(20); n++, bus = (bus + 1) % 16)
+    for (uint32_t n = 0; n < 16 && !(strays && one_in(20)); n++, bus = (bus + 1) % 16)
         if (p->kinds[bus] != UNUSED)
             break;
     return p->parity ? bus % 8 : bus;
@@ -40,7 +41,7 @@ static uint32_t draw_fill(const plan *p)
 static uint32_t draw_word(const plan *p)
 {
     word w;
-    w.bus = draw_bus(p);
+    w.bus = draw_bus(p, true);
     w.label = draw(16);
     w.information = draw_information();
     return one_in(5) ? draw_fill(p) : sent(p, w);
@@ -98,7 +99,7 @@ static void fill_group(drawn *d, const plan *p, bool front)
  * remainder is AAAA; then words may be wrong, but none because of it. */
 static void crc_as_fill(drawn *d, const plan *p)
 {
-    uint32_t frame = draw((uint32_t)(d->capture_len / (3 * (size_t)p->length))), bus = draw_bus(p);
+    uint32_t frame = draw((uint32_t)(d->capture_len / (3 * (size_t)p->length))), bus = draw_bus(p, true);
     uint8_t *bytes = d->capture + 3 * (size_t)frame * p->length;
     word as_fill = {0, LABEL_FILL, FILL_INFORMATION};
     plan two = *p; /* the remainder over the last word but one, and over all before it: by a frame of two words, as sums of both */
@@ -180,7 +181,7 @@ static void loose_item(loose *l, const plan *p, uint32_t fills, uint32_t faults,
 {
     static const uint32_t kinds[2][8] = {{COMMAND, COMMAND, STATUS, STATUS, DATA, BUS_ERROR, USER, OVERFLOW_MARK},
                                          {ARINC_WORD, ARINC_WORD, ARINC_WORD, ARINC_WORD, NOTICE, NOTICE, USER, OVERFLOW_MARK}};
-    uint32_t bus = draw_bus(p), flag = draw(2);
+    uint32_t bus = draw_bus(p, faults > 0), flag = draw(2);
     uint32_t kind = kinds[p->kinds[bus] == BUS_ARINC][draw(8)];
     item i = {.kind = kind, .bus = bus, .label3 = flag};
     i.b = draw(2);
