@@ -222,7 +222,7 @@ static void marks_agree(const vin_plan *plan, const run *capture, vin_answer pla
         faults += marks[n].fault != 0;
         items += marks[n].starts;
     }
-    if (plain.number >= VIN_SYNC && plain.number <= VIN_DATA_WORD)
+    if ((plain.number >= VIN_SYNC && plain.number <= VIN_DATA_WORD) || plain.number == VIN_NOTICE)
         must(marks[plain.place].fault == plain.number && marks[plain.place].why);
     else if (closed.number == VIN_FILL)
         must(marks[closed.place].fault == VIN_FILL && marks[closed.place].why);
