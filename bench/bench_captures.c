@@ -3,31 +3,25 @@
  *     bench_captures [SAMPLES [ROWS]]     as bench.c
  *
  * A word is a stored word of the capture. Before a row is timed, both must give what the independent implementation gives. */
-#define _POSIX_C_SOURCE 200809L
 #include <stdio.h>
 #include <stdlib.h>
 #include <string.h>
-#include <time.h>
 
-#include "../independent/independent.h"
 #include "fast.h"
+#include "table.h"
 #include "traffic.h"
 
-#define SAMPLE_NS 1000000.0
-
 static traffic t;
-static uint8_t capture[VIN_CAPTURE_MAX], log_out[VIN_LOG_MAX], log_expected[VIN_LOG_MAX];
+static uint8_t capture[VIN_CAPTURE_MAX], tape[VIN_CAPTURE_MAX], log_out[VIN_LOG_MAX], log_expected[VIN_LOG_MAX];
 static uint8_t times_out[VIN_READ_GROUPS_MAX * 8], times_expected[VIN_READ_GROUPS_MAX * 8];
 static uint32_t words_in[VIN_WORDS_MAX], words_out[VIN_WORDS_MAX];
-static size_t capture_len, words_len;
-static int samples = 9;
+static uint64_t report_out[VIN_WORDS_MAX], report_expected[VIN_WORDS_MAX];
+static size_t capture_len, words_len, tape_len; /* the tape is what is salvaged */
 
 #define FULL t.words, t.tracks, t.frame_time, t.crc, t.parity, VIN_CRC_LABEL, VIN_FILL_BUS, t.kinds, 16
 #define TIMES_OUT times_out, sizeof times_out
 
 /* ==== The functions: a call by the library or by fast C, and whether it gives what is expected ==== */
-
-enum who { LIBRARY, FAST };
 
 static vin_answer call_words(enum who who)
 {
@@ -54,14 +48,68 @@ static int items_agree(enum who who)
     return a.number == 0 && a.bytes == t.log_len && memcmp(log_out, t.log, t.log_len) == 0;
 }
 
-static const struct {
-    const char *name;
-    vin_answer (*call)(enum who);
-    int (*agree)(enum who);
-} functions[] = {{"read_words", call_words, words_agree}, {"read_items", call_items, items_agree}};
-enum { FUNCTIONS = sizeof functions / sizeof *functions };
+/* Times and entries stand in the answer as one. */
+static vin_answer call_salvage(enum who who)
+{
+    vin_salvaged a = (who == FAST ? fast_salvage : vin_salvage)(FULL, tape, tape_len, log_out, sizeof log_out, TIMES_OUT, report_out,
+                                                                VIN_WORDS_MAX);
+    return (vin_answer){a.number, a.place, a.second, a.bytes, a.times << 32 | a.entries};
+}
 
-/* The row's capture and its words, by the independent implementation. */
+static int salvage_agrees(enum who who)
+{
+    ind_salvaged e = ind_salvage(FULL, tape, tape_len, log_expected, sizeof log_expected, times_expected, sizeof times_expected,
+                                 report_expected, VIN_WORDS_MAX);
+    vin_answer a;
+    memset(report_out, 0xFF, sizeof report_out);
+    a = call_salvage(who);
+    return e.number == 0 && a.number == 0 && a.bytes == e.bytes && a.times == (e.times << 32 | e.entries)
+           && memcmp(log_out, log_expected, e.bytes) == 0 && memcmp(times_out, times_expected, 8 * e.times) == 0
+           && memcmp(report_out, report_expected, 8 * e.entries) == 0;
+}
+
+enum { WORDS, ITEMS, SALVAGE, FUNCTIONS };
+static const column columns[FUNCTIONS] = {{"read_words", call_words}, {"read_items", call_items}, {"salvage", call_salvage}};
+static int (*const agrees[FUNCTIONS])(enum who) = {words_agree, items_agree, salvage_agrees};
+
+/* ==== The rows ==== */
+
+/* Damage to a group of the tape: a bit of its first sync word, so that it is dropped; or of the first word of data, without parity and CRC a
+ * word that is dropped or another item, with them a group that is. */
+static void damage(uint8_t *group, int sync)
+{
+    size_t data = 3 * (size_t)(t.frame_time ? 4 : 1);
+    group[sync ? 2 : data] ^= 0x10;
+}
+
+/* The capture as a damaged tape: of each eight groups one without its sync word, and one with a bit wrong in a data word. */
+static void make_tape(void)
+{
+    size_t group = VIN_GROUP_BYTES(t.words, t.tracks);
+    memcpy(tape, capture, capture_len);
+    tape_len = capture_len;
+    for (size_t n = 0; n < tape_len / group; n++)
+        if (n % 8 == 0 || n % 8 == 3)
+            damage(tape + n * group, n % 8 == 3);
+}
+
+/* The capture's groups over 1,048,576 bytes of tape, fill between, damaged in the same way. */
+static void make_long_tape(void)
+{
+    size_t group = VIN_GROUP_BYTES(t.words, t.tracks), groups = capture_len / group, all = sizeof tape / group, next = 0;
+    tape_len = 0;
+    for (size_t n = 0; n < all; n++) {
+        if (next < groups && n * groups >= next * all)
+            memcpy(tape + tape_len, capture + group * next++, group);
+        else
+            traffic_fill(&t, tape + tape_len);
+        if (n % 8 == 0 || n % 8 == 3)
+            damage(tape + tape_len, n % 8 == 3);
+        tape_len += group;
+    }
+}
+
+/* The row's capture and its words, by the independent implementation; and the tape. */
 static void make_row(void)
 {
     ind_answer a = ind_compose_full(FULL, t.log, t.log_len, t.times, t.times_len, capture, sizeof capture);
@@ -71,81 +119,36 @@ static void make_row(void)
         printf("%s: the row itself is refused\n", t.name);
         exit(1);
     }
+    make_tape();
 }
 
-/* ==== Timing ==== */
-
-static double now(void)
+static void figure(int f, size_t bytes)
 {
-    struct timespec s;
-    clock_gettime(CLOCK_THREAD_CPUTIME_ID, &s);
-    return 1e9 * (double)s.tv_sec + (double)s.tv_nsec;
-}
-
-static double sample(int f, enum who who, long calls)
-{
-    double began = now();
-    for (long n = 0; n < calls; n++)
-        functions[f].call(who);
-    return (now() - began) / (double)calls;
-}
-
-static struct {
-    double worst, worst_fast, sum;
-    int rows;
-} summary[FUNCTIONS];
-
-/* Nanoseconds a word, the best of the samples, taken in turns. */
-static void row(int f)
-{
-    double best[2] = {1e30, 1e30}, ratio;
-    long calls = 1;
     for (enum who who = LIBRARY; who <= FAST; who++)
-        if (!functions[f].agree(who)) {
-            printf("%s: %s disagrees with the independent implementation on %s\n", t.name, who == FAST ? "bench/fast" : "the library",
-                   functions[f].name);
-            exit(1);
-        }
-    while (sample(f, FAST, calls) * (double)calls < SAMPLE_NS)
-        calls *= 2;
-    for (int n = 0; n < samples; n++)
-        for (enum who who = LIBRARY; who <= FAST; who++) {
-            double ns = sample(f, who, calls) / ((double)capture_len / 3);
-            best[who] = ns < best[who] ? ns : best[who];
-        }
-    ratio = best[LIBRARY] / best[FAST];
-    printf(" | %7.2f %7.2f %6.2f", best[LIBRARY], best[FAST], ratio);
-    fflush(stdout);
-    summary[f].worst = ratio > summary[f].worst ? ratio : summary[f].worst;
-    summary[f].worst_fast = best[FAST] > summary[f].worst_fast ? best[FAST] : summary[f].worst_fast;
-    summary[f].sum += best[FAST];
-    summary[f].rows++;
+        must_agree(agrees[f](who), t.name, who, columns[f].name);
+    line_figure(f, (double)bytes / 3);
 }
 
 int main(int argc, char **argv)
 {
-    const char *rows = argc > 2 ? argv[2] : "";
-    if (argc > 1)
-        samples = atoi(argv[1]);
-    printf("%-52s %7s", "nanoseconds a word, and the ratio", "words");
-    for (int f = 0; f < FUNCTIONS; f++)
-        printf(" | %-22s", functions[f].name);
-    printf("\n%-52s %7s", "traffic, plan, size", "");
-    for (int f = 0; f < FUNCTIONS; f++)
-        printf(" | %7s %7s %6s", "library", "fast C", "ratio");
-    printf("\n");
+    table_begin(argc, argv, "a word", "words", "traffic, plan, size", columns, FUNCTIONS);
     for (int n = 0; traffic_row(&t, n); n++) {
-        if (strstr(t.name, rows) == NULL)
+        if (!is_wanted(t.name))
             continue;
         make_row();
-        printf("%-52s %7zu", t.name, capture_len / 3);
+        line_begin(t.name, capture_len / 3);
         for (int f = 0; f < FUNCTIONS; f++)
-            row(f);
-        printf("\n");
+            figure(f, capture_len);
+        line_end();
+        if (!t.then_largest)
+            continue;
+        make_long_tape();
+        line_begin("  the same over a damaged tape of 1,048,576 bytes", tape_len / 3);
+        line_blank();
+        line_blank();
+        figure(SALVAGE, tape_len);
+        line_end();
     }
-    for (int f = 0; f < FUNCTIONS; f++)
-        if (summary[f].rows > 0)
-            printf("%-12s worst ratio %5.2f; fast C: mean %5.2f ns a word, slowest row %5.2f\n", functions[f].name, summary[f].worst,
-                   summary[f].sum / summary[f].rows, summary[f].worst_fast);
+    table_end();
     return 0;
 }

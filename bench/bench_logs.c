@@ -3,35 +3,21 @@
  *     bench_logs [SAMPLES [ROWS]]     as bench.c
  *
  * A figure is nanoseconds an item of the logs lent. Before a row is timed, both must give what the independent implementation gives. A
- * function is its calls and a line in `functions`. */
-#define _POSIX_C_SOURCE 200809L
-#include <stdio.h>
-#include <stdlib.h>
+ * function is its calls, its column and what logs it takes. */
 #include <string.h>
-#include <time.h>
 
-#include "../independent/independent.h"
 #include "fast.h"
+#include "table.h"
 #include "traffic.h"
-
-#define SAMPLE_NS 1000000.0
 
 static traffic t;
 static uint8_t out[VIN_LOG_MAX], expected[VIN_LOG_MAX];
-static int samples = 9;
-
-enum who { LIBRARY, FAST, INDEPENDENT };
-
-static vin_answer as_vin(ind_answer a)
-{
-    vin_answer v = {a.number, a.place, a.second, a.bytes, a.times};
-    return v;
-}
+static uint8_t *to = out;
 
 /* ==== The calls ==== */
 
 /* Every other bus. */
-static vin_answer call_pick(enum who who, uint8_t *to)
+static vin_answer call_pick(enum who who)
 {
     if (who == INDEPENDENT)
         return as_vin(ind_pick(t.log, t.log_len, 0x5555, to, VIN_LOG_MAX));
@@ -39,7 +25,7 @@ static vin_answer call_pick(enum who who, uint8_t *to)
 }
 
 /* The log with itself; a full log would be above the limit. */
-static vin_answer call_join(enum who who, uint8_t *to)
+static vin_answer call_join(enum who who)
 {
     if (who == INDEPENDENT)
         return as_vin(ind_join(t.log, t.log_len, t.log, t.log_len, to, VIN_LOG_MAX));
@@ -47,7 +33,7 @@ static vin_answer call_join(enum who who, uint8_t *to)
 }
 
 /* Forward by a microsecond, without frame times: in the traffic no tag is so late that it would leave the range. */
-static vin_answer call_shift(enum who who, uint8_t *to)
+static vin_answer call_shift(enum who who)
 {
     uint8_t none[1] = {0};
     if (who == INDEPENDENT)
@@ -56,9 +42,8 @@ static vin_answer call_shift(enum who who, uint8_t *to)
 }
 
 /* A log that passes; nothing is written. */
-static vin_answer call_profile(enum who who, uint8_t *to)
+static vin_answer call_profile(enum who who)
 {
-    (void)to;
     if (who == INDEPENDENT)
         return as_vin(ind_profile(t.log, t.log_len));
     return (who == FAST ? fast_profile : vin_profile)(t.log, t.log_len);
@@ -79,7 +64,7 @@ static void make_events(void)
     }
 }
 
-static vin_answer call_replay(enum who who, uint8_t *to)
+static vin_answer call_replay(enum who who)
 {
     if (who == INDEPENDENT) {
         ind_replayed a = ind_replay(t.log, t.log_len, events, events_len, 128, 60, to, VIN_LOG_MAX);
@@ -89,115 +74,65 @@ static vin_answer call_replay(enum who who, uint8_t *to)
     return (vin_answer){a.number, a.place, a.second, a.bytes, a.sent << 32 | a.lost << 16 | a.held};
 }
 
+static const column columns[] = {{"pick", call_pick},
+                                 {"join", call_join},
+                                 {"shift", call_shift},
+                                 {"profile", call_profile},
+                                 {"replay", call_replay}};
+enum { FUNCTIONS = sizeof columns / sizeof *columns };
+
 static const struct {
-    const char *name;
-    vin_answer (*call)(enum who who, uint8_t *to);
     size_t log_most; /* longer logs are left out */
     int logs;        /* that are lent */
     int judges;      /* logs that it refuses are left out, too */
-} functions[] = {{"pick", call_pick, VIN_LOG_MAX, 1, 0},
-                 {"join", call_join, VIN_LOG_MAX / 2, 2, 0},
-                 {"shift", call_shift, VIN_LOG_MAX, 1, 0},
-                 {"profile", call_profile, VIN_LOG_MAX, 1, 1},
-                 {"replay", call_replay, VIN_LOG_MAX, 1, 1}};
-enum { FUNCTIONS = sizeof functions / sizeof *functions };
+} takes_logs[FUNCTIONS] = {{VIN_LOG_MAX, 1, 0}, {VIN_LOG_MAX / 2, 2, 0}, {VIN_LOG_MAX, 1, 0}, {VIN_LOG_MAX, 1, 1}, {VIN_LOG_MAX, 1, 1}};
+
+static vin_answer call_into(int f, enum who who, uint8_t *room)
+{
+    vin_answer a;
+    to = room;
+    a = columns[f].call(who);
+    to = out;
+    return a;
+}
 
 /* Whether the row is timed. */
 static int takes(int f)
 {
-    return t.log_len <= functions[f].log_most && !(functions[f].judges && functions[f].call(INDEPENDENT, expected).number != 0);
+    return t.log_len <= takes_logs[f].log_most && !(takes_logs[f].judges && call_into(f, INDEPENDENT, expected).number != 0);
 }
-
-/* ==== Agreement ==== */
 
 static void agree(int f)
 {
-    vin_answer asked = functions[f].call(INDEPENDENT, expected);
+    vin_answer asked = call_into(f, INDEPENDENT, expected);
     for (enum who who = LIBRARY; who <= FAST; who++) {
         vin_answer v;
         memset(out, 0xFF, sizeof out);
-        v = functions[f].call(who, out);
-        if (asked.number == 0 && v.number == 0 && v.bytes == asked.bytes && v.times == asked.times && memcmp(out, expected, v.bytes) == 0)
-            continue;
-        printf("%s: %s disagrees with the independent implementation on %s\n", t.name, who == FAST ? "bench/fast" : "the library",
-               functions[f].name);
-        exit(1);
+        v = call_into(f, who, out);
+        must_agree(asked.number == 0 && v.number == 0 && v.bytes == asked.bytes && v.times == asked.times
+                       && memcmp(out, expected, v.bytes) == 0,
+                   t.name, who, columns[f].name);
     }
-}
-
-/* ==== Timing ==== */
-
-static double now(void)
-{
-    struct timespec s;
-    clock_gettime(CLOCK_THREAD_CPUTIME_ID, &s);
-    return 1e9 * (double)s.tv_sec + (double)s.tv_nsec;
-}
-
-static double sample(int f, enum who who, long calls)
-{
-    double began = now();
-    for (long n = 0; n < calls; n++)
-        functions[f].call(who, out);
-    return (now() - began) / (double)calls;
-}
-
-static struct {
-    double worst, worst_fast, sum;
-    int rows;
-} summary[FUNCTIONS];
-
-/* Nanoseconds an item, the best of the samples, taken in turns. */
-static void row(int f)
-{
-    double best[2] = {1e30, 1e30}, items = (double)(functions[f].logs * t.items), ratio;
-    long calls = 1;
-    while (sample(f, FAST, calls) * (double)calls < SAMPLE_NS)
-        calls *= 2;
-    for (int n = 0; n < samples; n++)
-        for (enum who who = LIBRARY; who <= FAST; who++) {
-            double ns = sample(f, who, calls) / items;
-            best[who] = ns < best[who] ? ns : best[who];
-        }
-    ratio = best[LIBRARY] / best[FAST];
-    printf(" | %7.2f %7.2f %6.2f", best[LIBRARY], best[FAST], ratio);
-    fflush(stdout);
-    summary[f].worst = ratio > summary[f].worst ? ratio : summary[f].worst;
-    summary[f].worst_fast = best[FAST] > summary[f].worst_fast ? best[FAST] : summary[f].worst_fast;
-    summary[f].sum += best[FAST];
-    summary[f].rows++;
 }
 
 int main(int argc, char **argv)
 {
-    const char *rows = argc > 2 ? argv[2] : "";
-    if (argc > 1)
-        samples = atoi(argv[1]);
-    printf("%-52s %7s", "nanoseconds an item, and the ratio", "items");
-    for (int f = 0; f < FUNCTIONS; f++)
-        printf(" | %-22s", functions[f].name);
-    printf("\n%-52s %7s", "traffic, size of a log", "");
-    for (int f = 0; f < FUNCTIONS; f++)
-        printf(" | %7s %7s %6s", "library", "fast C", "ratio");
-    printf("\n");
+    table_begin(argc, argv, "an item", "items", "traffic, size of a log", columns, FUNCTIONS);
     for (int n = 0; traffic_log(&t, n); n++) {
-        if (strstr(t.name, rows) == NULL)
+        if (!is_wanted(t.name))
             continue;
         make_events();
-        printf("%-52s %7d", t.name, t.items);
+        line_begin(t.name, (size_t)t.items);
         for (int f = 0; f < FUNCTIONS; f++) {
             if (!takes(f)) {
-                printf(" | %7s %7s %6s", "", "", "");
+                line_blank();
                 continue;
             }
             agree(f);
-            row(f);
+            line_figure(f, (double)(takes_logs[f].logs * t.items));
         }
-        printf("\n");
+        line_end();
     }
-    for (int f = 0; f < FUNCTIONS; f++)
-        if (summary[f].rows > 0)
-            printf("%-12s worst ratio %5.2f; fast C: mean %5.2f ns an item, slowest row %5.2f\n", functions[f].name, summary[f].worst,
-                   summary[f].sum / summary[f].rows, summary[f].worst_fast);
+    table_end();
     return 0;
 }

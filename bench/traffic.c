@@ -276,3 +276,11 @@ int traffic_row(traffic *t, int n)
         }
     return 0;
 }
+
+size_t traffic_fill(const traffic *t, uint8_t *to)
+{
+    size_t words = (size_t)t->words * t->tracks;
+    for (size_t n = 0; n < words; n++)
+        memcpy(to + 3 * n, n % t->words == 0 ? "\xFA\xF3\x20" : "\x01\xAA\xAA", 3);
+    return 3 * words;
+}

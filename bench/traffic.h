@@ -20,6 +20,9 @@ typedef struct {
 /* Makes row n; 0 if there is none. */
 int traffic_row(traffic *t, int n);
 
+/* Writes a group of fill by the row's plan, without CRC and frame time; its bytes. */
+size_t traffic_fill(const traffic *t, uint8_t *to);
+
 /* Makes row n of the logs alone, without a plan; 0 if there is none. */
 int traffic_log(traffic *t, int n);
 

@@ -79,6 +79,17 @@ vin_answer vin_read_items(FULL, const uint8_t *kinds, size_t kinds_len, const ui
     return answer;
 }
 
+void inner_vin_salvage(vin_salvaged *answer, FULL, const run *kinds, const run *capture, const run *log, const run *times, const run *report);
+
+vin_salvaged vin_salvage(FULL, const uint8_t *kinds, size_t kinds_len, const uint8_t *capture, size_t capture_len, uint8_t *log, size_t log_len,
+                         uint8_t *times, size_t times_len, uint64_t *report, size_t report_len)
+{
+    vin_salvaged answer;
+    run k = {kinds, kinds_len}, c = {capture, capture_len}, l = {log, log_len}, t = {times, times_len}, r = {report, report_len};
+    inner_vin_salvage(&answer, words, tracks, frame_time, crc, parity, crc_label, fill_bus, &k, &c, &l, &t, &r);
+    return answer;
+}
+
 void inner_vin_pick(vin_answer *answer, const run *log, uint16_t buses, const run *out);
 void inner_vin_join(vin_answer *answer, const run *first, const run *second, const run *out);
 

@@ -6,7 +6,8 @@
  * vin_plan_read and vin_plan_read_closed, which take the plan as a struct and null pointers for
  * runs of length 0; and vin_compose, vin_read and vin_read_closed, with the usual CRC label and fill
  * bus, as they were before these could be chosen. vin_read_words and vin_read_items are the two halves
- * of a reading: the words in the data slots, and the log that such words are. Logs alone, without a plan, are worked on by
+ * of a reading: the words in the data slots, and the log that such words are. vin_salvage reads what is left
+ * of a damaged capture, and reports what it dropped. Logs alone, without a plan, are worked on by
  * vin_pick, vin_join, vin_shift, vin_profile and vin_replay; over them functions of the same names
  * with vin_log_ in front, as vin_log_pick, take null pointers for runs of length 0. C99 or later, or
  * C++. Link with libvinculampe.a (x86-64, System V calling convention; that of `make NATIVE=yes` is
@@ -25,8 +26,8 @@
  * What the caller promises
  *   - A pointer is valid for its length. Null pointers, with length 0, are taken by the functions
  *     whose names begin with vin_plan_ or vin_log_, and by no other.
- *   - The runs of one call that are written (out; log, words and times of a reading; the times of
- *     vin_shift, the only run that is both read and written) overlap no other run of that call.
+ *   - The runs of one call that are written (out; log, words, times and report of a reading; the times
+ *     of vin_shift, the only run that is both read and written) overlap no other run of that call.
  *     Runs that are only read may overlap each other: vin_join may be given one log twice.
  *
  * Threads: the functions keep nothing between calls and use no heap, no global and no file. They
@@ -164,8 +165,8 @@ enum vin_number {
      *        index. Number before size. */
     VIN_TIMES = 5,
 
-    /* C R L  The room for the output is too short; or, in reading and joining, the log would be above
-     *        VIN_LOG_MAX, whatever the room. Place: the bytes needed; of vin_read_words the words. */
+    /* C R L  The room for the output is too short; or, in reading, salvaging and joining, the log would be
+     *        above VIN_LOG_MAX, whatever the room. Place: the bytes needed; of vin_read_words the words. */
     VIN_ROOM = 6,
 
     /*   R    The room for frame times is too short. Place: the frame times needed, of eight bytes
@@ -222,7 +223,10 @@ enum vin_number {
     /*     L  vin_replay only: an overflow mark stands in the log: place is its first bit. Or a limit
      *        is broken, an event is of neither kind, or more items arrive than the log has: place
      *        0. */
-    VIN_REPLAY = 19
+    VIN_REPLAY = 19,
+
+    /*   R    vin_salvage only: the room for the report is too short. Place: the entries needed. */
+    VIN_REPORT_ROOM = 20
 };
 
 /* A few English words for an answer's number; never null. */
@@ -248,6 +252,7 @@ static inline const char *vin_text(uint32_t number_)
     case VIN_SHIFT: return "the shift is too large, or a time would leave its range";
     case VIN_PROFILE: return "an item breaks a rule of the one-bus test profile";
     case VIN_REPLAY: return "a mark in the log, a limit broken, or events that are wrong";
+    case VIN_REPORT_ROOM: return "the room for the report is too short";
     default: return "no such number";
     }
 }
@@ -320,6 +325,18 @@ static inline const char *vin_text(uint32_t number_)
 #define VIN_ITEMS_LOG_BYTES(words_len) \
     (VIN_LOG_OF_WORDS_((size_t)(words_len)) < VIN_LOG_MAX ? VIN_LOG_OF_WORDS_((size_t)(words_len)) \
                                                           : VIN_LOG_MAX)
+
+/* Salvaging: entries of the report that always suffice. A dropped group is one entry, and each data slot
+ * of any other at most one. Log and times need no more than those of a reading. For the exact number lend
+ * room for log and times, and call with report_len 0: refused by VIN_REPORT_ROOM at the entries needed (or
+ * done, if nothing is dropped). */
+#define VIN_REPORT_ENTRIES(capture_len, words, tracks, frame_time, crc) \
+    VIN_READ_WORDS(capture_len, words, tracks, frame_time, crc)
+
+/* An entry of a report: what was dropped, and which. The number is VIN_DONE for a data word, and the rest
+ * its place; VIN_SYNC to VIN_FRAME_TIME for a group, and the rest its index, counted from 0. */
+#define VIN_ENTRY_NUMBER(entry) ((uint32_t)((uint64_t)(entry) >> 32))
+#define VIN_ENTRY_INDEX(entry) ((uint32_t)((uint64_t)(entry) & 0xFFFFFFFF))
 
 /* Picking from a log of log_len bytes, and joining two: bytes of room that always suffice. (Shifting
  * needs log_len, no more and no less.) A log has
@@ -461,6 +478,57 @@ vin_answer vin_read_items(uint32_t words, uint32_t tracks,
                           const uint8_t *kinds, size_t kinds_len,
                           const uint32_t *words_in, size_t words_in_len,
                           uint8_t *log, size_t log_len);
+
+/* What vin_salvage answers. */
+typedef struct {
+    uint32_t number;  /* VIN_DONE, or the refusal's number: enum vin_number */
+    uint64_t place;   /* the refusal's place; 0 if done */
+    uint64_t second;  /* always 0; in vin_answer a second place */
+    uint64_t bytes;   /* bytes of log written; this and the following are 0 if refused */
+    uint64_t times;   /* frame times written, of eight bytes each: of the groups that were kept */
+    uint64_t entries; /* entries of the report written */
+} vin_salvaged;
+
+/* Salvages a damaged capture: reads what is left of it, and reports what is not in the log. No group is
+ * refused for its faults, and no word:
+ *
+ *   - a group with a VIN_SYNC, VIN_PARITY, VIN_CRC or VIN_FRAME_TIME is dropped, with its frame time
+ *   - a data word that cannot continue the unfinished item drops that item's words, all of them, and is
+ *     tried as a start; if it starts nothing it is dropped too
+ *   - nothing is joined across a dropped group: what is unfinished when one comes is dropped, and so is a
+ *     command, or an ARINC word, that is the last data before one, its time tag not yet seen, also where
+ *     fill or whole groups of fill stand between
+ *   - an item left unfinished at the end is dropped
+ *
+ * Behind a dropped group there is no such caution: a status whose response time was lost is kept without
+ * one. Open notices remain, and others may become open: what is salvaged need not compose.
+ *
+ * The report has an entry for each dropped group, and for each dropped data word of the other groups, in
+ * dealt order: number x 2^32 + index. Of a group the number is its first fault, 9 to 12, in the order of
+ * vin_read_full, and the index counts the capture's groups from 0; of a word the number is 0 and the index
+ * its place (VIN_ENTRY_NUMBER, VIN_ENTRY_INDEX). With several tracks the places need not rise: words are
+ * dealt over the tracks, and places count them as stored.
+ *
+ *   capture, capture_len   the capture: whole groups, for a lost byte is not salvaged
+ *   log, log_len           room for the log; answer.bytes are written
+ *   times, times_len       room for the frame times of the groups that are kept, as vin_read has it
+ *   report, report_len     room for the report, an entry each; answer.entries are written
+ *
+ * Always: the data words of the groups that are kept, without those reported, are the words of the log's
+ * items, in order. A capture that vin_read_full accepts gives the same log and times and no entries; if
+ * there are no entries, vin_read_full is done or refused by VIN_NOTICE, given room. No item has words on
+ * both sides of a dropped group.
+ *
+ * Checks, in this order, and all before anything is written: VIN_PLAN, VIN_CAPTURE; VIN_ROOM, also for a
+ * log above VIN_LOG_MAX, at its true length; VIN_TIME_ROOM; VIN_REPORT_ROOM. */
+vin_salvaged vin_salvage(uint32_t words, uint32_t tracks,
+                         uint32_t frame_time, uint32_t crc, uint32_t parity,
+                         uint32_t crc_label, uint32_t fill_bus,
+                         const uint8_t *kinds, size_t kinds_len,
+                         const uint8_t *capture, size_t capture_len,
+                         uint8_t *log, size_t log_len,
+                         uint8_t *times, size_t times_len,
+                         uint64_t *report, size_t report_len);
 
 /* ==== The functions on logs alone ================================================================
  *
@@ -697,6 +765,22 @@ static inline vin_answer vin_plan_read_items(const vin_plan *plan_,
                           plan_->kinds, sizeof plan_->kinds,
                           words_ ? words_ : nothing_, words_len_,
                           vin_room_(log_), log_len_);
+}
+
+static inline vin_salvaged vin_plan_salvage(const vin_plan *plan_,
+                                            const uint8_t *capture_, size_t capture_len_,
+                                            uint8_t *log_, size_t log_len_,
+                                            uint8_t *times_, size_t times_len_,
+                                            uint64_t *report_, size_t report_len_)
+{
+    static uint64_t nothing_[1];
+    return vin_salvage(plan_->words, plan_->tracks, plan_->frame_time, plan_->crc, plan_->parity,
+                       vin_plan_label_(plan_), plan_->fill_bus,
+                       plan_->kinds, sizeof plan_->kinds,
+                       vin_run_(capture_), capture_len_,
+                       vin_room_(log_), log_len_,
+                       vin_room_(times_), times_len_,
+                       report_ ? report_ : nothing_, report_len_);
 }
 
 static inline vin_answer vin_log_pick(const uint8_t *log_, size_t log_len_,

@@ -66,6 +66,18 @@ ind_answer ind_read_items(uint32_t words, uint32_t tracks, uint32_t frame_time, 
                           uint32_t fill_bus, const uint8_t *kinds, size_t kinds_len, const uint32_t *row, size_t row_len, uint8_t *log,
                           size_t log_len);
 
+/* Document 02, K10: what vin_salvage must answer. An entry of the report is number x 2^32 + index: of a dropped group its fault's number, 9
+ * to 12, and its index; of a dropped word 0 and its place. */
+typedef struct {
+    uint32_t number;                /* 0, or the refusal's number */
+    uint64_t place, second;         /* the refusal's place; always 0 */
+    uint64_t bytes, times, entries; /* of log, frame times and report written */
+} ind_salvaged;
+
+ind_salvaged ind_salvage(uint32_t words, uint32_t tracks, uint32_t frame_time, uint32_t crc, uint32_t parity, uint32_t crc_label,
+                         uint32_t fill_bus, const uint8_t *kinds, size_t kinds_len, const uint8_t *capture, size_t capture_len, uint8_t *log,
+                         size_t log_len, uint8_t *times, size_t times_len, uint64_t *report, size_t report_len);
+
 /* Document 02, K7: what vin_pick and vin_join must answer. Bit c of `buses` is bus code c. */
 ind_answer ind_pick(const uint8_t *log, size_t log_len, uint16_t buses, uint8_t *out, size_t out_len);
 ind_answer ind_join(const uint8_t *first, size_t first_len, const uint8_t *second, size_t second_len, uint8_t *out, size_t out_len);

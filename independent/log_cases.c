@@ -77,16 +77,17 @@ uint64_t digest_of(const run *r)
 }
 
 /* "On success: number 0, place 0 and the lengths written"; "A refusal returns number, place and lengths 0". */
-static bool is_asked(ind_answer a, uint64_t asked, uint64_t value)
+bool is_asked(ind_answer a, uint64_t second, const char *asked)
 {
-    if (a.number != asked)
+    uint64_t value = number_field(asked, 2);
+    if (a.number != number_field(asked, 1) || a.second != second)
         return false;
-    if (asked == 0)
+    if (a.number == 0)
         return a.place == 0 && a.bytes == value;
     return a.place == value && a.bytes == 0 && a.times == 0;
 }
 
-static bool is_made(uint64_t bytes, const run *out, const char *asked)
+bool is_made(uint64_t bytes, const run *out, const char *asked)
 {
     static run made;
     run_field(asked, 3, &made);
@@ -103,7 +104,7 @@ static void say_answer(const char *name, ind_answer a, size_t unit, uint64_t sec
 {
     printf("%s %" PRIu32 " %" PRIu64 " %" PRIu64 " %" PRIu64 " %" PRIu64 " %" PRIu64, name, a.number, a.place, a.second, a.bytes, a.times,
            digest_of(out));
-    say_unless(a.second == second && is_asked(a, number_field(asked, 1), number_field(asked, 2)));
+    say_unless(is_asked(a, second, asked));
     say_unless(is_made(unit * a.bytes, out, asked));
 }
 
@@ -137,7 +138,7 @@ static const struct {
     const char *name;
     void (*line)(const char *line, const char *asked);
 } calls[] = {{"pick ", pick_line}, {"join ", join_line}, {"shift ", shift_line}, {"profile ", profile_line}, {"replay ", replay_line},
-             {"slots ", slots_line}, {"items ", items_line}};
+             {"slots ", slots_line}, {"items ", items_line}, {"salvage ", salvage_line}};
 
 static void step(const char *line)
 {

@@ -32,8 +32,9 @@ uint64_t digest_of(const run *r);
 void say_call(const char *name, ind_answer a, const run *out, const char *asked);
 void say_made(const char *name, ind_answer a, const run *out, const char *asked);
 
-/* A run's digest; `differs` where something is not as asked for. */
-uint64_t digest_of(const run *r);
+/* Whether an answer, and what was written, are as asked for; `differs` where they are not. */
+bool is_asked(ind_answer a, uint64_t second, const char *asked);
+bool is_made(uint64_t bytes, const run *out, const char *asked);
 void say_unless(bool good);
 
 /* The seven numbers of a call's whole plan; its kinds, a run, stand behind them. */
@@ -45,7 +46,8 @@ uint32_t small_field(const char *line, int spaces);
 /* As say_call, where a refusal may have a second place, which is asked for behind what is made; an entry of that is so many bytes. */
 void say_found(const char *name, ind_answer a, size_t unit, const run *out, const char *asked);
 
-/* The row of times: its digest, and whether so many entries were counted and it begins as asked for, from the field `spaces` on. */
+/* A row, of times or of a report: its digest, and whether so many entries were counted and it begins as asked for, from the field
+ * `spaces` on. */
 void say_times(uint64_t entries, const run *times, const char *asked, int spaces);
 
 /* Each makes the call of a line. */
@@ -56,5 +58,6 @@ void profile_line(const char *line, const char *asked);
 void replay_line(const char *line, const char *asked);
 void slots_line(const char *line, const char *asked);
 void items_line(const char *line, const char *asked);
+void salvage_line(const char *line, const char *asked);
 
 #endif

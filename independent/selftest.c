@@ -360,6 +360,7 @@ int main(void)
     selftest_shift();
     selftest_full_plan();
     selftest_split();
-    puts("selftest: K9, K5, K8, K3: as document 02 says");
+    selftest_salvage();
+    puts("selftest: K9, K5, K8, K3, K10: as document 02 says");
     return 0;
 }

@@ -18,6 +18,7 @@
 /* Document 02's requests, each in a file of its own. */
 void selftest_full_plan(void);
 void selftest_split(void);
+void selftest_salvage(void);
 void selftest_pick_join(void);
 void selftest_shift(void);
 void selftest_profile(void);

@@ -38,6 +38,8 @@ static const struct option long_options[] = {
     ROW("--every", OPT_EVERY, required_argument),
     ROW("--slots", OPT_SLOTS, required_argument),
     ROW("--plan", OPT_PLAN, required_argument),
+    ROW("--report", OPT_REPORT, required_argument),
+    ROW("--strict", OPT_STRICT, no_argument),
     {"help", no_argument, NULL, 'h'},
     {NULL, 0, NULL, 0},
 };

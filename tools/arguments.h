@@ -29,6 +29,8 @@ enum option_id {
     OPT_EVERY,
     OPT_SLOTS,
     OPT_PLAN,
+    OPT_REPORT,
+    OPT_STRICT,
     OPTIONS
 };
 

@@ -105,6 +105,19 @@ const char *label_name(unsigned kind, unsigned label)
     return kind == VIN_KIND_1553 ? mil1553[label - 8] : arinc[label - 8];
 }
 
+const char *word_meaning(const vin_plan *plan, const stored *s)
+{
+    static const char *const furniture[] = {"sync", "frame time high", "frame time low", "frame time micro",
+                                            "CRC"};
+    if (s->slot != SLOT_DATA)
+        return furniture[s->slot];
+    if (s->label == LABEL_FILL)
+        return is_fill(s) ? "fill" : "fill, not AAAA";
+    if (plan->kinds[s->bus] == VIN_KIND_UNUSED)
+        return "bus not used";
+    return label_name(plan->kinds[s->bus], s->label);
+}
+
 unsigned channel_of(unsigned label)
 {
     return (label - 8) / 2 + 1;

@@ -55,6 +55,9 @@ uint32_t frame_crc(const vin_plan *plan, const run *capture, uint64_t frame);
 /* "command A", "low syllable" and the like. */
 const char *label_name(unsigned kind, unsigned label);
 
+/* What the word is where it stands: "CRC", "command A", "bus not used" and the like. */
+const char *word_meaning(const vin_plan *plan, const stored *s);
+
 /* The ARINC channel, 1 to 4, of a syllable's label. */
 unsigned channel_of(unsigned label);
 

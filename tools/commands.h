@@ -5,7 +5,7 @@
 #include "arguments.h"
 
 #define EVERY_COMMAND(one) \
-    one(compose) one(read) one(words) one(items) one(check) one(dump) one(info) one(list) one(pack) one(pick) one(join) one(shift) \
+    one(compose) one(read) one(words) one(items) one(salvage) one(check) one(dump) one(info) one(list) one(pack) one(pick) one(join) one(shift) \
         one(profile) one(replay) one(plan) one(explain)
 
 /* Where the command's main output goes. */

@@ -3,6 +3,7 @@
 #include "../include/vinculampe.h"
 
 #define BIT "the bit of the log where the item or end mark begins, counted from 0"
+#define GROUP_FAULT "read, words, check, info; dump marks it, salvage drops the group"
 #define WORD "the word's number in the capture, counted from 0; its bytes begin at three times that"
 
 /* By number, some of which no refusal has: who gives it, what its place counts, what it means to a person,
@@ -12,7 +13,7 @@ static const struct {
 } numbers[] = {
     [VIN_DONE] = {"every command", "0", "The work is done."},
     [VIN_PLAN] =
-        {"compose, read, words, items, check, dump, info, plan", "0",
+        {"compose, read, words, items, salvage, check, dump, info, plan", "0",
          "The plan breaks a rule. vin names the rule: the number of words or tracks is outside its\n"
          "limits, several tracks go with other than exactly one used bus, parity goes with a used bus\n"
          "above 7, the CRC word's label is above 7, or fill's bus is above 15, or above 7 with parity."},
@@ -32,35 +33,36 @@ static const struct {
          "A plan with frame time needs one time for each group, a plan without it none; and a time is\n"
          "below 42949672960000 microseconds."},
     [VIN_ROOM] =
-        {"read, items, check, info, join, replay", "the bytes that the log would have",
+        {"read, items, salvage, check, info, join, replay", "the bytes that the log would have",
          "The capture's log, or the joined log, would be longer than 32768 bytes. (To a caller in C\n"
          "also: the room lent for the output is too short. vin lends enough.)"},
     [VIN_TIME_ROOM] = {"callers in C only", "the number of times needed",
                        "The room lent for the frame times is too short. vin lends enough."},
     [VIN_CAPTURE] =
-        {"read, words, items, check, dump, info",
+        {"read, words, items, salvage, check, dump, info",
          "the capture's length in bytes; of items the number of words",
          "The capture is longer than 1048576 bytes, or is not whole groups: the file was cut, or the\n"
          "plan's words or tracks are not those of the capture. Of items: there are more than 349525\n"
          "words."},
     [VIN_SYNC] =
-        {"read, words, check, info; dump marks it", WORD,
+        {GROUP_FAULT, WORD,
          "A frame does not begin with the sync word FAF320. At word 0 the file is no capture; at the\n"
          "second frame the plan's words are probably wrong; later, words were lost."},
-    [VIN_PARITY] = {"read, words, check, info; dump marks it", WORD,
+    [VIN_PARITY] = {GROUP_FAULT, WORD,
                     "The plan has parity and this word has an even number of ones: it was damaged, or the\n"
                     "capture was made without parity."},
-    [VIN_CRC] = {"read, words, check, info; dump marks it", WORD,
+    [VIN_CRC] = {GROUP_FAULT, WORD,
                  "The last word of this frame is not the CRC word of the words before it, with the plan's\n"
                  "label: the frame was damaged, or the capture was made without CRC or with another\n"
                  "crc-label."},
     [VIN_FRAME_TIME] =
-        {"read, words, check, info; dump marks it", WORD,
+        {GROUP_FAULT, WORD,
          "A group begins with three words of frame time on bus 0: label 7 (high), 6 (low) and 5\n"
          "(micro, below 10000). This is not such a word: it was damaged, or the capture was made\n"
          "without frame time."},
     [VIN_DATA_WORD] =
-        {"read, items, check, info; dump marks it", WORD "; of items its number among the words",
+        {"read, items, check, info; dump marks it, salvage drops the word",
+         WORD "; of items its number among the words",
          "This word starts or continues no item: its bus is unused; its label does not follow what\n"
          "came before it (a low syllable without its high one, a time word without its command); it is\n"
          "a word of another bus or item inside an item that is not finished; a micro or response is\n"
@@ -99,6 +101,8 @@ static const struct {
          "words, a group 1 to 2048 slots, and there are at most 65535 events; or an event is neither an\n"
          "item that arrives nor a group that leaves; or more items arrive than the log has. vin says\n"
          "which."},
+    [VIN_REPORT_ROOM] = {"callers in C only", "the number of entries needed",
+                         "The room lent for the report of a salvage is too short. vin lends enough."},
 };
 enum { NUMBERS = sizeof numbers / sizeof *numbers };
 

@@ -40,3 +40,11 @@ void say_notes(const reading *r)
     else
         say_hints("note", c->capture_name, &c->plan.plan, &c->capture);
 }
+
+/* In a pipe the times are often not wanted; beside a file they are easily forgotten. */
+void say_times_unwritten(const char *capture_name, uint64_t times, const char *log_to)
+{
+    if (times > 0 && !is_standard(log_to))
+        complain("%s: note: frame times not kept: %llu; --times-out FILE writes them",
+                 input_name(capture_name).text, (unsigned long long)times);
+}

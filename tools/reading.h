@@ -22,4 +22,7 @@ void drop_reading(reading *r);
 /* Says on standard error what could be a slip: an empty capture, one that looks like another plan's. */
 void say_notes(const reading *r);
 
+/* That so many frame times were read and no file of them is named, where the log went to this one. */
+void say_times_unwritten(const char *capture_name, uint64_t times, const char *log_to);
+
 #endif

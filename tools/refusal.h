@@ -2,6 +2,7 @@
 #ifndef REFUSAL_H
 #define REFUSAL_H
 
+#include "capture.h"
 #include "files.h"
 #include "plan.h"
 #include "times.h"
@@ -24,6 +25,9 @@ void say_listing_refused(const char *log_name, const run *log, unsigned number, 
 
 /* A refusal at a log's item that is whole, and why. */
 void say_at_item(const char *log_name, const run *log, unsigned number, uint64_t bit, const char *why);
+
+/* Why a reading refuses this word of the capture by the answer; in WHY_MOST bytes (walk.h). */
+void tell_bad_word(const call *c, const stored *s, const vin_answer *a, char *why);
 
 /* A refusal whose place says no more. */
 void say_plainly(const char *name, vin_answer a);

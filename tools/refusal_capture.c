@@ -69,7 +69,7 @@ static void bad_fill(const vin_plan *plan, const run *capture, const stored *s, 
         snprintf(why, WHY_MOST, "misplaced fill: neither its group nor a later one has a data word");
 }
 
-static void bad_word(const call *c, const stored *s, const vin_answer *a, char *why)
+void tell_bad_word(const call *c, const stored *s, const vin_answer *a, char *why)
 {
     const vin_plan *plan = &c->plan.plan;
     switch (a->number) {
@@ -98,7 +98,7 @@ static void say_word_refused(const call *c, vin_answer a)
         return;
     }
     stored s = stored_at(&c->plan.plan, &c->capture, a.place);
-    bad_word(c, &s, &a, why);
+    tell_bad_word(c, &s, &a, why);
     complain("%s: refused by %" PRIu32 " at %s: %06" PRIX32 ": %s", input_name(c->capture_name).text,
              a.number, tell_place(&s).text, s.word, why);
     if (a.number == VIN_SYNC || a.number == VIN_CRC || a.number == VIN_DATA_WORD || a.number == VIN_FILL)

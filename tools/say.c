@@ -33,6 +33,11 @@ void complain_errno(const char *format, ...)
     va_end(values);
 }
 
+const char *plural(uint64_t count)
+{
+    return count == 1 ? "" : "s";
+}
+
 static bool is_plain(char c)
 {
     return c >= ' ' && c <= '~';

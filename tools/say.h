@@ -2,6 +2,8 @@
 #ifndef SAY_H
 #define SAY_H
 
+#include <stdint.h>
+
 enum status {
     DONE = 0,
     REFUSED = 1, /* by a number of include/vinculampe.h */
@@ -13,6 +15,9 @@ void complain(const char *format, ...) __attribute__((format(printf, 1, 2)));
 
 /* The same with what errno says behind the message. */
 void complain_errno(const char *format, ...) __attribute__((format(printf, 1, 2)));
+
+/* What stands behind a word that counts so many. */
+const char *plural(uint64_t count);
 
 /* A word of the user's as it can be shown: what cannot be printed becomes '?', and a long one ends in "..".
  */

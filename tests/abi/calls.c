@@ -26,11 +26,19 @@ static uint8_t *before[RUNS_MOST], *expected[RUNS_MOST]; /* of run_most bytes ea
 
 /* ==== A failure ==== */
 
-/* What stands before its name: a law is of several functions. */
+uint64_t case_number(void)
+{
+    return run.number;
+}
+
+/* What stands before its name: a law, and damage, is no function's name. */
 static const char *prefix(void)
 {
-    const char *name = run.function->name;
-    return strcmp(name, "laws") == 0 || strcmp(name, "halves") == 0 ? "" : "vin_";
+    static const char *const others[] = {"laws", "halves", "dropouts", "account"};
+    for (size_t n = 0; n < sizeof others / sizeof *others; n++)
+        if (strcmp(run.function->name, others[n]) == 0)
+            return "";
+    return "vin_";
 }
 
 static void say_repeat(void)

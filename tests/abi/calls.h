@@ -45,6 +45,9 @@ typedef struct call {
  * number if answers or bytes differ, or a byte was written that is not answered for. */
 outcome compare(const call *c);
 
+/* The number of the case, for cases that are counted through and not drawn. */
+uint64_t case_number(void);
+
 /* A law over several calls of the library does not hold: ends the program with the case's number. */
 void law_broken(const char *law);
 

@@ -7,7 +7,7 @@
 #include "../../independent/rules.h"
 #include "calls.h"
 
-#define EVERY_FUNCTION(one) one(read_words) one(read_items) one(halves)
+#define EVERY_FUNCTION(one) one(read_words) one(read_items) one(halves) one(salvage) one(dropouts) one(account)
 
 #define DECLARE_FUNCTION(name) extern const compared name##_function;
 EVERY_FUNCTION(DECLARE_FUNCTION)

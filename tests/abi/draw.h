@@ -38,6 +38,7 @@ void draw_plan(drawn *d);                /* plan and legal */
 void draw_log(drawn *d);                 /* log, times and groups */
 void draw_damage(drawn *d);              /* changes a capture that was composed */
 void draw_loose_capture(drawn *d);       /* a capture of items with fill between, and faults */
+void draw_loose_groups(drawn *d, uint32_t groups); /* the same, of so many groups */
 size_t draw_near(uint64_t length, size_t most); /* that length, one less, one more, none, or some other up to most */
 
 #endif

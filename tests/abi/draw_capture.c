@@ -216,13 +216,12 @@ static uint32_t draw_groups(const plan *p)
     return draw(one_in(10) ? 8 : 3);
 }
 
-void draw_loose_capture(drawn *d)
+void draw_loose_groups(drawn *d, uint32_t groups)
 {
     static const uint32_t rare[] = {0, 0, 3, 30, 300}, faulty[] = {0, 0, 0, 50, 500, 5000}, opens[] = {0, 1, 4, 40};
     plan p = rules_plan(d);
     loose l = {{0}, 0, 0};
-    uint32_t groups = draw_groups(&p), fills = rare[draw(5)], faults = faulty[draw(6)];
-    uint32_t open = opens[draw(4)];
+    uint32_t fills = rare[draw(5)], faults = faulty[draw(6)], open = opens[draw(4)];
     bool whole = !one_in(3); /* the last item is not cut */
     uint64_t data = one_in(2) ? UINT64_MAX : draw((uint32_t)(groups * group_slots(&p)) + 2); /* slots before the last fill */
     if (data > groups * group_slots(&p))
@@ -242,4 +241,10 @@ void draw_loose_capture(drawn *d)
         }
     }
     mend(d, &p);
+}
+
+void draw_loose_capture(drawn *d)
+{
+    plan p = rules_plan(d);
+    draw_loose_groups(d, draw_groups(&p));
 }

@@ -72,7 +72,7 @@ static void example(void)
     CHECK(a.number == VIN_LOG && a.place == 0);
     a = vin_plan_compose(&plan, log, sizeof log, NULL, 0, NULL, 0);
     CHECK(a.number == VIN_ROOM && a.place == 387);
-    for (uint32_t number = 0; number < 20; number++)
+    for (uint32_t number = 0; number <= VIN_REPORT_ROOM; number++)
         CHECK(strlen(vin_text(number)) > 0);
 }
 
@@ -186,6 +186,33 @@ static void halves(void)
     CHECK(a.number == VIN_DONE && a.bytes == 0 && a.times == 0);
 }
 
+/* Salvage: a command, a group without its sync word, a data word; sizes, entries and null pointers. */
+static void salvaged(void)
+{
+    enum { GROUP = VIN_GROUP_BYTES(128, 1) };
+    static const uint8_t data_word[] = {0x32, 0x5F, 0x77, 0x80};
+    static uint8_t capture[3 * GROUP], log[VIN_LOG_MAX];
+    static uint64_t report[VIN_REPORT_ENTRIES(sizeof capture, 128, 1, 0, 0)];
+    vin_plan plan = VIN_PLAN_INIT(128, 1);
+    vin_salvaged a;
+    plan.kinds[2] = VIN_KIND_1553;
+    CHECK(sizeof report / sizeof *report == 3 * 127 && VIN_REPORT_ENTRIES(2 * GROUP, 128, 1, 1, 1) == 2 * 123);
+    CHECK(VIN_ENTRY_NUMBER(UINT64_C(0x900000002)) == VIN_SYNC && VIN_ENTRY_INDEX(UINT64_C(0x900000002)) == 2);
+    for (size_t n = 0; n < sizeof capture / 3; n++)
+        memcpy(capture + 3 * n, n % 128 == 0 && n != 128 ? "\xFA\xF3\x20" : "\x01\xAA\xAA", 3);
+    memcpy(capture + 3, "\x2F\x08\x43", 3);
+    memcpy(capture + 2 * GROUP + 3, "\x2D\xBE\xEF", 3);
+    a = vin_plan_salvage(&plan, capture, sizeof capture, log, sizeof log, NULL, 0, report, sizeof report / sizeof *report);
+    CHECK(a.number == VIN_DONE && a.place == 0 && a.second == 0 && a.times == 0 && a.entries == 2);
+    CHECK(a.bytes == sizeof data_word && memcmp(log, data_word, sizeof data_word) == 0);
+    CHECK(VIN_ENTRY_NUMBER(report[0]) == VIN_DONE && VIN_ENTRY_INDEX(report[0]) == 1);
+    CHECK(VIN_ENTRY_NUMBER(report[1]) == VIN_SYNC && VIN_ENTRY_INDEX(report[1]) == 1);
+    a = vin_plan_salvage(&plan, capture, sizeof capture, log, sizeof log, NULL, 0, NULL, 0);
+    CHECK(a.number == VIN_REPORT_ROOM && a.place == 2 && a.bytes == 0 && a.entries == 0);
+    a = vin_plan_salvage(&plan, NULL, 0, NULL, 0, NULL, 0, NULL, 0);
+    CHECK(a.number == VIN_ROOM && a.place == 1);
+}
+
 /* The limits of a frame's length, for each number of tracks: both are legal in all three functions, one less and one more in none. */
 static void lengths(void)
 {
@@ -288,6 +315,7 @@ int main(void)
     replaying();
     lengths();
     halves();
+    salvaged();
     full_plans();
     most_groups();
     puts("header: its sizes, its limits and its example hold");

@@ -72,10 +72,19 @@ static void call_read_items(const vin_plan *plan, size_t length, bool roomy)
     vin_plan_read_items(plan, words, words_length, back, roomy ? sizeof back : 0);
 }
 
+/* As it is; or, without room for the report, with a bit of its last group changed, so that the group is dropped, or a word. */
+static void call_salvage(const vin_plan *plan, size_t length, bool roomy)
+{
+    static uint64_t report[VIN_WORDS_MAX];
+    capture[length - 4] ^= roomy ? 0 : 0x10;
+    vin_plan_salvage(plan, capture, length, back, sizeof back, back_times, sizeof back_times, report, roomy ? VIN_WORDS_MAX : 0);
+    capture[length - 4] ^= roomy ? 0 : 0x10;
+}
+
 static const struct {
     const char *name;
     void (*call)(const vin_plan *plan, size_t length, bool roomy);
-} over_captures[] = {{"read_words", call_read_words}, {"read_items", call_read_items}};
+} over_captures[] = {{"read_words", call_read_words}, {"read_items", call_read_items}, {"salvage", call_salvage}};
 enum { OVER_CAPTURES = sizeof over_captures / sizeof *over_captures };
 
 /* ==== A call in a painted stack ==== */

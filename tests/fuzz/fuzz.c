@@ -57,6 +57,27 @@ static vin_answer read_both(const numbers *n, const uint8_t *capture, size_t len
     return c;
 }
 
+/* Salvage with these rooms, as the independent one. */
+static vin_salvaged salvage_both(const numbers *n, const uint8_t *capture, size_t length, size_t log_room, size_t times_room, size_t entries)
+{
+    static uint64_t report[CAPTURE_ROOM / 3], report_too[CAPTURE_ROOM / 3];
+    vin_salvaged a = vin_salvage(FULL, capture, length, made, log_room, times_made, times_room, report, entries);
+    ind_salvaged b = ind_salvage(FULL, capture, length, made_too, log_room, times_made_too, times_room, report_too, entries);
+    vin_answer same = {a.number, a.place, a.second, a.bytes, a.times};
+    must_be_same(same, (ind_answer){b.number, b.place, b.second, b.bytes, b.times});
+    if (a.entries != b.entries || memcmp(report, report_too, sizeof report) != 0)
+        abort();
+    return a;
+}
+
+static void salvaging(const numbers *n, const uint8_t *capture, size_t length, uint8_t less)
+{
+    vin_salvaged a = salvage_both(n, capture, length, VIN_LOG_MAX, 8 * VIN_READ_GROUPS_MAX, CAPTURE_ROOM / 3);
+    if (a.number == 0)
+        salvage_both(n, capture, length, a.bytes - (less & 1), 8 * a.times - (a.times > 0 && (less & 2)),
+                     a.entries - (a.entries > 0 && (less & 4)));
+}
+
 /* What the closed reading accepts composes to those very bytes. */
 static void closed_means_composed(const numbers *n, const uint8_t *capture, size_t length, vin_answer c)
 {
@@ -152,6 +173,7 @@ int LLVMFuzzerTestOneInput(const uint8_t *data, size_t size)
         if (data[0] % 4 == 3 && length > 0 && size > 0)
             run_a[rest[size - 1] * (length - 1) / 255] ^= data[9] | 1;
     }
+    salvaging(n, run_a, length, data[8]);
     c = read_both(n, run_a, length, VIN_LOG_MAX, 8 * VIN_READ_GROUPS_MAX);
     if (c.number == 0) {
         closed_means_composed(n, run_a, length, c);

@@ -249,6 +249,30 @@ static memory text_of(const vin_plan *p)
     return file_of((uint8_t *)text, (size_t)n);
 }
 
+/* Salvage with its report: a line an entry and one behind; the log is the library's. */
+static void try_salvage(const run *capture, const vin_plan *p, const memory *plan_text, const memory *file)
+{
+    static uint64_t report[CAPTURE_ROOM / 3];
+    vin_salvaged s = vin_plan_salvage(p, capture->bytes, capture->length, log_room, sizeof log_room, times_room, sizeof times_room, report,
+                                      sizeof report / sizeof *report);
+    memory out = file_of(NULL, 0), text = file_of(NULL, 0);
+    arguments a = {{plan_text->name, file->name}, 2, {NULL}, {0}};
+    uint64_t lines = 0;
+    a.values[OPT_OUT] = out.name;
+    a.values[OPT_REPORT] = text.name;
+    a.values[OPT_JSON] = capture->length % 2 ? "" : NULL;
+    must(salvage_command.run(&a) == (s.number == VIN_DONE ? DONE : REFUSED));
+    run wrote = bytes_of(&out), said = bytes_of(&text);
+    for (size_t n = 0; n < said.length; n++)
+        lines += said.bytes[n] == '\n';
+    must(wrote.length == s.bytes && memcmp(wrote.bytes, log_room, wrote.length) == 0);
+    must(lines == (s.number == VIN_DONE ? s.entries + 1 : 0));
+    free(wrote.bytes);
+    free(said.bytes);
+    close(out.file);
+    close(text.file);
+}
+
 /* The commands over files, which take longer: they end as the library answers. */
 static void try_commands(const run *capture, const vin_plan *p, vin_answer plain, vin_answer closed)
 {
@@ -264,6 +288,7 @@ static void try_commands(const run *capture, const vin_plan *p, vin_answer plain
     free(wrote.bytes);
     must(run_files(&dump_command, plan_text, &m, &wrote) == (dealt ? DONE : REFUSED));
     free(wrote.bytes);
+    try_salvage(capture, p, plan_text, &m);
     close(m.file);
     close(text.file);
 }

@@ -145,13 +145,10 @@ patched composite.capture 132 "052710"
 refused "vin: bad: refused by 12 at word 132 (group 1, track 1, word 4): 052710: the frame time's micro is 10000; it must be below 10000" \
     read composite.plan bad -o new
 
-# 13, 14 and 15: words.sh; 18: profile.sh; 19: replay.sh
-
-# What a number means: each has its page, and no other number has.
 # 13, 14 and 15: words.sh; 17: shift.sh; 18: profile.sh; 19: replay.sh
 
 # What a number means: each has its page, and no other number has.
-for n in {0..15} 17 18 19; do
+for n in {0..15} {17..20}; do
     "${vin[@]}" explain $n >out.txt
     result "explain $n" $?
     head -n 1 out.txt >have

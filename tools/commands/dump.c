@@ -29,20 +29,6 @@ static bool is_wanted(const wanted *w, const stored *s, const mark *m)
            && (!w->no_fill || s->slot != SLOT_DATA || !is_fill(s)) && (!w->faults || m->fault);
 }
 
-/* What the word is where it stands. */
-static const char *meaning(const vin_plan *plan, const stored *s)
-{
-    static const char *const furniture[] = {"sync", "frame time high", "frame time low", "frame time micro",
-                                            "CRC"};
-    if (s->slot != SLOT_DATA)
-        return furniture[s->slot];
-    if (s->label == LABEL_FILL)
-        return is_fill(s) ? "fill" : "fill, not AAAA";
-    if (plan->kinds[s->bus] == VIN_KIND_UNUSED)
-        return "bus not used";
-    return label_name(plan->kinds[s->bus], s->label);
-}
-
 static void add_head(buffer *to)
 {
     add(to, "%7s  %5s %5s %4s  %-8s %-6s  %3s %5s %4s  %-17s item\n", "place", "group", "track", "word",
@@ -65,7 +51,7 @@ static void add_word(buffer *to, const vin_plan *plan, const stored *s, const ma
         add(to, "  %3s %5s %4s  ", "", "", "");
     else
         add(to, "  %3" PRIu32 " %5" PRIu32 " %4" PRIX32 "  ", s->bus, s->label, s->info);
-    add(to, any ? "%-17s " : "%s", meaning(plan, s));
+    add(to, any ? "%-17s " : "%s", word_meaning(plan, s));
     add(to, "%s%s%s%s\n", item, time, fault, m->fault && m->why ? m->why : "");
 }
 

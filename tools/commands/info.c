@@ -46,11 +46,6 @@ static int count_log(const char *name, const run *log, tally *t)
     return good ? DONE : MISUSE;
 }
 
-static const char *plural(uint64_t count)
-{
-    return count == 1 ? "" : "s";
-}
-
 /* "first to last, so much apart" */
 static void add_span(buffer *to, uint64_t first, uint64_t last)
 {

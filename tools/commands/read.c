@@ -18,14 +18,6 @@ static int write_reading(const reading *r, const char *to, const char *times)
     return good ? DONE : MISUSE;
 }
 
-/* In a pipe the times are often not wanted; beside a file they are easily forgotten. */
-static void say_dropped_times(const reading *r, const char *to)
-{
-    if (r->answer.times > 0 && !is_standard(to))
-        complain("%s: note: frame times not kept: %llu; --times-out FILE writes them",
-                 input_name(r->call.capture_name).text, (unsigned long long)r->answer.times);
-}
-
 static int run_read(const arguments *given)
 {
     reading r;
@@ -42,7 +34,7 @@ static int run_read(const arguments *given)
     if (status == DONE) {
         say_notes(&r);
         if (!times)
-            say_dropped_times(&r, to);
+            say_times_unwritten(r.call.capture_name, r.answer.times, to);
     }
     drop_reading(&r);
     return status;

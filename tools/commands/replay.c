@@ -20,11 +20,6 @@ typedef struct {
     uint32_t capacity, slots;
 } replaying;
 
-static const char *plural(uint64_t count)
-{
-    return count == 1 ? "" : "s";
-}
-
 /* ==== What is counted ==== */
 
 /* The items of a log, its marks, and the losses that they tell of. */

@@ -35,9 +35,13 @@ module _ (p : Plan) (s : Shape p) where
   group-room n g size e l = let k : suc g ≤ n = l in omega (arith, mul-le-mul-right (3 * groupWords p) k)
 
   -- what is lent of the capture for the group g, and of the row that it is dealt to
+  pub part-long : (c : List ℕ) (g : ℕ) → g * (3 * groupWords p) + 3 * groupWords p ≤ length c
+      → length (take (g * (3 * groupWords p) + 3 * groupWords p - g * (3 * groupWords p)) (drop (g * (3 * groupWords p)) c)) ≡ 3 * groupWords p
+  part-long c g h = simp (length-take, length-drop) (omega (arith, h))
+
   pub part-length : (c : List ℕ) (n g : ℕ) → length c ≡ n * (3 * groupWords p) → g < n
       → length (take (g * (3 * groupWords p) + 3 * groupWords p - g * (3 * groupWords p)) (drop (g * (3 * groupWords p)) c)) ≡ 3 * groupWords p
-  part-length c n g e l = simp (length-take, length-drop) (omega (arith, group-room n g (length c) e l))
+  part-length c n g e l = part-long c g (group-room n g (length c) e l)
 
   not-both : {A : Type 0} {f : Fault} {k q : ℕ} → f ≡ none → f ≡ found k q → A
   not-both e d = let z : _≡_ {A = ℕ} 0 1 = cc in absurd (omega arith)

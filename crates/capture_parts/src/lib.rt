@@ -1,13 +1,13 @@
-// What every reading of a capture shares: whole groups, each lent its own bytes, their frame times, and a refusal.
+// What every reading of a capture shares: whole groups, each lent its own bytes, where a data word stands, the frame times, and a refusal.
 ghost use mathlib.Core.Path.{_≡_};
 ghost use mathlib.Core.List.{_++_};
-ghost use Prim.Native.Nat.{_*_, _/_, _%_, _≤_};
+ghost use Prim.Native.Nat.{_*_, _/_, _%_, _^_, _<_, _≤_};
 ghost use lib.Dec.{eqb};
 ghost use lib.ListN.{length, drop};
 ghost use Rattle.format.specs.Answer.{refusal};
 ghost use Rattle.format.specs.Group.{groupTime};
 ghost use Rattle.format.specs.Lists.{list};
-ghost use Rattle.format.specs.Plan.{groupWords, timesNeeded};
+ghost use Rattle.format.specs.Plan.{groupWords, slots, storedAt, timesNeeded};
 ghost use Rattle.format.specs.Laws.Limits.{Shape};
 ghost use Rattle.capture_parts.specs.Room.{earlier, shortOf};
 use format::Answer;
@@ -48,6 +48,17 @@ pub fn is_whole(plan: Plan, length: usize) -> bool
     ensures { λ r. ⌜ r ≡ eqb (length % (3 * groupWords plan)) 0 ⌝ }
 {
     narrow::remainder(length, 3 * group_words(plan)) == 0
+}
+
+// Where the data word of this number stands in the capture: of its group, which has `count` of them, and there as it is dealt.
+pub fn stored_place(plan: Plan, count: usize, number: u64) -> u64
+    requires { ⌜ Shape plan × (count ≡ slots plan) × (number < 2 ^ 32) ⌝ }
+    ensures { λ r. ⌜ r ≡ storedAt plan number ⌝ }
+{
+    let n = number as usize;
+    let group = narrow::quotient(n, count);
+    let place = group_read::place_of(plan, group_read::lead(plan) + narrow::remainder(n, count));
+    (group * (plan.tracks * plan.words) + place) as u64
 }
 
 // The frame times of n groups.

@@ -17,8 +17,9 @@ use Rattle.data_word.specs.Meaning.{Brings, Closes}
 use Rattle.data_word.proofs.Meaning.{Finished, finished}
 use Rattle.log_write.specs.Pen.{Wrote}
 use Rattle.data_run.specs.declared.Pass.{Pass}
-use Rattle.data_run.specs.Pass.{Brought, Strings, stepPen, stepOut}
-use Rattle.data_run.proofs.OneSlot.{step-bits, step-wrote}
+use Rattle.data_put.specs.Put.{Strings, stepPen, stepOut}
+use Rattle.data_put.proofs.Steps.{step-bits, step-wrote}
+use Rattle.data_run.specs.Pass.{Brought}
 
 -- the cut item
 pub finish-cut : (h : Held) (at : ℕ) (r : Step) → Closes (finish h at) r → r .bad ≡ true → finish h at ≡ stopped 13 at at

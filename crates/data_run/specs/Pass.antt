@@ -19,9 +19,10 @@ use Rattle.data_items.specs.declared.Taken.{Taken}
 use Rattle.data_items.specs.Taken.{Took}
 use Rattle.data_run.specs.declared.fill.Fills.{Fills}
 use Rattle.log_write.specs.declared.Pen.{Pen}
+use Rattle.data_put.specs.Put.{stepPen, stepOut}
 use Rattle.data_run.specs.declared.Pass.{Pass}
 use Rattle.data_run.specs.Fills.{oddFill, onFill, onData, fillsIn, quiet, noFill}
-use Rattle.log_write.specs.Pen.{penPut, penIn, Wrote, start}
+use Rattle.log_write.specs.Pen.{Wrote, start}
 use Rattle.format.specs.declared.Held.the-variants.{Nothing}
 
 -- before the first word
@@ -32,20 +33,6 @@ startPass = record { held = flat Nothing; since = 0; pen = start; fills = noFill
 abbrev pub fillPass : Bool → ℕ → ℕ → ℕ → ℕ → Pass → Pass
 fillPass parity code i number word x =
     record { held = x .held; since = x .since; pen = x .pen; fills = onFill (x .fills) number (oddFill code i (busOf parity word)); bad = 0 }
-
--- a step's two strings go to the log
-abbrev pub stepPen : Pen → Step → Pen
-stepPen w r = penPut (penPut w (r .first) (r .«first_width»)) (r .second) (r .«second_width»)
-
-abbrev pub stepOut : List ℕ → Pen → Step → List ℕ
-stepOut out w r = penIn (penIn out w (r .first) (r .«first_width»)) (penPut w (r .first) (r .«first_width»)) (r .second) (r .«second_width»)
-
--- the two strings fit their widths
-pub record Strings (r : Step) : Type 0 where
-  pub first-fits : r .first < 2 ^ (r .«first_width»)
-  pub second-fits : r .second < 2 ^ (r .«second_width»)
-  pub first-short : r .«first_width» ≤ 56
-  pub second-short : r .«second_width» ≤ 56
 
 -- a bad word is told by its number, one up, and by that of the first word of the item that it broke
 abbrev pub stepPass : ℕ → Pass → Step → Pass

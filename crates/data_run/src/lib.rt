@@ -10,13 +10,15 @@ ghost use Rattle.format.specs.Word.{fill, sent};
 ghost use Rattle.format.specs.Reader.{counted, run};
 ghost use Rattle.data_word.specs.Holding.{heldOf, Sane};
 ghost use Rattle.data_items.specs.Row.{Words};
+ghost use Rattle.data_put.specs.Put.{Strings};
 ghost use Rattle.data_run.specs.Fills.{fillsIn, allFill};
-ghost use Rattle.data_run.specs.Pass.{FromPass, PastFill, RanTo, Sound, Strings, itemsPass, leastOf, passOut, startPass, stepOut, stepPass, stepPen, wordOut, wordPass};
+ghost use Rattle.data_run.specs.Pass.{FromPass, PastFill, RanTo, Sound, itemsPass, leastOf, passOut, startPass, stepPass, wordOut, wordPass};
 use crate::fill::Fills;
 use crate::fill::is_odd_fill;
 use crate::fill::on_data;
 use crate::fill::on_fill;
 use data_items::Taken;
+use data_put::put_step;
 use data_word::Holding;
 use data_word::Step;
 use format::Kind;
@@ -47,15 +49,6 @@ pub fn start_pass() -> Pass
         },
         bad: 0,
     }
-}
-
-// The bits of the items that a word finished.
-pub fn put_step(pen: Pen, out: &mut [u8], step: Step) -> Pen
-    requires { ⌜ (pen .bits < 2 ^ 60) × Strings step ⌝ }
-    ensures { λ r. ⌜ (r ≡ stepPen pen step) × (now (out .exit) ≡ stepOut (now (out .entry)) pen step) ⌝ }
-{
-    let half = pen.put(out, step.first, step.first_width);
-    half.put(out, step.second, step.second_width)
 }
 
 // A data word that was fed.

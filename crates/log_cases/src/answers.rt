@@ -16,7 +16,7 @@ pub(crate) fn say_number(number: u64) {
     io::print_decimal(1, number);
 }
 
-fn say_answer(a: Answer) {
+pub(crate) fn say_answer(a: Answer) {
     say_number(a.number as u64);
     say_number(a.place);
     say_number(a.second);
@@ -32,7 +32,7 @@ pub(crate) fn say_unless(good: bool) {
 }
 
 // "On success: number 0, place 0 and the lengths written": so many bytes. "A refusal returns number, place and lengths 0."
-fn is_asked(a: Answer, number: u64, value: u64) -> bool {
+pub(crate) fn is_asked(a: Answer, number: u64, value: u64) -> bool {
     if a.number == 0 {
         return number == 0 && a.place == 0 && a.bytes == value;
     }

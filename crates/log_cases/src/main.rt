@@ -13,6 +13,7 @@ mod plans;
 mod profile;
 mod replay;
 mod runs;
+mod salvage;
 mod shift;
 mod slots;
 mod words;
@@ -25,10 +26,11 @@ use crate::join::join_line;
 use crate::pick::pick_line;
 use crate::profile::profile_line;
 use crate::replay::replay_line;
+use crate::salvage::salvage_line;
 use crate::shift::shift_line;
 use crate::slots::slots_line;
 
-// A call is told by its second letter: pick, join, shift, profile, replay, slots, items.
+// A call is told by its second letter: pick, join, shift, profile, replay, slots, items, salvage.
 fn call_line(letter: u8, line: &[u8], asked: &[u8]) {
     match letter {
         b'i' => pick_line(line, asked),
@@ -38,6 +40,7 @@ fn call_line(letter: u8, line: &[u8], asked: &[u8]) {
         b'e' => replay_line(line, asked),
         b'l' => slots_line(line, asked),
         b't' => items_line(line, asked),
+        b'a' => salvage_line(line, asked),
         _ => say_unknown(),
     }
 }

@@ -1,5 +1,6 @@
 // Words, of four bytes each in a line, and rows of times.
 
+ghost use Prim.Native.Nat.{_≤_};
 ghost use Rattle.io.specs.Counts.{Counts};
 use crate::answers::begins;
 use crate::answers::say_number;
@@ -54,7 +55,7 @@ fn put_byte(bytes: &mut [u8], at: usize, byte: u32) -> usize {
     at
 }
 
-fn put_four(bytes: &mut [u8], at: usize, word: u32) -> usize {
+pub(crate) fn put_four(bytes: &mut [u8], at: usize, word: u32) -> usize {
     let second = put_byte(bytes, at, word / 16777216);
     let third = put_byte(bytes, second, word / 65536);
     let last = put_byte(bytes, third, word / 256);
@@ -72,11 +73,18 @@ pub(crate) fn spread(words: &[u32], bytes: &mut [u8]) -> usize {
     end
 }
 
-// The row of times: its digest, and whether so many entries were counted and it begins as asked for behind the second place.
+// A row of eight bytes an entry: its digest, and whether so many entries were counted and it begins as asked for, from a field on.
+pub(crate) fn say_row(entries: u64, row: &[u8], asked: &[u8], field: usize)
+    requires { ⌜ field ≤ 7 ⌝ }
+{
+    let mut wanted = [0; 1024];
+    let size = run(asked, field + 1, &mut wanted);
+    let end = part(&wanted, size);
+    say_number(digest_of(row));
+    say_unless(entries == number(asked, field) && begins(row, &wanted[..end]));
+}
+
+// The row of times, asked for behind the second place.
 pub(crate) fn say_times(entries: u64, times: &[u8], asked: &[u8]) {
-    let mut row = [0; 1024];
-    let size = run(asked, 6, &mut row);
-    let end = part(&row, size);
-    say_number(digest_of(times));
-    say_unless(entries == number(asked, 5) && begins(times, &row[..end]));
+    say_row(entries, times, asked, 5);
 }

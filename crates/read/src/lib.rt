@@ -18,6 +18,7 @@ use capture_parts::groups_in;
 use capture_parts::is_whole;
 use capture_parts::refusal;
 use capture_parts::short_of;
+use capture_parts::stored_place;
 use capture_parts::times_of;
 use capture_parts::write_times;
 use format::Answer;
@@ -26,7 +27,6 @@ use format::Plan;
 use plan::legal;
 use plan::slots;
 use read_groups::read_groups;
-use read_groups::stored_place;
 
 // The first n bytes of `from`.
 fn copy(to: &mut [u8], from: &[u8], n: usize)

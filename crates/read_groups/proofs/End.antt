@@ -22,7 +22,8 @@ use Rattle.data_run.specs.declared.fill.Fills.{Fills}
 use Rattle.read_groups.specs.declared.Walk.{Walk}
 use Rattle.log_write.specs.Pen.{closedIn, closedSize, Wrote}
 use Rattle.log_write.proofs.Writing.{wrote-none, closed-size, closed-long, closed-log}
-use Rattle.data_run.specs.Pass.{stepPen, stepOut, startPass}
+use Rattle.data_put.specs.Put.{stepPen, stepOut}
+use Rattle.data_run.specs.Pass.{startPass}
 use Rattle.read_groups.specs.Misplaced.{told, placeUp}
 use Rattle.read_groups.specs.Groups.{Through, Walked}
 use Rattle.notices.specs.Laws.Capture.{told15, placedUp, open-in}

@@ -8,13 +8,13 @@ ghost use Rattle.format.specs.Laws.Limits.{Shape};
 ghost use Rattle.group_read.specs.Row.{dealtCount};
 ghost use Rattle.read_groups.specs.End.{Ended};
 ghost use Rattle.read_groups.specs.Groups.{brokenAt, Walked};
+use capture_parts::stored_place;
+use data_put::put_step;
 use data_run::Pass;
 use data_run::on_row;
-use data_run::put_step;
 use data_run::start_pass;
 use format::Kind;
 use format::Plan;
-use narrow;
 use notices::at_end;
 use notices::has_arinc;
 
@@ -37,17 +37,6 @@ pub struct Outcome {
     pub bytes: usize,
     pub notice: u64,
     pub misplaced: u64,
-}
-
-// Where the data word of this number stands in the capture: of its group, which has `count` of them, and there as it is dealt.
-pub fn stored_place(plan: Plan, count: usize, number: u64) -> u64
-    requires { ⌜ Shape plan × (count ≡ slots plan) × (number < 2 ^ 32) ⌝ }
-    ensures { λ r. ⌜ r ≡ storedAt plan number ⌝ }
-{
-    let n = number as usize;
-    let group = narrow::quotient(n, count);
-    let place = group_read::place_of(plan, group_read::lead(plan) + narrow::remainder(n, count));
-    (group * (plan.tracks * plan.words) + place) as u64
 }
 
 // A bad word, by its number one up, and the first word of the item that it broke, by its number.

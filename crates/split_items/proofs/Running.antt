@@ -28,7 +28,8 @@ use Rattle.data_word.proofs.Flat.{nothing-is-held}
 use Rattle.data_word.proofs.Meaning.{nothing-is-sane}
 use Rattle.data_run.specs.declared.Pass.{Pass}
 use Rattle.data_run.specs.declared.fill.Fills.{Fills}
-use Rattle.data_run.specs.Pass.{Brought, RanTo, Sound, startPass, stepOut, stepPen}
+use Rattle.data_put.specs.Put.{stepOut, stepPen}
+use Rattle.data_run.specs.Pass.{Brought, RanTo, Sound, startPass}
 use Rattle.data_run.proofs.Closing.{finish-cut, closed-bits, closed-got, closed-items, closed-wrote}
 use Rattle.log_write.specs.declared.Pen.{Pen}
 use Rattle.log_write.specs.Pen.{Wrote}

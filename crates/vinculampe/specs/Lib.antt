@@ -5,3 +5,4 @@ pub mod Laws
 pub mod Scripts
 pub mod Promises
 pub mod SplitPromises
+pub mod SalvagePromises

@@ -1,6 +1,7 @@
 // Vinculampe's entry points, from Rattle and from C (document 01, "Programs"): composing and both readings, and what is done with
 // logs alone (document 02).
 pub mod full;
+pub mod salvaging;
 pub mod split;
 
 ghost use mathlib.Core.Bool.{false, true};
@@ -17,6 +18,7 @@ ghost use Rattle.read_from_c.specs.Reading.{GivenBytes, readingFrom};
 pub use crate::full::vin_compose_full;
 pub use crate::full::vin_read_closed_full;
 pub use crate::full::vin_read_full;
+pub use crate::salvaging::vin_salvage;
 pub use crate::split::vin_read_items;
 pub use crate::split::vin_read_words;
 pub use compose::compose;
@@ -31,6 +33,7 @@ pub use log_shift::shift;
 pub use read::read;
 pub use read::read_closed;
 use read_from_c::read_from;
+pub use salvage::salvage;
 pub use split_items::read_items;
 pub use split_words::read_words;
 

@@ -3,8 +3,8 @@ use mathlib.Core.Path.{ap}
 use Rattle.log_write.specs.Pen.{penPut}
 use Rattle.log_write.specs.declared.Pen.{Pen}
 use borrow.Author.Needs.{needs}
-use Rattle.data_run.proofs.put_step.Statement.{statement}
-use Rattle.data_run.proofs.put_step.Tie as tie
+use Rattle.data_put.proofs.put_step.Statement.{statement}
+use Rattle.data_put.proofs.put_step.Tie as tie
 
 put-requires : tie.Need-put-requires
 put-requires c κs = search needs

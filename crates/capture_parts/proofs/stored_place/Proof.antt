@@ -6,8 +6,8 @@ use mathlib.Core.Path.{_≡_, ap, ap₂, _∙_}
 use Rattle.format.specs.Plan.{groupWords, slots, lead, placeOf, storedAt}
 use Rattle.format.specs.Laws.Limits.{free, group-most, lead-few, slots-most, mostGroupWords}
 use Rattle.group_read.specs.Row.{dealtCount}
-use Rattle.read_groups.proofs.stored_place.Statement.{statement}
-use Rattle.read_groups.proofs.stored_place.Tie as tie
+use Rattle.capture_parts.proofs.stored_place.Statement.{statement}
+use Rattle.capture_parts.proofs.stored_place.Tie as tie
 
 some : (c : tie.Start) → 0 < c .args .count
 some c = omega (arith, c .pre .1, free (c .args .plan) (c .pre .0))

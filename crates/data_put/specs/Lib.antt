@@ -1,0 +1,2 @@
+-- What the contract cites beside the definitions of `format`.
+pub mod Put

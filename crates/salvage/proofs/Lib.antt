@@ -1,0 +1,2 @@
+-- The laws of the call.
+pub mod Rooms

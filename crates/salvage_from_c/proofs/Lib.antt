@@ -1,0 +1,3 @@
+-- The laws of a salvage from C.
+pub mod Rooms
+pub mod NamedKinds

@@ -1,0 +1,3 @@
+-- The laws of the salvage of groups.
+pub mod Groups
+pub mod Turns

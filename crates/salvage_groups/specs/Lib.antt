@@ -1,0 +1,3 @@
+-- What the contracts cite beside the definitions of `format` and `salvage_rules`.
+pub mod Reel
+pub mod Tally
