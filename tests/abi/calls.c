@@ -34,7 +34,7 @@ uint64_t case_number(void)
 /* What stands before its name: a law, and damage, is no function's name. */
 static const char *prefix(void)
 {
-    static const char *const others[] = {"laws", "halves", "dropouts", "account"};
+    static const char *const others[] = {"laws", "halves", "dropouts", "account", "buses"};
     for (size_t n = 0; n < sizeof others / sizeof *others; n++)
         if (strcmp(run.function->name, others[n]) == 0)
             return "";

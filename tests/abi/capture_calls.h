@@ -7,7 +7,7 @@
 #include "../../independent/rules.h"
 #include "calls.h"
 
-#define EVERY_FUNCTION(one) one(read_words) one(read_items) one(halves) one(salvage) one(dropouts) one(account)
+#define EVERY_FUNCTION(one) one(read_words) one(read_items) one(halves) one(salvage) one(dropouts) one(account) one(buses)
 
 #define DECLARE_FUNCTION(name) extern const compared name##_function;
 EVERY_FUNCTION(DECLARE_FUNCTION)

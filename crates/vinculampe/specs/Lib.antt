@@ -6,3 +6,4 @@ pub mod Scripts
 pub mod Promises
 pub mod SplitPromises
 pub mod SalvagePromises
+pub mod BusPromises
