@@ -68,9 +68,69 @@ static int salvage_agrees(enum who who)
            && memcmp(report_out, report_expected, 8 * e.entries) == 0;
 }
 
-enum { WORDS, ITEMS, SALVAGE, FUNCTIONS };
-static const column columns[FUNCTIONS] = {{"read_words", call_words}, {"read_items", call_items}, {"salvage", call_salvage}};
-static int (*const agrees[FUNCTIONS])(enum who) = {words_agree, items_agree, salvage_agrees};
+/* The plain reading, to which a stream is compared. */
+static vin_answer call_read(enum who who)
+{
+    return (who == FAST ? fast_read_full : vin_read_full)(FULL, capture, capture_len, log_out, sizeof log_out, TIMES_OUT);
+}
+
+/* The whole capture in pieces of so many bytes, opened and closed; log and times stand one behind the other. */
+static vin_answer call_pieces(enum who who, size_t size)
+{
+    static uint8_t state[VIN_STATE_BYTES], piece_log[VIN_STREAM_LOG_ROOM];
+    vin_answer a = (who == FAST ? fast_stream_open : vin_stream_open)(FULL, state, sizeof state), all = {0, 0, 0, 0, 0};
+    for (size_t at = 0; at < capture_len && a.number == 0; at += size) {
+        size_t length = capture_len - at < size ? capture_len - at : size;
+        a = (who == FAST ? fast_stream_feed : vin_stream_feed)(state, sizeof state, capture + at, length, piece_log, sizeof piece_log,
+                                                               times_out + 8 * all.times, sizeof times_out - 8 * all.times);
+        memcpy(log_out + all.bytes, piece_log, a.bytes);
+        all.bytes += a.bytes;
+        all.times += a.times;
+    }
+    if (a.number == 0)
+        a = (who == FAST ? fast_stream_close : vin_stream_close)(state, sizeof state, piece_log, sizeof piece_log);
+    memcpy(log_out + all.bytes, piece_log, a.bytes);
+    all.bytes += a.bytes;
+    all.number = a.number;
+    return all;
+}
+
+static vin_answer call_stream(enum who who)
+{
+    return call_pieces(who, VIN_PIECE_MAX);
+}
+
+static vin_answer call_stream_64(enum who who)
+{
+    return call_pieces(who, 64);
+}
+
+/* What was composed comes back. */
+static int reads_back(vin_answer a)
+{
+    return a.number == 0 && a.bytes == t.log_len && memcmp(log_out, t.log, t.log_len) == 0 && a.times == t.times_len / 8
+           && memcmp(times_out, t.times, t.times_len) == 0;
+}
+
+static int read_agrees(enum who who)
+{
+    return reads_back(call_read(who));
+}
+
+static int stream_agrees(enum who who)
+{
+    return reads_back(call_stream(who));
+}
+
+static int stream_64_agrees(enum who who)
+{
+    return reads_back(call_stream_64(who));
+}
+
+enum { WORDS, ITEMS, SALVAGE, READ, STREAM, STREAM_64, FUNCTIONS };
+static const column columns[FUNCTIONS] = {{"read_words", call_words}, {"read_items", call_items},     {"salvage", call_salvage},
+                                          {"read", call_read},        {"stream_4096", call_stream}, {"stream_64", call_stream_64}};
+static int (*const agrees[FUNCTIONS])(enum who) = {words_agree, items_agree, salvage_agrees, read_agrees, stream_agrees, stream_64_agrees};
 
 /* ==== The rows ==== */
 
@@ -147,6 +207,9 @@ int main(int argc, char **argv)
         line_blank();
         line_blank();
         figure(SALVAGE, tape_len);
+        line_blank();
+        line_blank();
+        line_blank();
         line_end();
     }
     table_end();

@@ -28,6 +28,11 @@ vin_answer fast_read_words(uint32_t words, uint32_t tracks, uint32_t frame_time,
 vin_answer fast_read_items(uint32_t words, uint32_t tracks, uint32_t frame_time, uint32_t crc, uint32_t parity, uint32_t crc_label,
                            uint32_t fill_bus, const uint8_t *kinds, size_t kinds_len, const uint32_t *words_in, size_t words_in_len,
                            uint8_t *log, size_t log_len);
+vin_answer fast_stream_open(uint32_t words, uint32_t tracks, uint32_t frame_time, uint32_t crc, uint32_t parity, uint32_t crc_label,
+                            uint32_t fill_bus, const uint8_t *kinds, size_t kinds_len, uint8_t *state, size_t state_len);
+vin_answer fast_stream_feed(uint8_t *state, size_t state_len, const uint8_t *piece, size_t piece_len, uint8_t *log, size_t log_len,
+                            uint8_t *times, size_t times_len);
+vin_answer fast_stream_close(uint8_t *state, size_t state_len, uint8_t *log, size_t log_len);
 vin_salvaged fast_salvage(uint32_t words, uint32_t tracks, uint32_t frame_time, uint32_t crc, uint32_t parity, uint32_t crc_label,
                           uint32_t fill_bus, const uint8_t *kinds, size_t kinds_len, const uint8_t *capture, size_t capture_len,
                           uint8_t *log, size_t log_len, uint8_t *times, size_t times_len, uint64_t *report, size_t report_len);

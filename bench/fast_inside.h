@@ -65,6 +65,8 @@ int fast_plan_of(fast_plan *p, uint32_t words, uint32_t tracks, uint32_t frame_t
 vin_answer refuse_log(const fast_plan *p, const uint8_t *log, size_t log_len);
 vin_answer refuse_capture(const fast_plan *p, const uint8_t *capture, size_t capture_len, int closed);
 vin_answer refuse_frames(const fast_plan *p, const uint8_t *capture, size_t groups);
+/* Of a group by itself: 9 to 12, then 13 with these words held before it, the first of them at this place. Places count the group's words. */
+vin_answer refuse_group_words(const fast_plan *p, const uint8_t *group, const uint32_t *held, size_t held_len, size_t first);
 vin_answer refuse_words(const fast_plan *p, const uint32_t *row, size_t row_len);
 
 /* The remainder after one word, and after two: a byte's share of it is looked up for each. */

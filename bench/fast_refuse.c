@@ -278,6 +278,21 @@ vin_answer refuse_frames(const fast_plan *p, const uint8_t *capture, size_t grou
     abort(); /* the quick way refused what has no fault */
 }
 
+vin_answer refuse_group_words(const fast_plan *p, const uint8_t *group, const uint32_t *held, size_t held_len, size_t first)
+{
+    walker k = {FREE, 0, FREE, 0, 0};
+    vin_answer a = stored_fault(p, group, 0);
+    if (a.number == 0)
+        a = time_fault(p, group, 0);
+    for (size_t n = 0; a.number == 0 && n < held_len; n++)
+        walk(&k, p, held[n], first);
+    if (a.number == 0)
+        a = data_fault(p, group, 0, &k);
+    if (a.number == 0)
+        abort(); /* the quick way refused what has no fault */
+    return a;
+}
+
 static vin_answer open_in_row(const fast_plan *p, const uint32_t *row, size_t row_len)
 {
     size_t waits[64] = {0}, open = SIZE_MAX;

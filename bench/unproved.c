@@ -79,6 +79,35 @@ vin_answer vin_read_items(FULL, const uint8_t *kinds, size_t kinds_len, const ui
     return answer;
 }
 
+void inner_vin_stream_open(vin_answer *answer, FULL, const run *kinds, const run *state);
+void inner_vin_stream_feed(vin_answer *answer, const run *state, const run *piece, const run *log, const run *times);
+void inner_vin_stream_close(vin_answer *answer, const run *state, const run *log);
+
+vin_answer vin_stream_open(FULL, const uint8_t *kinds, size_t kinds_len, uint8_t *state, size_t state_len)
+{
+    vin_answer answer;
+    run k = {kinds, kinds_len}, s = {state, state_len};
+    inner_vin_stream_open(&answer, words, tracks, frame_time, crc, parity, crc_label, fill_bus, &k, &s);
+    return answer;
+}
+
+vin_answer vin_stream_feed(uint8_t *state, size_t state_len, const uint8_t *piece, size_t piece_len, uint8_t *log, size_t log_len,
+                           uint8_t *times, size_t times_len)
+{
+    vin_answer answer;
+    run s = {state, state_len}, p = {piece, piece_len}, l = {log, log_len}, t = {times, times_len};
+    inner_vin_stream_feed(&answer, &s, &p, &l, &t);
+    return answer;
+}
+
+vin_answer vin_stream_close(uint8_t *state, size_t state_len, uint8_t *log, size_t log_len)
+{
+    vin_answer answer;
+    run s = {state, state_len}, l = {log, log_len};
+    inner_vin_stream_close(&answer, &s, &l);
+    return answer;
+}
+
 void inner_vin_salvage(vin_salvaged *answer, FULL, const run *kinds, const run *capture, const run *log, const run *times, const run *report);
 
 vin_salvaged vin_salvage(FULL, const uint8_t *kinds, size_t kinds_len, const uint8_t *capture, size_t capture_len, uint8_t *log, size_t log_len,

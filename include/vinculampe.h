@@ -6,7 +6,8 @@
  * vin_plan_read and vin_plan_read_closed, which take the plan as a struct and null pointers for
  * runs of length 0; and vin_compose, vin_read and vin_read_closed, with the usual CRC label and fill
  * bus, as they were before these could be chosen. vin_read_words and vin_read_items are the two halves
- * of a reading: the words in the data slots, and the log that such words are. vin_salvage reads what is left
+ * of a reading: the words in the data slots, and the log that such words are. vin_stream_open,
+ * vin_stream_feed and vin_stream_close read a capture as it arrives, piece by piece. vin_salvage reads what is left
  * of a damaged capture, and reports what it dropped. Logs alone, without a plan, are worked on by
  * vin_pick, vin_join, vin_shift, vin_profile and vin_replay; over them functions of the same names
  * with vin_log_ in front, as vin_log_pick, take null pointers for runs of length 0. C99 or later, or
@@ -18,7 +19,8 @@
  *     refused by a number and a place, both fixed for each input (enum vin_number).
  *     The earliest fault in the stated order is the one returned.
  *   - A refused call has changed no lent byte. A successful call has changed only the lengths it
- *     answers; beyond them the lent buffers keep their old content.
+ *     answers; beyond them the lent buffers keep their old content. (Of a stream, see there: its state
+ *     is changed by some refusals too, and the call that meets a fault hands out what is whole.)
  *   - What was composed reads back to the same log and times. The closed reading accepts a capture
  *     exactly when some log and times compose to those very bytes; there is only one such log, and
  *     that is what it returns.
@@ -27,10 +29,12 @@
  *   - A pointer is valid for its length. Null pointers, with length 0, are taken by the functions
  *     whose names begin with vin_plan_ or vin_log_, and by no other.
  *   - The runs of one call that are written (out; log, words, times and report of a reading; the times
- *     of vin_shift, the only run that is both read and written) overlap no other run of that call.
+ *     of vin_shift and the state of a stream, which are both read and written) overlap no other run of
+ *     that call.
  *     Runs that are only read may overlap each other: vin_join may be given one log twice.
  *
- * Threads: the functions keep nothing between calls and use no heap, no global and no file. They
+ * Threads: the functions keep nothing between calls (a stream's state is lent, and all of it) and use
+ * no heap, no global and no file. They
  * may be called from any number of threads at once, as long as no run that one call writes is used
  * elsewhere meanwhile. A call needs up to VIN_STACK_BYTES of the thread's stack, also for one item,
  * the functions on logs alone up to VIN_LOG_STACK_BYTES: give a thread that calls them a stack of
@@ -135,8 +139,9 @@ typedef struct {
     uint64_t place;  /* the refusal's place; 0 if done */
     uint64_t second; /* VIN_DATA_WORD's second place: where the item that broke begins; else 0 */
     uint64_t bytes;  /* bytes written: composing: of capture; all others: of log; vin_read_words: the
-                        words written; 0 if refused */
-    uint64_t times;  /* reading, shifting: frame times written, of eight bytes each; 0 if refused */
+                        words written; 0 if refused, but for the vin_stream_feed that meets a fault */
+    uint64_t times;  /* reading, shifting: frame times written, of eight bytes each; 0 if refused, but
+                        for the same */
 } vin_answer;
 
 /* C marks a number that composing can answer, R one that the readings can, L one that the functions
@@ -175,7 +180,8 @@ enum vin_number {
 
     /*   R    The capture is above VIN_CAPTURE_MAX bytes or not whole groups: place is its length in
      *        bytes. Of vin_read_items: there are more than VIN_WORDS_MAX words: place is their
-     *        number. */
+     *        number. Of vin_stream_feed: the capture would be above VIN_STREAM_MAX bytes: place is the
+     *        bytes before that piece; of vin_stream_close: the bytes so far are not whole groups. */
     VIN_CAPTURE = 8,
 
     /*   R    A frame's first word is not FAF320. Place: that word. */
@@ -208,8 +214,16 @@ enum vin_number {
     /* C R    An error notice is open: no ARINC word of its bus and channel stands between it and their
      *        next notice, or the end. Place: of the earliest open one the item's first bit; in reading
      *        its word, the earliest in dealt order. Composing tests it after 2, 3 and 4 over the whole
-     *        log and before 5; reading after the cut item and before 14. */
+     *        log and before 5; reading after the cut item and before 14. Of a stream: the one that a
+     *        second notice shows open, in a group the first shown; at the close the earliest. */
     VIN_NOTICE = 15,
+
+    /*   R    vin_stream_feed and vin_stream_close only, before all else: a piece above VIN_PIECE_MAX
+     *        bytes; less than VIN_STREAM_LOG_ROOM bytes lent for log; with frame time fewer lent
+     *        entries than the groups that the piece fills (none are needed after a fault); a call
+     *        after the close; a state whose numbers do not fit together; a state run of another length
+     *        than VIN_STATE_BYTES, of vin_stream_open too. Place 0, and the state is unchanged. */
+    VIN_STREAM = 16,
 
     /*     L  Shifting only: the shift is above VIN_SHIFT_MOST either way: place 0. Or a time tag would
      *        fall below zero or reach VIN_TIME_LIMIT: place is its item's first bit. Or a frame time
@@ -249,6 +263,7 @@ static inline const char *vin_text(uint32_t number_)
     case VIN_DATA_WORD: return "a data word starts or continues no item, or an item is cut";
     case VIN_FILL: return "misplaced fill";
     case VIN_NOTICE: return "an error notice has no ARINC word behind it";
+    case VIN_STREAM: return "a stream's piece, room or state is not as it must be";
     case VIN_SHIFT: return "the shift is too large, or a time would leave its range";
     case VIN_PROFILE: return "an item breaks a rule of the one-bus test profile";
     case VIN_REPLAY: return "a mark in the log, a limit broken, or events that are wrong";
@@ -277,6 +292,10 @@ static inline const char *vin_text(uint32_t number_)
 #define VIN_TIME_BYTES 8             /* bytes of a frame time */
 #define VIN_CRC_LABEL 3              /* the usual label of the CRC word */
 #define VIN_FILL_BUS 0               /* the usual bus code of fill */
+#define VIN_STATE_BYTES 7168         /* bytes of a stream's state */
+#define VIN_PIECE_MAX 4096           /* bytes of a piece */
+#define VIN_STREAM_LOG_ROOM 12288    /* bytes to be lent for log in each call of a stream */
+#define VIN_STREAM_MAX UINT64_C(1099511627776) /* bytes of a capture that arrives: 2^40 */
 #define VIN_STACK_BYTES 73728        /* stack that a call needs: measured, tests/abi/stack.c */
 #define VIN_LOG_STACK_BYTES 36864    /* the same of a call of a function on logs alone */
 
@@ -325,6 +344,14 @@ static inline const char *vin_text(uint32_t number_)
 #define VIN_ITEMS_LOG_BYTES(words_len) \
     (VIN_LOG_OF_WORDS_((size_t)(words_len)) < VIN_LOG_MAX ? VIN_LOG_OF_WORDS_((size_t)(words_len)) \
                                                           : VIN_LOG_MAX)
+
+/* A stream: the most groups that a piece of piece_len bytes fills, so many frame times are to be lent with frame
+ * time; VIN_STREAM_TIMES_MAX is that of any plan and piece. (The log that a call hands out is never longer
+ * than 8,859 bytes: two groups of three tracks of 455 words have 2,724 data words of at most 26 bits, and there
+ * are at most 7 bits and an item of 43 from before.) */
+#define VIN_STREAM_GROUPS(piece_len, words, tracks) \
+    ((VIN_GROUP_BYTES(words, tracks) - 1 + (size_t)(piece_len)) / VIN_GROUP_BYTES(words, tracks))
+#define VIN_STREAM_TIMES_MAX 11
 
 /* Salvaging: entries of the report that always suffice. A dropped group is one entry, and each data slot
  * of any other at most one. Log and times need no more than those of a reading. For the exact number lend
@@ -478,6 +505,85 @@ vin_answer vin_read_items(uint32_t words, uint32_t tracks,
                           const uint8_t *kinds, size_t kinds_len,
                           const uint32_t *words_in, size_t words_in_len,
                           uint8_t *log, size_t log_len);
+
+/* ---- A capture as it arrives ----
+ *
+ * vin_stream_open prepares a state, vin_stream_feed takes a piece of the capture and hands out the log
+ * and the frame times of the groups that it completes, vin_stream_close ends the capture and hands out the
+ * log's end. The bytes and times that the calls hand out, one after the other, are the log and its
+ * times. The rules are those of vin_read_full, but the capture may run to VIN_STREAM_MAX bytes, and the
+ * log is not bounded; so VIN_ROOM and VIN_TIME_ROOM cannot be answered, nor can VIN_FILL.
+ *
+ * However a capture is cut, where no call is refused by VIN_STREAM, the same bytes and times are handed
+ * out and the end is the same: where vin_read_full is done, its log and times; where it is refused by 9
+ * to 13, its number and both places, unless VIN_NOTICE was shown first.
+ *
+ * A group is taken whole or not at all. A command or an ARINC word is complete when the next data word
+ * shows whether it is tagged, or at the close. On a fault in a group, what is handed out are the whole
+ * bytes of the items that were complete before that group, with no end mark, and the times of the groups
+ * before it. The call that meets the fault hands these out still, and answers their lengths with the
+ * fault's number and places. From then on the state repeats number and places and nothing is written,
+ * until vin_stream_close has repeated them: then the state is closed.
+ *
+ *   state, state_len   VIN_STATE_BYTES bytes that the caller keeps between the calls, and copies or stores
+ *                      as he likes: they hold no pointer. They are the same on every machine;
+ *                      docs/RULES.md describes them. Any other bytes are taken too: those that pass
+ *                      the written test are worked on as they say, all others are VIN_STREAM. A closed
+ *                      state is all zeros. At the opening they may hold anything
+ *
+ * An example, without frame time; `ready` and `receive` are the program's own.
+ *
+ *     static uint8_t state[VIN_STATE_BYTES], piece[VIN_PIECE_MAX], log[VIN_STREAM_LOG_ROOM];
+ *     vin_answer a = vin_plan_stream_open(&plan, state, sizeof state);
+ *     while (a.number == VIN_DONE && ready()) {
+ *         a = vin_plan_stream_feed(state, sizeof state, piece, receive(piece), log, sizeof log, NULL, 0);
+ *         fwrite(log, 1, a.bytes, out);
+ *     }
+ *     if (a.number == VIN_DONE) {
+ *         a = vin_plan_stream_close(state, sizeof state, log, sizeof log);
+ *         fwrite(log, 1, a.bytes, out);
+ *     }
+ */
+
+/* Opens a stream: the state is written whole.
+ *
+ * Checks, in this order: VIN_STREAM for state_len; VIN_PLAN, and the state is then closed. It never looks
+ * at what the state holds, so that a stream can be opened anew at any time. */
+vin_answer vin_stream_open(uint32_t words, uint32_t tracks,
+                           uint32_t frame_time, uint32_t crc, uint32_t parity,
+                           uint32_t crc_label, uint32_t fill_bus,
+                           const uint8_t *kinds, size_t kinds_len,
+                           uint8_t *state, size_t state_len);
+
+/* Feeds a piece, which may be empty.
+ *
+ *   piece, piece_len   the next bytes of the capture, VIN_PIECE_MAX at most
+ *   log, log_len       room for log, VIN_STREAM_LOG_ROOM bytes or more; answer.bytes are written
+ *   times, times_len   room for the frame times of the groups that the piece fills, bytes waiting
+ *                      from earlier pieces counted; answer.times of eight bytes each are written. Bytes
+ *                      beyond whole eights count for nothing. If frame time is off times_len may be 0
+ *
+ * Checks, in this order: VIN_STREAM, and the state is unchanged; the fault of a state that has one; VIN_CAPTURE
+ * if more than VIN_STREAM_MAX bytes would be taken, the piece is then unread and the state unchanged; then group
+ * by group VIN_SYNC, VIN_PARITY, VIN_CRC, VIN_FRAME_TIME, VIN_DATA_WORD as vin_read_full has them, and
+ * VIN_NOTICE last, for a notice that a second one shows open. Places count the stored words of the whole
+ * capture from 0. */
+vin_answer vin_stream_feed(uint8_t *state, size_t state_len,
+                           const uint8_t *piece, size_t piece_len,
+                           uint8_t *log, size_t log_len,
+                           uint8_t *times, size_t times_len);
+
+/* Closes a stream: writes the item that was complete but might yet have been tagged, the end mark and zero
+ * bits up to a whole byte, 7 bytes at most. But for VIN_STREAM the state is closed then, whatever the answer
+ * is; a refused close writes nothing else.
+ *
+ *   log, log_len   room for log, VIN_STREAM_LOG_ROOM bytes or more, too; answer.bytes are written
+ *
+ * Checks, in this order: VIN_STREAM, and the state is unchanged; the fault of a state that has one;
+ * VIN_CAPTURE if the bytes so far are not whole groups; VIN_DATA_WORD for a cut item; VIN_NOTICE for the
+ * earliest notice, in dealt order, that is open. */
+vin_answer vin_stream_close(uint8_t *state, size_t state_len,
+                            uint8_t *log, size_t log_len);
 
 /* What vin_salvage answers. */
 typedef struct {
@@ -765,6 +871,31 @@ static inline vin_answer vin_plan_read_items(const vin_plan *plan_,
                           plan_->kinds, sizeof plan_->kinds,
                           words_ ? words_ : nothing_, words_len_,
                           vin_room_(log_), log_len_);
+}
+
+static inline vin_answer vin_plan_stream_open(const vin_plan *plan_,
+                                              uint8_t *state_, size_t state_len_)
+{
+    return vin_stream_open(plan_->words, plan_->tracks, plan_->frame_time, plan_->crc, plan_->parity,
+                           vin_plan_label_(plan_), plan_->fill_bus,
+                           plan_->kinds, sizeof plan_->kinds,
+                           vin_room_(state_), state_len_);
+}
+
+/* These two take no plan: the state has it. */
+static inline vin_answer vin_plan_stream_feed(uint8_t *state_, size_t state_len_,
+                                              const uint8_t *piece_, size_t piece_len_,
+                                              uint8_t *log_, size_t log_len_,
+                                              uint8_t *times_, size_t times_len_)
+{
+    return vin_stream_feed(vin_room_(state_), state_len_, vin_run_(piece_), piece_len_,
+                           vin_room_(log_), log_len_, vin_room_(times_), times_len_);
+}
+
+static inline vin_answer vin_plan_stream_close(uint8_t *state_, size_t state_len_,
+                                               uint8_t *log_, size_t log_len_)
+{
+    return vin_stream_close(vin_room_(state_), state_len_, vin_room_(log_), log_len_);
 }
 
 static inline vin_salvaged vin_plan_salvage(const vin_plan *plan_,

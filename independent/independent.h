@@ -78,6 +78,16 @@ ind_salvaged ind_salvage(uint32_t words, uint32_t tracks, uint32_t frame_time, u
                          uint32_t fill_bus, const uint8_t *kinds, size_t kinds_len, const uint8_t *capture, size_t capture_len, uint8_t *log,
                          size_t log_len, uint8_t *times, size_t times_len, uint64_t *report, size_t report_len);
 
+/* Document 02, K4: what vin_stream_open, vin_stream_feed and vin_stream_close must answer. The state is IND_STATE_BYTES bytes, read and
+ * written over. */
+#define IND_STATE_BYTES 7168
+
+ind_answer ind_stream_open(uint32_t words, uint32_t tracks, uint32_t frame_time, uint32_t crc, uint32_t parity, uint32_t crc_label,
+                           uint32_t fill_bus, const uint8_t *kinds, size_t kinds_len, uint8_t *state, size_t state_len);
+ind_answer ind_stream_feed(uint8_t *state, size_t state_len, const uint8_t *piece, size_t piece_len, uint8_t *log, size_t log_len,
+                           uint8_t *times, size_t times_len);
+ind_answer ind_stream_close(uint8_t *state, size_t state_len, uint8_t *log, size_t log_len);
+
 /* Document 02, K7: what vin_pick and vin_join must answer. Bit c of `buses` is bus code c. */
 ind_answer ind_pick(const uint8_t *log, size_t log_len, uint16_t buses, uint8_t *out, size_t out_len);
 ind_answer ind_join(const uint8_t *first, size_t first_len, const uint8_t *second, size_t second_len, uint8_t *out, size_t out_len);

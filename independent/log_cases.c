@@ -138,7 +138,8 @@ static const struct {
     const char *name;
     void (*line)(const char *line, const char *asked);
 } calls[] = {{"pick ", pick_line}, {"join ", join_line}, {"shift ", shift_line}, {"profile ", profile_line}, {"replay ", replay_line},
-             {"slots ", slots_line}, {"items ", items_line}, {"salvage ", salvage_line}};
+             {"slots ", slots_line}, {"items ", items_line}, {"salvage ", salvage_line}, {"cut ", cut_line},
+             {"add ", add_line}, {"end ", end_line}};
 
 static void step(const char *line)
 {

@@ -59,5 +59,8 @@ void replay_line(const char *line, const char *asked);
 void slots_line(const char *line, const char *asked);
 void items_line(const char *line, const char *asked);
 void salvage_line(const char *line, const char *asked);
+void cut_line(const char *line, const char *asked);
+void add_line(const char *line, const char *asked);
+void end_line(const char *line, const char *asked);
 
 #endif

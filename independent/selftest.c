@@ -361,6 +361,7 @@ int main(void)
     selftest_full_plan();
     selftest_split();
     selftest_salvage();
-    puts("selftest: K9, K5, K8, K3, K10: as document 02 says");
+    selftest_stream();
+    puts("selftest: K9, K5, K8, K3, K10, K4: as document 02 says");
     return 0;
 }

@@ -19,6 +19,7 @@
 void selftest_full_plan(void);
 void selftest_split(void);
 void selftest_salvage(void);
+void selftest_stream(void);
 void selftest_pick_join(void);
 void selftest_shift(void);
 void selftest_profile(void);

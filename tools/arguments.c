@@ -40,6 +40,9 @@ static const struct option long_options[] = {
     ROW("--plan", OPT_PLAN, required_argument),
     ROW("--report", OPT_REPORT, required_argument),
     ROW("--strict", OPT_STRICT, no_argument),
+    ROW("--list", OPT_LIST, no_argument),
+    ROW("--piece", OPT_PIECE, required_argument),
+    ROW("--quiet", OPT_QUIET, no_argument),
     {"help", no_argument, NULL, 'h'},
     {NULL, 0, NULL, 0},
 };

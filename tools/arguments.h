@@ -31,6 +31,9 @@ enum option_id {
     OPT_PLAN,
     OPT_REPORT,
     OPT_STRICT,
+    OPT_LIST,
+    OPT_PIECE,
+    OPT_QUIET,
     OPTIONS
 };
 

@@ -5,8 +5,8 @@
 #include "arguments.h"
 
 #define EVERY_COMMAND(one) \
-    one(compose) one(read) one(words) one(items) one(salvage) one(check) one(dump) one(info) one(list) one(pack) one(pick) one(join) one(shift) \
-        one(profile) one(replay) one(plan) one(explain)
+    one(compose) one(read) one(words) one(items) one(follow) one(salvage) one(check) one(dump) one(info) one(list) one(pack) one(pick) \
+        one(join) one(shift) one(profile) one(replay) one(plan) one(explain)
 
 /* Where the command's main output goes. */
 enum main_output {

@@ -3,7 +3,7 @@
 #include "../include/vinculampe.h"
 
 #define BIT "the bit of the log where the item or end mark begins, counted from 0"
-#define GROUP_FAULT "read, words, check, info; dump marks it, salvage drops the group"
+#define GROUP_FAULT "read, words, follow, check, info; dump marks it, salvage drops the group"
 #define WORD "the word's number in the capture, counted from 0; its bytes begin at three times that"
 
 /* By number, some of which no refusal has: who gives it, what its place counts, what it means to a person,
@@ -13,7 +13,7 @@ static const struct {
 } numbers[] = {
     [VIN_DONE] = {"every command", "0", "The work is done."},
     [VIN_PLAN] =
-        {"compose, read, words, items, salvage, check, dump, info, plan", "0",
+        {"compose, read, words, items, follow, salvage, check, dump, info, plan", "0",
          "The plan breaks a rule. vin names the rule: the number of words or tracks is outside its\n"
          "limits, several tracks go with other than exactly one used bus, parity goes with a used bus\n"
          "above 7, the CRC word's label is above 7, or fill's bus is above 15, or above 7 with parity."},
@@ -39,11 +39,11 @@ static const struct {
     [VIN_TIME_ROOM] = {"callers in C only", "the number of times needed",
                        "The room lent for the frame times is too short. vin lends enough."},
     [VIN_CAPTURE] =
-        {"read, words, items, salvage, check, dump, info",
-         "the capture's length in bytes; of items the number of words",
+        {"read, words, items, follow, salvage, check, dump, info",
+         "the capture's length in bytes; of items the number of words; of follow the bytes so far",
          "The capture is longer than 1048576 bytes, or is not whole groups: the file was cut, or the\n"
          "plan's words or tracks are not those of the capture. Of items: there are more than 349525\n"
-         "words."},
+         "words. Of follow: more than 2^40 bytes came, or the capture ended inside a group."},
     [VIN_SYNC] =
         {GROUP_FAULT, WORD,
          "A frame does not begin with the sync word FAF320. At word 0 the file is no capture; at the\n"
@@ -61,7 +61,7 @@ static const struct {
          "(micro, below 10000). This is not such a word: it was damaged, or the capture was made\n"
          "without frame time."},
     [VIN_DATA_WORD] =
-        {"read, items, check, info; dump marks it, salvage drops the word",
+        {"read, items, follow, check, info; dump marks it, salvage drops the word",
          WORD "; of items its number among the words",
          "This word starts or continues no item: its bus is unused; its label does not follow what\n"
          "came before it (a low syllable without its high one, a time word without its command); it is\n"
@@ -78,11 +78,18 @@ static const struct {
          "word's group, or on another bus than the plan's fill-bus; vin says which. The plain reading,\n"
          "vin read, passes over such fill."},
     [VIN_NOTICE] =
-        {"compose, read, items, check, info",
+        {"compose, read, items, follow, check, info",
          "in a log the bit where the notice begins, in a capture its word, both counted from 0",
          "An error notice tells of the next ARINC word of its bus and channel. This one is open: the\n"
          "channel's next notice, or the end, comes before such a word. It is the earliest such notice;\n"
-         "in a capture of several tracks the earliest in dealt order. vin list shows such a log."},
+         "in a capture of several tracks the earliest in dealt order; follow names the first that it sees to\n"
+         "be open. vin list shows such a log."},
+    [VIN_STREAM] =
+        {"callers in C only", "0",
+         "Of a capture as it arrives: a piece is longer than 4096 bytes, less than 12288 bytes are lent for\n"
+         "the log, or, with frame time, fewer entries than the groups that the piece fills; the state was\n"
+         "closed, is not of 7168 bytes, or its numbers do not fit together. It comes before all else and\n"
+         "changes nothing. vin follow lends enough and keeps its state."},
     [VIN_SHIFT] =
         {"shift",
          "0 for the shift; the bit of the log where the item begins; or the frame time's index; each from 0",

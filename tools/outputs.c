@@ -32,8 +32,7 @@ static bool begins(const char *name, const char *with)
     return strncmp(name, with, strlen(with)) == 0;
 }
 
-/* Standard output, an open file by its name, or a file that exists and is not regular: a device, a pipe. */
-static bool is_direct(const char *name)
+bool is_direct(const char *name)
 {
     struct stat there;
     return is_standard(name) || begins(name, "/dev/std") || begins(name, "/dev/fd/")

@@ -20,6 +20,9 @@ bool write_files(const output *outputs, size_t count);
 /* The same for one output, as an exit status. */
 int write_one(const char *name, const run *bytes);
 
+/* Standard output, an open file by its name, or a file that exists and is not regular: a device, a pipe. */
+bool is_direct(const char *name);
+
 bool write_open(int file, const uint8_t *bytes, size_t length);
 
 #endif

@@ -117,9 +117,9 @@ static void say_too_long(const call *c, size_t group)
     else
         complain("%s: refused by 8 at %zu: the capture has more than %d bytes", name.text, c->capture.length,
                  VIN_CAPTURE_MAX);
-    complain(
-        "%s: hint: cut it into pieces of whole groups (split -b %zu); an item that lies across a cut is lost",
-        name.text, VIN_CAPTURE_MAX / group * group);
+    complain("%s: hint: vin follow reads a capture of any length; or cut it into pieces of whole groups "
+             "(split -b %zu): an item that lies across a cut is lost",
+             name.text, VIN_CAPTURE_MAX / group * group);
 }
 
 static void say_length_refused(const call *c)

@@ -34,7 +34,7 @@ uint64_t case_number(void)
 /* What stands before its name: a law, and damage, is no function's name. */
 static const char *prefix(void)
 {
-    static const char *const others[] = {"laws", "halves", "dropouts", "account", "buses"};
+    static const char *const others[] = {"laws", "halves", "dropouts", "account", "twisted", "cuttings", "buses"};
     for (size_t n = 0; n < sizeof others / sizeof *others; n++)
         if (strcmp(run.function->name, others[n]) == 0)
             return "";
@@ -118,6 +118,8 @@ static void lend_run(const lent_run *r, size_t n, bool at_end)
 /* How many of the run's bytes may have been written by a call with this answer. */
 static size_t written(const lent_run *r, const outcome *o)
 {
+    if (r->role == STATE)
+        return r->length;
     return r->role == READ_ONLY ? 0 : (size_t)o->of[r->counted_by] * r->unit;
 }
 

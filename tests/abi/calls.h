@@ -19,7 +19,8 @@ typedef struct {
 enum role {
     READ_ONLY,
     ROOM, /* its first bytes are written, as many as outcome.of[counted_by] x unit; it holds a pattern before */
-    ROW   /* it is read, and its first bytes are written over in the same way */
+    ROW,  /* it is read, and its first bytes are written over in the same way */
+    STATE /* it is read, and all of it may be written over */
 };
 
 typedef struct {

@@ -7,7 +7,7 @@
 #include "../../independent/rules.h"
 #include "calls.h"
 
-#define EVERY_FUNCTION(one) one(read_words) one(read_items) one(halves) one(salvage) one(dropouts) one(account) one(buses)
+#define EVERY_FUNCTION(one) one(read_words) one(read_items) one(halves) one(salvage) one(dropouts) one(account) one(stream_open) one(stream_feed) one(stream_close) one(twisted) one(cuttings) one(buses)
 
 #define DECLARE_FUNCTION(name) extern const compared name##_function;
 EVERY_FUNCTION(DECLARE_FUNCTION)

@@ -213,6 +213,52 @@ static void salvaged(void)
     CHECK(a.number == VIN_ROOM && a.place == 1);
 }
 
+/* A stream: a command whose tag ends in the next piece, a fault, a plan that is illegal; sizes and null pointers. */
+static void streamed(void)
+{
+    enum { GROUP = VIN_GROUP_BYTES(128, 1) };
+    static const uint8_t tagged[] = {0x12, 0x42, 0x10, 0xC0, 0x00, 0x00, 0x00, 0x40, 0x05, 0x00};
+    static uint8_t capture[2 * GROUP], state[VIN_STATE_BYTES], log[VIN_STREAM_LOG_ROOM];
+    size_t most_groups = 0;
+    vin_plan plan = VIN_PLAN_INIT(128, 1);
+    vin_answer a;
+    plan.kinds[2] = VIN_KIND_1553;
+    for (size_t words = 128; words <= 512; words++)
+        for (size_t tracks = 1; tracks <= 4; tracks++) {
+            size_t groups = VIN_STREAM_GROUPS(VIN_PIECE_MAX, words, tracks);
+            most_groups = groups > most_groups ? groups : most_groups;
+            CHECK((groups * VIN_GROUP_SLOTS(words, tracks, 0, 0) * 26 + 43 + 7) / 8 <= 8859);
+        }
+    CHECK(most_groups == VIN_STREAM_TIMES_MAX && VIN_STREAM_GROUPS(0, 128, 1) == 0 && VIN_STREAM_GROUPS(1, 128, 1) == 1);
+    CHECK(VIN_STREAM_MAX == UINT64_C(1) << 40);
+    for (size_t n = 0; n < sizeof capture / 3; n++)
+        memcpy(capture + 3 * n, n % 128 == 0 ? "\xFA\xF3\x20" : "\x01\xAA\xAA", 3);
+    memcpy(capture + GROUP - 9, "\x2F\x08\x43\x27\x00\x00\x26\x00\x01", 9);
+    memcpy(capture + GROUP + 3, "\x25\x00\x05", 3);
+    a = vin_plan_stream_open(&plan, state, sizeof state);
+    CHECK(a.number == VIN_DONE && a.bytes == 0);
+    a = vin_plan_stream_feed(state, sizeof state, capture, GROUP, log, sizeof log, NULL, 0);
+    CHECK(a.number == VIN_DONE && a.bytes == 0 && a.times == 0);
+    a = vin_plan_stream_feed(state, sizeof state, NULL, 0, log, sizeof log, NULL, 0);
+    CHECK(a.number == VIN_DONE && a.bytes == 0);
+    a = vin_plan_stream_feed(state, sizeof state, capture + GROUP, GROUP, log, sizeof log, NULL, 0);
+    CHECK(a.number == VIN_DONE && a.bytes == 9 && memcmp(log, tagged, 9) == 0);
+    a = vin_plan_stream_close(state, sizeof state, log, sizeof log);
+    CHECK(a.number == VIN_DONE && a.bytes == 1 && log[0] == tagged[9]);
+    a = vin_plan_stream_close(state, sizeof state, log, sizeof log);
+    CHECK(a.number == VIN_STREAM && a.place == 0);
+    vin_plan_stream_open(&plan, state, sizeof state);
+    a = vin_plan_stream_feed(state, sizeof state, capture + 1, GROUP, log, sizeof log, NULL, 0);
+    CHECK(a.number == VIN_SYNC && a.place == 0);
+    a = vin_plan_stream_close(state, sizeof state, log, sizeof log);
+    CHECK(a.number == VIN_SYNC && a.place == 0 && a.bytes == 0);
+    CHECK(vin_plan_stream_open(&plan, NULL, 0).number == VIN_STREAM);
+    CHECK(vin_plan_stream_feed(NULL, 0, NULL, 0, NULL, 0, NULL, 0).number == VIN_STREAM);
+    CHECK(vin_plan_stream_close(NULL, 0, NULL, 0).number == VIN_STREAM);
+    plan.words = 127;
+    CHECK(vin_plan_stream_open(&plan, state, sizeof state).number == VIN_PLAN && state[7] == 0);
+}
+
 /* The limits of a frame's length, for each number of tracks: both are legal in all three functions, one less and one more in none. */
 static void lengths(void)
 {
@@ -316,6 +362,7 @@ int main(void)
     lengths();
     halves();
     salvaged();
+    streamed();
     full_plans();
     most_groups();
     puts("header: its sizes, its limits and its example hold");

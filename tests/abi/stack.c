@@ -81,10 +81,25 @@ static void call_salvage(const vin_plan *plan, size_t length, bool roomy)
     capture[length - 4] ^= roomy ? 0 : 0x10;
 }
 
+/* In pieces as long as can be, and at the end one that is no capture; without room a byte a call, for some groups. */
+static void call_stream(const vin_plan *plan, size_t length, bool roomy)
+{
+    static uint8_t state[VIN_STATE_BYTES];
+    size_t size = roomy ? VIN_PIECE_MAX : 1, end = roomy || length < 10000 ? length : 10000;
+    vin_plan_stream_open(plan, state, sizeof state);
+    for (size_t at = 0; at < end; at += size)
+        vin_plan_stream_feed(state, sizeof state, capture + at, end - at < size ? end - at : size, back, sizeof back, back_times,
+                             sizeof back_times);
+    if (roomy)
+        vin_plan_stream_feed(state, sizeof state, capture + 1, VIN_PIECE_MAX, back, sizeof back, back_times, sizeof back_times);
+    vin_plan_stream_close(state, sizeof state, back, sizeof back);
+}
+
 static const struct {
     const char *name;
     void (*call)(const vin_plan *plan, size_t length, bool roomy);
-} over_captures[] = {{"read_words", call_read_words}, {"read_items", call_read_items}, {"salvage", call_salvage}};
+} over_captures[] = {{"read_words", call_read_words}, {"read_items", call_read_items}, {"salvage", call_salvage},
+                     {"stream", call_stream}};
 enum { OVER_CAPTURES = sizeof over_captures / sizeof *over_captures };
 
 /* ==== A call in a painted stack ==== */

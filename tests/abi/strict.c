@@ -14,5 +14,6 @@ size_t sizes_of_int(int frame_words, int frame_tracks, int yes, int bytes)
            + VIN_READ_GROUPS(bytes, frame_words, frame_tracks) + VIN_READ_TIMES_BYTES(bytes, frame_words, frame_tracks, yes)
            + VIN_PICKED_BYTES(bytes) + VIN_JOINED_BYTES(bytes, bytes) + VIN_BUS_BIT(frame_tracks) + VIN_ALL_BUSES
            + VIN_REPLAYED_BYTES(bytes) + VIN_READ_WORDS(bytes, frame_words, frame_tracks, yes, yes) + VIN_ITEMS_LOG_BYTES(bytes)
-           + VIN_REPORT_ENTRIES(bytes, frame_words, frame_tracks, yes, yes) + VIN_ENTRY_NUMBER(bytes) + VIN_ENTRY_INDEX(bytes);
+           + VIN_REPORT_ENTRIES(bytes, frame_words, frame_tracks, yes, yes) + VIN_ENTRY_NUMBER(bytes) + VIN_ENTRY_INDEX(bytes)
+           + VIN_STREAM_GROUPS(bytes, frame_words, frame_tracks) + (size_t)VIN_STREAM_MAX;
 }

@@ -78,6 +78,36 @@ static void salvaging(const numbers *n, const uint8_t *capture, size_t length, u
                      a.entries - (a.entries > 0 && (less & 4)));
 }
 
+/* A stream's state, and what a call of it may write. */
+typedef struct {
+    uint8_t state[VIN_STATE_BYTES], log[VIN_STREAM_LOG_ROOM], row[8 * VIN_STREAM_TIMES_MAX];
+} streamed;
+
+static streamed ours, theirs;
+
+static void must_stream_alike(vin_answer a, ind_answer b)
+{
+    if (a.number != b.number || a.place != b.place || a.second != b.second || a.bytes != b.bytes || a.times != b.times
+        || memcmp(&ours, &theirs, sizeof ours) != 0)
+        abort();
+}
+
+/* The capture as it arrives, in pieces of so many bytes; where `twist` is not 0, a byte of the state is changed before some of them. */
+static void streaming(const numbers *n, const uint8_t *capture, size_t length, size_t size, uint8_t twist)
+{
+    must_stream_alike(vin_stream_open(FULL, ours.state, VIN_STATE_BYTES), ind_stream_open(FULL, theirs.state, VIN_STATE_BYTES));
+    for (size_t at = 0, call = 0; at <= length && call < 100; at += size, call++) {
+        size_t piece = length - at < size ? length - at : size;
+        if (twist != 0 && call % 4 == 3)
+            ours.state[(call * 131 + twist * 37u) % 1100] ^= twist, theirs = ours;
+        must_stream_alike(vin_stream_feed(ours.state, VIN_STATE_BYTES, capture + at, piece, ours.log, sizeof ours.log, ours.row, sizeof ours.row),
+                          ind_stream_feed(theirs.state, VIN_STATE_BYTES, capture + at, piece, theirs.log, sizeof theirs.log, theirs.row,
+                                          sizeof theirs.row));
+    }
+    must_stream_alike(vin_stream_close(ours.state, VIN_STATE_BYTES, ours.log, sizeof ours.log),
+                      ind_stream_close(theirs.state, VIN_STATE_BYTES, theirs.log, sizeof theirs.log));
+}
+
 /* What the closed reading accepts composes to those very bytes. */
 static void closed_means_composed(const numbers *n, const uint8_t *capture, size_t length, vin_answer c)
 {
@@ -174,6 +204,7 @@ int LLVMFuzzerTestOneInput(const uint8_t *data, size_t size)
             run_a[rest[size - 1] * (length - 1) / 255] ^= data[9] | 1;
     }
     salvaging(n, run_a, length, data[8]);
+    streaming(n, run_a, length, data[9] % 8 == 0 ? 1 + data[8] : data[9] % 2 == 0 ? VIN_PIECE_MAX : 64 + 16 * (size_t)data[8], data[9] % 3 == 0 ? data[8] : 0);
     c = read_both(n, run_a, length, VIN_LOG_MAX, 8 * VIN_READ_GROUPS_MAX);
     if (c.number == 0) {
         closed_means_composed(n, run_a, length, c);

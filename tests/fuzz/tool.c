@@ -273,6 +273,25 @@ static void try_salvage(const run *capture, const vin_plan *p, const memory *pla
     close(text.file);
 }
 
+/* A capture as it arrives: it ends as the plain reading does, but for a log that is too long; where that accepts the log is the same. */
+static void try_follow(const vin_plan *p, const run *capture, vin_answer plain, const memory *plan_text, const memory *file)
+{
+    memory out = file_of(NULL, 0);
+    arguments a = {{plan_text->name, file->name}, 2, {NULL}, {0}};
+    bool accepts = plain.number == VIN_DONE || plain.number == VIN_ROOM;
+    a.values[OPT_OUT] = out.name;
+    a.values[OPT_PIECE] = capture->length % 2 ? "" : NULL;
+    a.numbers[OPT_PIECE] = 1 + capture->length % VIN_PIECE_MAX;
+    must(follow_command.run(&a) == (accepts ? DONE : REFUSED));
+    run wrote = bytes_of(&out);
+    if (plain.number == VIN_DONE) {
+        vin_plan_read(p, capture->bytes, capture->length, log_room, sizeof log_room, times_room, sizeof times_room);
+        must(wrote.length == plain.bytes && memcmp(wrote.bytes, log_room, wrote.length) == 0);
+    }
+    free(wrote.bytes);
+    close(out.file);
+}
+
 /* The commands over files, which take longer: they end as the library answers. */
 static void try_commands(const run *capture, const vin_plan *p, vin_answer plain, vin_answer closed)
 {
@@ -289,6 +308,7 @@ static void try_commands(const run *capture, const vin_plan *p, vin_answer plain
     must(run_files(&dump_command, plan_text, &m, &wrote) == (dealt ? DONE : REFUSED));
     free(wrote.bytes);
     try_salvage(capture, p, plan_text, &m);
+    try_follow(p, capture, plain, plan_text, &m);
     close(m.file);
     close(text.file);
 }

@@ -31,7 +31,7 @@ for words in --help -h help; do
     result "vin $words" $?
 done
 # Each command's own page: its usage, the same however it is asked for, and in the list of all.
-commands="compose read words items salvage check dump info list pack pick join shift profile replay plan explain"
+commands="compose read words items follow salvage check dump info list pack pick join shift profile replay plan explain"
 "${vin[@]}" --help | sed -n 's/^  vin \([a-z]*\) .*/\1/p' | tr '\n' ' ' >out.txt
 printf '%s ' $commands >want.txt
 same "the commands of vin --help" want.txt out.txt

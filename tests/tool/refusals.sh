@@ -117,7 +117,7 @@ head -c 1600 four-track.capture >bad
 refused "vin: bad: refused by 8 at 1600: 1600 bytes are not whole groups of 1548 bytes; left over: 52" read four-track.plan bad -o new
 head -c 1048577 /dev/zero >long
 too_long="vin: long: refused by 8 at 1048577: the capture has 1048577 bytes, and at most 1048576 are read
-vin: long: hint: cut it into pieces of whole groups (split -b 1047996); an item that lies across a cut is lost"
+vin: long: hint: vin follow reads a capture of any length; or cut it into pieces of whole groups (split -b 1047996): an item that lies across a cut is lost"
 refused "$too_long" check four-track.plan long
 refused "$too_long" dump four-track.plan long
 "${vin[@]}" check four-track.plan - <<<"" 2>err.txt
@@ -125,7 +125,7 @@ refused "$too_long" dump four-track.plan long
 result "8 of standard input" $?
 cat long long | "${vin[@]}" check four-track.plan - 2>err.txt
 printf '%s\n' "vin: standard input: refused by 8 at 1048577: the capture has more than 1048576 bytes" \
-    "vin: standard input: hint: cut it into pieces of whole groups (split -b 1047996); an item that lies across a cut is lost" >want
+    "vin: standard input: hint: vin follow reads a capture of any length; or cut it into pieces of whole groups (split -b 1047996): an item that lies across a cut is lost" >want
 same "8 of a pipe" want err.txt
 
 # 9, 11: on tracks; 10, 12: with parity
@@ -148,14 +148,14 @@ refused "vin: bad: refused by 12 at word 132 (group 1, track 1, word 4): 052710:
 # 13, 14 and 15: words.sh; 17: shift.sh; 18: profile.sh; 19: replay.sh
 
 # What a number means: each has its page, and no other number has.
-for n in {0..15} {17..20}; do
+for n in {0..20}; do
     "${vin[@]}" explain $n >out.txt
     result "explain $n" $?
     head -n 1 out.txt >have
     "${vin[@]}" explain | sed -n "s/^ *$n  /$n: /p" >want
     same "explain $n" want have
 done
-for n in 16 99 -- x 99999999999999999999 1x; do
+for n in 21 99 -- x 99999999999999999999 1x; do
     [ "$n" = -- ] || misuse "vin: no refusal has the number $n; vin explain lists them" explain "$n"
 done
 rm -f p l t bad long out.txt err.txt have want new

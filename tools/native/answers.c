@@ -15,6 +15,9 @@ void module_vin_read_full(vin_answer *answer, FULL, RUN(const, capture), RUN(, l
 void module_vin_read_closed_full(vin_answer *answer, FULL, RUN(const, capture), RUN(, log), RUN(, times));
 void module_vin_read_words(vin_answer *answer, FULL, RUN(const, capture), uint32_t *words_out, size_t words_out_len, RUN(, times));
 void module_vin_read_items(vin_answer *answer, FULL, const uint32_t *words_in, size_t words_in_len, RUN(, log));
+void module_vin_stream_open(vin_answer *answer, FULL, RUN(, state));
+void module_vin_stream_feed(vin_answer *answer, RUN(, state), RUN(const, piece), RUN(, log), RUN(, times));
+void module_vin_stream_close(vin_answer *answer, RUN(, state), RUN(, log));
 void module_vin_salvage(vin_salvaged *answer, FULL, RUN(const, capture), RUN(, log), RUN(, times), uint64_t *report, size_t report_len);
 void module_vin_pick(vin_answer *answer, RUN(const, log), uint16_t buses, RUN(, out));
 void module_vin_join(vin_answer *answer, RUN(const, first), RUN(const, second), RUN(, out));
@@ -78,6 +81,27 @@ vin_answer vin_read_items(FULL, const uint32_t *words_in, size_t words_in_len, R
 {
     vin_answer answer;
     module_vin_read_items(&answer, ALL_GIVEN, words_in, words_in_len, log, log_len);
+    return answer;
+}
+
+vin_answer vin_stream_open(FULL, RUN(, state))
+{
+    vin_answer answer;
+    module_vin_stream_open(&answer, ALL_GIVEN, state, state_len);
+    return answer;
+}
+
+vin_answer vin_stream_feed(RUN(, state), RUN(const, piece), RUN(, log), RUN(, times))
+{
+    vin_answer answer;
+    module_vin_stream_feed(&answer, state, state_len, piece, piece_len, log, log_len, times, times_len);
+    return answer;
+}
+
+vin_answer vin_stream_close(RUN(, state), RUN(, log))
+{
+    vin_answer answer;
+    module_vin_stream_close(&answer, state, state_len, log, log_len);
     return answer;
 }
 

@@ -4,11 +4,11 @@ use native.Mathlib.Nat.{mod-eq-of-lt}
 use native.Mathlib.Omega.{arith}
 use mathlib.Core.Bool.{true, _&&_}
 use mathlib.Core.Path.{_≡_, refl, sym, ap, _∙_}
-use mathlib.Core.List.{List, [], _∷_, _++_, flatMap}
-use lib.ListN.{length, getD, length-append}
+use mathlib.Core.List.{List, [], _∷_, _++_, append-assoc, append-nil, flatMap}
+use lib.ListN.{length, take, getD, length-append}
 use lib.Dec.{eqb}
 use lib.Pow.{mod-pow-add}
-use lib.Seq.{getD-append-add}
+use lib.Seq.{getD-append-add, take-all}
 use borrow.Author.Tests.{eqb-true}
 use Rattle.format.specs.Lists.{All, nil, cons, Bytes, list}
 use Rattle.format.specs.Laws.Lists.{length-list, list-is, list-same}
@@ -51,22 +51,23 @@ time-back t s h =
     join t (t % 2 ^ 56) (t % 2 ^ 48) (t % 2 ^ 40) (t % 2 ^ 32) (t % 2 ^ 24) (t % 2 ^ 16) _ _ _ _ _ _ _ _
     (sym (mod-eq-of-lt h) ∙ mod-pow-add t 8 56) (mod-pow-add t 8 48) (mod-pow-add t 8 40) (mod-pow-add t 8 32) (mod-pow-add t 8 24) (mod-pow-add t 8 16) (mod-pow-add t 8 8)
 
-at-index : (ts : List ℕ) → All (λ t. t < 2 ^ 64) ts → (i : ℕ) → i < length ts → timeAt (flatMap timeBytes ts) (8 * i) ≡ getD ts i 0
+-- the number i of those written in front
+pub at-index : (ts s : List ℕ) → All (λ t. t < 2 ^ 64) ts → (i : ℕ) → i < length ts → timeAt (flatMap timeBytes ts ++ s) (8 * i) ≡ getD ts i 0
 unfolding flatMap
-at-index [] nil i h = absurd (omega arith)
-at-index (t ∷ ts) (cons l a) zero h =
+at-index [] s nil i h = absurd (omega arith)
+at-index (t ∷ ts) s (cons l a) zero h =
     let e : 8 * 0 ≡ 0 = omega arith in
-    rw e (time-back t (flatMap timeBytes ts) l)
-at-index (t ∷ ts) (cons l a) (suc i) h =
+    rw (e, append-assoc (timeBytes t) (flatMap timeBytes ts) s) (time-back t (flatMap timeBytes ts ++ s) l)
+at-index (t ∷ ts) s (cons l a) (suc i) h =
     let e : 8 * suc i ≡ 8 + 8 * i = omega arith in
-    rw e (time-skip (timeBytes t) (flatMap timeBytes ts) (length-time t) (8 * i) ∙ at-index ts a i (omega arith))
+    rw (e, append-assoc (timeBytes t) (flatMap timeBytes ts) s) (time-skip (timeBytes t) (flatMap timeBytes ts ++ s) (length-time t) (8 * i) ∙ at-index ts s a i (omega arith))
 
 -- numbers below 2 ^ 64, written as bytes, are read back
 pub times-back : (ts : List ℕ) → All (λ t. t < 2 ^ 64) ts → timesFrom (flatMap timeBytes ts) ≡ ts
 times-back ts a =
     let n : length (flatMap timeBytes ts) / 8 ≡ length ts = rw (length-times ts) (omega arith) in
     ap (list (λ i. timeAt (flatMap timeBytes ts) (8 * i)) 0) n
-    ∙ list-is (λ i. timeAt (flatMap timeBytes ts) (8 * i)) ts 0 (λ i h. let e : 0 + i ≡ i = omega arith in rw e (at-index ts a i h))
+    ∙ list-is (λ i. timeAt (flatMap timeBytes ts) (8 * i)) ts 0 (λ i h. let e : 0 + i ≡ i = omega arith in rw e (rw (append-nil (flatMap timeBytes ts)) at (at-index ts [] a i h)))
 
 -- eight bytes are those of the number that they say
 bytes-back-one : (a b c d e f g h : ℕ) (s : List ℕ) → a < 256 → b < 256 → c < 256 → d < 256 → e < 256 → f < 256 → g < 256 → h < 256
@@ -84,16 +85,17 @@ bytes-back-one a b c d e f g h s la lb lc ld le lf lg lh =
     let qh : t % 256 ≡ h = omega arith in
     rw (qa, qb, qc, qd, qe, qf, qg, qh)
 
-eights-back : (n : ℕ) (s : List ℕ) → Bytes s → length s ≡ 8 * n → flatMap timeBytes (list (λ i. timeAt s (8 * i)) 0 n) ≡ s
+-- the first eights of bytes, read as numbers, are written back
+pub eights-back : (n : ℕ) (s : List ℕ) → Bytes s → 8 * n ≤ length s → flatMap timeBytes (list (λ i. timeAt s (8 * i)) 0 n) ≡ take (8 * n) s
 unfolding flatMap list
-eights-back zero [] w e = refl
-eights-back zero (x ∷ s) w e = absurd (omega arith)
+eights-back zero s w e = refl
 eights-back (suc n) (a ∷ b ∷ c ∷ d ∷ f ∷ g ∷ h ∷ i ∷ s) (cons la (cons lb (cons lc (cons ld (cons lf (cons lg (cons lh (cons li w)))))))) e =
     let z : 8 * 0 ≡ 0 = omega arith in
+    let m : 8 * suc n ≡ suc (suc (suc (suc (suc (suc (suc (suc (8 * n)))))))) = omega arith in
     let x : List ℕ = a ∷ b ∷ c ∷ d ∷ f ∷ g ∷ h ∷ i ∷ [] in
     let rest : list (λ k. timeAt (x ++ s) (8 * k)) (0 + 1) n ≡ list (λ k. timeAt s (8 * k)) 0 n =
     list-same (λ k. timeAt (x ++ s) (8 * k)) (λ k. timeAt s (8 * k)) n (0 + 1) 0 (λ k l. let m : 8 * (0 + 1 + k) ≡ 8 + 8 * (0 + k) = omega arith in rw m (time-skip x s refl (8 * (0 + k)))) in
-    rw (z, rest, bytes-back-one a b c d f g h i s la lb lc ld lf lg lh li, eights-back n s w (omega arith))
+    rw (m, z, rest, bytes-back-one a b c d f g h i s la lb lc ld lf lg lh li, eights-back n s w (omega arith))
 eights-back (suc n) [] w e = absurd (omega arith)
 eights-back (suc n) (a ∷ []) w e = absurd (omega arith)
 eights-back (suc n) (a ∷ b ∷ []) w e = absurd (omega arith)
@@ -105,7 +107,9 @@ eights-back (suc n) (a ∷ b ∷ c ∷ d ∷ f ∷ g ∷ h ∷ []) w e = absurd 
 
 -- whole eights of bytes, read as numbers, are written back
 pub bytes-back : (s : List ℕ) → Bytes s → length s % 8 ≡ 0 → flatMap timeBytes (timesFrom s) ≡ s
-bytes-back s w e = eights-back (length s / 8) s w (omega arith)
+bytes-back s w e =
+    let l : length s ≤ 8 * (length s / 8) = omega arith in
+    eights-back (length s / 8) s w (omega arith) ∙ take-all (8 * (length s / 8)) s l
 
 -- each byte of a time is a byte
 pub times-bytes : (ts : List ℕ) → Bytes (flatMap timeBytes ts)

@@ -49,7 +49,8 @@ pub fn named(frame_time: u32, crc: u32, parity: u32, kinds: &[u8]) -> bool
     are_kinds(kinds)
 }
 
-fn kind_of(number: u8) -> Kind
+// The kind that a number names; what names none is unused.
+pub fn kind_of(number: u8) -> Kind
     ensures { λ r. ⌜ r ≡ kindOf number ⌝ }
 {
     match number {
@@ -113,7 +114,8 @@ fn half_at(bytes: &[u8], at: usize) -> u32
     first * 0x1000000 + second * 0x10000 + third * 0x100 + fourth
 }
 
-fn time_at(bytes: &[u8], at: usize) -> u64
+// The number that eight bytes say.
+pub fn time_at(bytes: &[u8], at: usize) -> u64
     requires { ⌜ at + 8 ≤ length (now bytes) ⌝ }
     ensures { λ r. ⌜ r ≡ timeAt (now (bytes .entry)) at ⌝ }
 {

@@ -4,6 +4,7 @@
 // same; what the lines mean is said at the top of that text.
 
 mod answers;
+mod arriving;
 mod digest;
 mod fields;
 mod items;
@@ -19,6 +20,9 @@ mod slots;
 mod words;
 
 use crate::answers::say_unknown;
+use crate::arriving::add_line;
+use crate::arriving::cut_line;
+use crate::arriving::end_line;
 use crate::fields::arrow;
 use crate::fields::line_end;
 use crate::items::items_line;
@@ -30,7 +34,7 @@ use crate::salvage::salvage_line;
 use crate::shift::shift_line;
 use crate::slots::slots_line;
 
-// A call is told by its second letter: pick, join, shift, profile, replay, slots, items, salvage.
+// A call is told by its second letter: pick, join, shift, profile, replay, slots, items, salvage, cut, add, end.
 fn call_line(letter: u8, line: &[u8], asked: &[u8]) {
     match letter {
         b'i' => pick_line(line, asked),
@@ -41,6 +45,9 @@ fn call_line(letter: u8, line: &[u8], asked: &[u8]) {
         b'l' => slots_line(line, asked),
         b't' => items_line(line, asked),
         b'a' => salvage_line(line, asked),
+        b'u' => cut_line(line, asked),
+        b'd' => add_line(line, asked),
+        b'n' => end_line(line, asked),
         _ => say_unknown(),
     }
 }

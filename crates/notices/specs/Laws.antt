@@ -7,3 +7,4 @@ pub mod Words
 pub mod Capture
 pub mod Groups
 pub mod Log
+pub mod Watch

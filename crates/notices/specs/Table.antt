@@ -71,3 +71,25 @@ RowNoted ks parity from row found table r table′ = (r, table′) ≡ notesOf (
 pub row-noted-one : (ks : List Kind) (parity : Bool) (from : ℕ) (row : List ℕ) (found : ℕ) (table : List ℕ) {r r′ : ℕ} {x x′ : List ℕ}
     → RowNoted ks parity from row found table r x → RowNoted ks parity from row found table r′ x′ → (r ≡ r′) × (x ≡ x′)
 row-noted-one ks parity from row found table a b = let e = a ∙ sym b in (ap (λ (s : Notes). s .0) e, ap (λ (s : Notes). s .1) e)
+
+-- ---- the first that is shown (K4: "in a group the first shown")
+
+abbrev pub orFirst : ℕ → ℕ → ℕ
+orFirst old new = cond (eqb old 0) new old
+
+-- what a word does, where the first that is shown is kept and not the earliest
+abbrev pub watched : ℕ → Role → Notes → Notes
+watched number x s = (orFirst (s .0) (noted number x (0, s .1) .0), noted number x (0, s .1) .1)
+
+unfoldable pub watchedOf : Row → Notes → Notes
+watchedOf [] s = s
+watchedOf (x ∷ r) s = watchedOf r (watched (x .0) (x .1) s)
+
+-- what a row of words does to the table, and the first that it shows: the contract of a row
+abbrev pub RowWatched : List Kind → Bool → ℕ → List ℕ → List ℕ → ℕ → List ℕ → Type 0
+RowWatched ks parity from row table r table′ = (r, table′) ≡ watchedOf (rolesIn ks parity (counted from row)) (0, table)
+
+-- nothing else does
+pub row-watched-one : (ks : List Kind) (parity : Bool) (from : ℕ) (row table : List ℕ) {r r′ : ℕ} {x x′ : List ℕ}
+    → RowWatched ks parity from row table r x → RowWatched ks parity from row table r′ x′ → (r ≡ r′) × (x ≡ x′)
+row-watched-one ks parity from row table a b = let e = a ∙ sym b in (ap (λ (s : Notes). s .0) e, ap (λ (s : Notes). s .1) e)

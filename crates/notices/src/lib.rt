@@ -8,7 +8,7 @@ ghost use lib.ListN.{length};
 ghost use Rattle.format.specs.Reader.{counted};
 ghost use Rattle.format.specs.Word.{part};
 ghost use Rattle.notices.specs.Roles.{Words, isSyllable, openRow, rolesIn, roleOn};
-ghost use Rattle.notices.specs.Table.{RowNoted, allZero, anyNotice, earlier, earliestOf, hasArinc, isArinc, isQuiet, noted};
+ghost use Rattle.notices.specs.Table.{RowNoted, RowWatched, allZero, anyNotice, earlier, earliestOf, hasArinc, isArinc, isQuiet, noted, orFirst};
 use format::Kind;
 
 fn is_arinc(kind: Kind) -> bool
@@ -46,6 +46,13 @@ fn earlier(a: u64, b: u64) -> u64
         return a;
     }
     if a <= b { a } else { b }
+}
+
+// The first of two, 0 for none.
+fn or_first(old: u64, new: u64) -> u64
+    ensures { λ r. ⌜ r ≡ orFirst old new ⌝ }
+{
+    if old == 0 { new } else { old }
 }
 
 // The label of a high syllable: 9, 11, 13 or 15.
@@ -174,6 +181,53 @@ pub fn note_row(
         return over_row(kinds, parity, row, from, table, found);
     }
     found
+}
+
+// The words of a row, the first of them the number `from`: the first notice that is shown open in it.
+fn first_shown(kinds: [Kind; 16], parity: bool, row: &[u32], from: u64, table: &mut [u64]) -> u64
+    requires { ⌜ Words (now row) × (from + length (now row) < 2 ^ 63) × (length (now table) ≡ 64) ⌝ }
+    ensures { λ r. ⌜ RowWatched kinds parity from (now (row .entry)) (now (table .entry)) r (now (table .exit)) ⌝ }
+{
+    let mut first: u64 = 0;
+    let mut i: usize = 0;
+    while i < row.len() {
+        let word = row[i];
+        let bus = word::bus_of(parity, word);
+        let shown = on_word(
+            kinds[bus as usize],
+            bus,
+            word::label_of(word),
+            word::information_of(word),
+            from + i as u64,
+            table,
+            0,
+        );
+        first = or_first(first, shown);
+        i += 1;
+    }
+    first
+}
+
+// A row of words as `note_row` takes it, but of those that it shows open the first is handed back, not the earliest: what a reading
+// that cannot go back tells (K4).
+pub fn watch_row(
+    arinc: bool,
+    kinds: [Kind; 16],
+    parity: bool,
+    row: &[u32],
+    from: u64,
+    table: &mut [u64],
+) -> u64
+    requires { ⌜ (arinc ≡ hasArinc kinds) × Words (now row) × (length (now row) < 2 ^ 31) × (from + length (now row) < 2 ^ 63) × (length (now table) ≡ 64) ⌝ }
+    ensures { λ r. ⌜ RowWatched kinds parity from (now (row .entry)) (now (table .entry)) r (now (table .exit)) ⌝ }
+{
+    if arinc {
+        if is_quiet(row, table) {
+            return 0;
+        }
+        return first_shown(kinds, parity, row, from, table);
+    }
+    0
 }
 
 // The earliest of the table and what was shown.

@@ -7,3 +7,4 @@ pub mod Promises
 pub mod SplitPromises
 pub mod SalvagePromises
 pub mod BusPromises
+pub mod StreamPromises

@@ -3,6 +3,7 @@
 pub mod full;
 pub mod salvaging;
 pub mod split;
+pub mod streaming;
 
 ghost use mathlib.Core.Bool.{false, true};
 ghost use lib.ListN.{length};
@@ -21,6 +22,9 @@ pub use crate::full::vin_read_full;
 pub use crate::salvaging::vin_salvage;
 pub use crate::split::vin_read_items;
 pub use crate::split::vin_read_words;
+pub use crate::streaming::vin_stream_close;
+pub use crate::streaming::vin_stream_feed;
+pub use crate::streaming::vin_stream_open;
 pub use compose::compose;
 use compose_from_c::compose_from;
 use format::Answer;
@@ -36,6 +40,9 @@ use read_from_c::read_from;
 pub use salvage::salvage;
 pub use split_items::read_items;
 pub use split_words::read_words;
+pub use stream::close;
+pub use stream::feed;
+pub use stream::open;
 
 // What a plan without its last two lines means: the functions without `full` take no label and no code.
 const CRC_LABEL: u32 = 3;

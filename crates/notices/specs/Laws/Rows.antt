@@ -162,7 +162,7 @@ clear-earliest f (x ∷ t) z = go (eqb x 0) refl z (clear-earliest f t)
 
 -- ---- the channels of words are in the table, and numbers rise
 
-role-low : (k : Kind) (parity : Bool) (w : ℕ) → busOf parity w < 16 → InTable (roleOn k (partOf parity w))
+pub role-low : (k : Kind) (parity : Bool) (w : ℕ) → busOf parity w < 16 → InTable (roleOn k (partOf parity w))
 role-low Unused parity w h = tt
 role-low Mil1553 parity w h = tt
 role-low Arinc429 parity w h = go (eqb (labelOf w) 4) (isSyllable (labelOf w))

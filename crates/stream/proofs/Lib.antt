@@ -1,0 +1,4 @@
+pub mod Opening
+pub mod Refused
+pub mod Groups
+pub mod Closing

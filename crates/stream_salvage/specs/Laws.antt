@@ -1,0 +1,3 @@
+-- The laws behind the promises.
+pub mod Shared
+pub mod Handed
