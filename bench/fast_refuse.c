@@ -233,6 +233,14 @@ static vin_answer open_in_capture(const fast_plan *p, const uint8_t *capture, si
     return refused(0, 0);
 }
 
+/* Nothing is wrong but the length of the log of so many bits. */
+static vin_answer too_long(uint64_t bits)
+{
+    if ((bits + 7) / 8 <= VIN_LOG_MAX)
+        abort(); /* the quick way refused what has no fault */
+    return refused(6, (bits + 7) / 8);
+}
+
 vin_answer refuse_capture(const fast_plan *p, const uint8_t *capture, size_t capture_len, int closed)
 {
     walker k = {FREE, 0, FREE, 0, 0};
@@ -257,10 +265,7 @@ vin_answer refuse_capture(const fast_plan *p, const uint8_t *capture, size_t cap
         if (a.number != 0)
             return a;
     }
-    k.bits += 4;
-    if ((k.bits + 7) / 8 <= VIN_LOG_MAX)
-        abort(); /* the quick way refused what has no fault */
-    return refused(6, (k.bits + 7) / 8);
+    return too_long(k.bits + 4);
 }
 
 /* ==== The halves of a reading ==== */
@@ -325,8 +330,5 @@ vin_answer refuse_words(const fast_plan *p, const uint32_t *row, size_t row_len)
     a = open_in_row(p, row, row_len);
     if (a.number != 0)
         return a;
-    k.bits += 4;
-    if ((k.bits + 7) / 8 <= VIN_LOG_MAX)
-        abort(); /* the quick way refused what has no fault */
-    return refused(6, (k.bits + 7) / 8);
+    return too_long(k.bits + 4);
 }

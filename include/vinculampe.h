@@ -404,7 +404,7 @@ static inline const char *vin_text(uint32_t number_)
  *   out, out_len       room for the capture; answer.bytes are written
  *
  * Checks, in this order: VIN_PLAN; VIN_LOG for the length; the items in order, each for VIN_LOG,
- * VIN_BUS, VIN_LIMIT; VIN_TIMES; VIN_ROOM. */
+ * VIN_BUS, VIN_LIMIT; VIN_NOTICE; VIN_TIMES; VIN_ROOM. */
 vin_answer vin_compose_full(uint32_t words, uint32_t tracks,
                             uint32_t frame_time, uint32_t crc, uint32_t parity,
                             uint32_t crc_label, uint32_t fill_bus,
@@ -432,7 +432,7 @@ vin_answer vin_compose(uint32_t words, uint32_t tracks,
  * Checks, in this order: VIN_PLAN, VIN_CAPTURE; then group by group: each word as stored (VIN_SYNC
  * for a frame's first word, VIN_PARITY for any other, VIN_CRC after that for a CRC word), then
  * VIN_FRAME_TIME, then VIN_DATA_WORD, both in dealt order; after the last group VIN_DATA_WORD for a
- * cut item, VIN_ROOM, VIN_TIME_ROOM. */
+ * cut item, VIN_NOTICE, VIN_ROOM, VIN_TIME_ROOM. */
 vin_answer vin_read_full(uint32_t words, uint32_t tracks,
                          uint32_t frame_time, uint32_t crc, uint32_t parity,
                          uint32_t crc_label, uint32_t fill_bus,
@@ -448,7 +448,7 @@ vin_answer vin_read(uint32_t words, uint32_t tracks,
                     uint8_t *times, size_t times_len);
 
 /* Reads a capture and refuses misplaced fill: accepts exactly what composing by the same plan makes.
- * As vin_read_full, with VIN_FILL checked after the cut item and before VIN_ROOM. vin_read_closed is
+ * As vin_read_full, with VIN_FILL checked after VIN_NOTICE and before VIN_ROOM. vin_read_closed is
  * vin_read_closed_full with VIN_CRC_LABEL and VIN_FILL_BUS. */
 vin_answer vin_read_closed_full(uint32_t words, uint32_t tracks,
                                 uint32_t frame_time, uint32_t crc, uint32_t parity,
