@@ -93,7 +93,8 @@ static size_t log_room(void)
 
 static size_t group_size(void)
 {
-    return VIN_GROUP_BYTES(the_case.plan.words, the_case.plan.tracks);
+    size_t bytes = VIN_GROUP_BYTES(the_case.plan.words, the_case.plan.tracks);
+    return bytes == 0 ? 3 : bytes; /* of a plan that is refused, too */
 }
 
 /* ==== Opening ==== */
