@@ -37,6 +37,10 @@ ofItems (fault n p) make = refused n p
 unfoldable pub picked : List ℕ → ℕ → ℕ → Composed
 picked log set room = ofItems (parsed onNoPlan log) (λ is. logIn room (keep (onBuses set) is))
 
+-- "the first log's items, then the second's"
+abbrev pub inTurn : List Item → List Item → List Item
+inTurn is js = is ++ js
+
 -- "Joining gives the first log's items, then the second's."; "first log before second, then 6"
 unfoldable pub joined : List ℕ → List ℕ → ℕ → Composed
-joined first second room = ofItems (parsed onNoPlan first) (λ is. ofItems (parsed onNoPlan second) (λ js. logIn room (is ++ js)))
+joined first second room = ofItems (parsed onNoPlan first) (λ is. ofItems (parsed onNoPlan second) (λ js. logIn room (inTurn is js)))

@@ -2,13 +2,13 @@
 -- Laws that each names.
 use Prim.Native.Nat.{ℕ, _^_, _≤_, _<_}
 use mathlib.Core.Path.{_≡_, sym, _∙_}
-use mathlib.Core.List.{List, [], _∷_, _++_, map}
+use mathlib.Core.List.{List, [], _∷_, map}
 use lib.ListN.{length, take}
 use mathlib.Core.Bool.{true, false}
 use Rattle.format.specs.Lists.{Bytes, list}
 use Rattle.format.specs.Log.{fault, logOf, onNoPlan, parsed, items}
 use Rattle.format.specs.Compose.{made, refused}
-use Rattle.log_rules.specs.Pick.{inSet, keep, onBuses, picked, joined}
+use Rattle.log_rules.specs.Pick.{inSet, inTurn, keep, onBuses, picked, joined}
 use Rattle.log_rules.specs.Laws.Logs.{LogOf}
 use Rattle.log_rules.specs.Shift.{firstFailing, inLimits, itemMoves, moved, movedItem, moves, shifted, timeless}
 use Rattle.log_rules.specs.Laws.Pick as Pick
@@ -53,14 +53,14 @@ pick-refused = Pick.pick-refuses
 
 -- "Joining gives the first log's items, then the second's."
 pub joins : (first second : List ℕ) (room : ℕ) (out : List ℕ) → Bytes first → Bytes second → joined first second room ≡ made out
-    → (is : List Item) × (js : List Item) × LogOf first is × LogOf second js × LogOf out (is ++ js)
+    → (is : List Item) × (js : List Item) × LogOf first is × LogOf second js × LogOf out (inTurn is js)
 joins first second room out a b e =
     let j = Pick.join-from first second room out a b e in
     (j .0, j .1, j .2, j .3, Pick.join-gives room out (j .2) (j .3) e)
 
 -- and for all logs that are not too long together, given room
 pub join-has-room : (first second : List ℕ) (is js : List Item) (room : ℕ) → LogOf first is → LogOf second js
-    → length (logOf (is ++ js)) ≤ 32768 → length (logOf (is ++ js)) ≤ room → joined first second room ≡ made (logOf (is ++ js))
+    → length (logOf (inTurn is js)) ≤ 32768 → length (logOf (inTurn is js)) ≤ room → joined first second room ≡ made (logOf (inTurn is js))
 join-has-room first second is js room = Pick.join-fits room
 
 -- "first log before second"
@@ -72,8 +72,8 @@ pub join-refused-second : (first second : List ℕ) (is : List Item) (room n p :
 join-refused-second first second is room n p = Pick.join-refuses-second second room n p
 
 -- "then 6": "output too short, or a log above 32,768", at the true length
-pub join-refused-long : (first second : List ℕ) (is js : List Item) (room : ℕ) → LogOf first is → LogOf second js → 32768 < length (logOf (is ++ js))
-    → joined first second room ≡ refused 6 (length (logOf (is ++ js)))
+pub join-refused-long : (first second : List ℕ) (is js : List Item) (room : ℕ) → LogOf first is → LogOf second js → 32768 < length (logOf (inTurn is js))
+    → joined first second room ≡ refused 6 (length (logOf (inTurn is js)))
 join-refused-long first second is js room = Pick.join-refuses-long room
 
 -- ---- K11: the one-bus test profile

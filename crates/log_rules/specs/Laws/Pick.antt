@@ -11,11 +11,11 @@ use Rattle.format.specs.Lists.{All, Bytes, list}
 use Rattle.format.specs.Item.{itemBits}
 use Rattle.format.specs.Log.{Parsed, items, fault, parsed, onNoPlan, logOf}
 use Rattle.format.specs.Compose.{Composed, made, refused}
-use Rattle.log_rules.specs.Pick.{keep, inSet, onBuses, logIn, ofItems, picked, joined}
+use Rattle.log_rules.specs.Pick.{keep, inSet, inTurn, onBuses, logIn, ofItems, picked, joined}
 use Rattle.format.specs.Laws.Tests.{and-true}
-use Rattle.format.specs.Laws.Lists.{all-append}
 use Rattle.format.specs.Laws.Log.Back.{Logged}
 use Rattle.log_rules.specs.Laws.Logs.{LogOf, log-of, log-new, all-keep, length-log}
+use Rattle.log_rules.specs.Laws.Scripts.InTurn.{turn-all}
 use Rattle.format.specs.declared.Item.{Item}
 
 pub not-made : {A : Type 0} {n p : ℕ} {c : List ℕ} → refused n p ≡ made c → A
@@ -53,14 +53,14 @@ pub join-from : (first second : List ℕ) (room : ℕ) (out : List ℕ) → Byte
     → (is : List Item) × (js : List Item) × LogOf first is × LogOf second js
 unfolding joined
 join-from first second room out a b e =
-    let r = items-from (parsed onNoPlan first) (λ is. ofItems (parsed onNoPlan second) (λ js. logIn room (is ++ js))) out e in
-    let f : ofItems (parsed onNoPlan second) (λ js. logIn room (r .0 ++ js)) ≡ made out = rw (r .1) at e in
-    let s = items-from (parsed onNoPlan second) (λ js. logIn room (r .0 ++ js)) out f in
+    let r = items-from (parsed onNoPlan first) (λ is. ofItems (parsed onNoPlan second) (λ js. logIn room (inTurn is js))) out e in
+    let f : ofItems (parsed onNoPlan second) (λ js. logIn room (inTurn (r .0) js)) ≡ made out = rw (r .1) at e in
+    let s = items-from (parsed onNoPlan second) (λ js. logIn room (inTurn (r .0) js)) out f in
     (r .0, s .0, log-of first (r .0) a (r .1), log-of second (s .0) b (s .1))
 
-pub join-gives : {first second : List ℕ} {is js : List Item} (room : ℕ) (out : List ℕ) → LogOf first is → LogOf second js → joined first second room ≡ made out → LogOf out (is ++ js)
+pub join-gives : {first second : List ℕ} {is js : List Item} (room : ℕ) (out : List ℕ) → LogOf first is → LogOf second js → joined first second room ≡ made out → LogOf out (inTurn is js)
 unfolding joined
-join-gives {is = is} {js = js} room out a b e = logged-in room (is ++ js) out (all-append (a .logged) (b .logged)) (rw (a .parses, b .parses) at e)
+join-gives {is = is} {js = js} room out a b e = logged-in room (inTurn is js) out (turn-all (a .logged) (b .logged)) (rw (a .parses, b .parses) at e)
 
 -- what is picked has room where its log has
 pub fewer-bits : (f : Item → Bool) (is : List Item) → length (flatMap itemBits (keep f is)) ≤ length (flatMap itemBits is)
@@ -96,15 +96,15 @@ pub join-refuses-second : {first : List ℕ} {is : List Item} (second : List ℕ
 unfolding joined
 join-refuses-second second room n p a e = rw (a .parses, e) refl
 
-pub join-refuses-long : {first second : List ℕ} {is js : List Item} (room : ℕ) → LogOf first is → LogOf second js → 32768 < length (logOf (is ++ js))
-    → joined first second room ≡ refused 6 (length (logOf (is ++ js)))
+pub join-refuses-long : {first second : List ℕ} {is js : List Item} (room : ℕ) → LogOf first is → LogOf second js → 32768 < length (logOf (inTurn is js))
+    → joined first second room ≡ refused 6 (length (logOf (inTurn is js)))
 unfolding joined
-join-refuses-long {is = is} {js = js} room a b h = rw (a .parses, b .parses, lt-leb (length (logOf (is ++ js))) 32768 h) refl
+join-refuses-long {is = is} {js = js} room a b h = rw (a .parses, b .parses, lt-leb (length (logOf (inTurn is js))) 32768 h) refl
 
-pub join-fits : {first second : List ℕ} {is js : List Item} (room : ℕ) → LogOf first is → LogOf second js → length (logOf (is ++ js)) ≤ 32768 → length (logOf (is ++ js)) ≤ room
-    → joined first second room ≡ made (logOf (is ++ js))
+pub join-fits : {first second : List ℕ} {is js : List Item} (room : ℕ) → LogOf first is → LogOf second js → length (logOf (inTurn is js)) ≤ 32768 → length (logOf (inTurn is js)) ≤ room
+    → joined first second room ≡ made (logOf (inTurn is js))
 unfolding joined
-join-fits {is = is} {js = js} room a b h k = rw (a .parses, b .parses, le-leb (length (logOf (is ++ js))) 32768 h, le-leb (length (logOf (is ++ js))) room k) refl
+join-fits {is = is} {js = js} room a b h k = rw (a .parses, b .parses, le-leb (length (logOf (inTurn is js))) 32768 h, le-leb (length (logOf (inTurn is js))) room k) refl
 
 -- ---- the set of one code
 

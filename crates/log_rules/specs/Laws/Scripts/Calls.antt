@@ -3,7 +3,7 @@ use Prim.Native.Nat.{ℕ, _≤_}
 use native.Mathlib.Omega.{arith}
 use mathlib.Core.Bool.{true}
 use mathlib.Core.Path.{_≡_, refl, ap, ap₂, sym, _∙_}
-use mathlib.Core.List.{List, [], _∷_, _++_, map, append-assoc, append-nil}
+use mathlib.Core.List.{List, [], _∷_, map}
 use lib.Bits.{bitAnd}
 use lib.IntN.{ℤ, pos, _+ℤ_}
 use lib.ListN.{length}
@@ -12,12 +12,13 @@ use Rattle.format.specs.Lists.{nil, cons, Bytes}
 use Rattle.format.specs.Log.{field, logOf, nextAt, parseFrom, parsed}
 use Rattle.format.specs.Read.{Reading, gives}
 use Rattle.format.specs.Laws.Lists.{all-map}
-use Rattle.log_rules.specs.Pick.{keep, onBuses}
+use Rattle.log_rules.specs.Pick.{inTurn, keep, onBuses}
 use Rattle.log_rules.specs.Scripts.{PicksTo, JoinsTo, ShiftsTo}
 use Rattle.log_rules.specs.Shift.{inLimits, moved, movedItem, shifted}
-use Rattle.log_rules.specs.Laws.Logs.{LogOf, keep-append, log-of, logged-sized}
+use Rattle.log_rules.specs.Laws.Logs.{LogOf, log-of, logged-sized}
 use Rattle.log_rules.specs.Laws.Pick.{pick-from, pick-gives, join-from, join-gives}
 use Rattle.log_rules.specs.Laws.Shift.{ShiftOf, shift-fits, shift-from, shift-gives}
+use Rattle.log_rules.specs.Laws.Scripts.InTurn.{kept-in-turn, nothing-turn, turn-associates, turn-nothing}
 use Rattle.log_rules.specs.Laws.Scripts.Items.{items-none, items-once, items-twice, kept-moved, kept-twice, times-none, times-once, times-twice}
 use Rattle.format.specs.declared.Item.{Item}
 
@@ -37,7 +38,7 @@ joins-from : {first second out : List ℕ} → Bytes first → Bytes second → 
     → (is : List Item) × (js : List Item) × LogOf first is × LogOf second js
 joins-from {first} {second} {out} a b j = join-from first second (j .room) out a b (j .answers)
 
-joins : {first second out : List ℕ} {is js : List Item} → LogOf first is → LogOf second js → JoinsTo first second out → LogOf out (is ++ js)
+joins : {first second out : List ℕ} {is js : List Item} → LogOf first is → LogOf second js → JoinsTo first second out → LogOf out (inTurn is js)
 joins {out = out} a b j = join-gives (j .room) out a b (j .answers)
 
 shifts-from : {log times out times′ : List ℕ} {by : ℤ} → Bytes log → ShiftsTo log times by out times′ → (is : List Item) × ShiftOf log times by is out times′
@@ -58,7 +59,7 @@ module _ {first second both out a b out′ : List ℕ} {set : ℕ} where
       → PicksTo first set a → PicksTo second set b → JoinsTo a b out′ → out ≡ out′
   pick-of-join x y whole of-whole one other together =
       let j = joins-from x y whole in
-      one-log (picks (joins (j .2) (j .3) whole) of-whole) (joins (picks (j .2) one) (picks (j .3) other) together) (keep-append (onBuses set) (j .0) (j .1))
+      one-log (picks (joins (j .2) (j .3) whole) of-whole) (joins (picks (j .2) one) (picks (j .3) other) together) (kept-in-turn set (j .0) (j .1))
 
 pub pick-twice : {log once twice out : List ℕ} {s t : ℕ} → Bytes log
     → PicksTo log s once → PicksTo once t twice → PicksTo log (bitAnd s t) out → twice ≡ out
@@ -71,17 +72,17 @@ pub join-associates : {a b c ab abc bc abc′ : List ℕ} → Bytes a → Bytes 
 join-associates x y z ab abc bc abc′ =
     let j = joins-from x y ab in
     let k = joins-from y z bc in
-    one-log (joins (joins (j .2) (j .3) ab) (k .3) abc) (joins (j .2) (joins (j .3) (k .3) bc) abc′) (append-assoc (j .0) (j .1) (k .1))
+    one-log (joins (joins (j .2) (j .3) ab) (k .3) abc) (joins (j .2) (joins (j .3) (k .3) bc) abc′) (turn-associates (j .0) (j .1) (k .1))
 
 pub join-empty : {log out : List ℕ} → Bytes log → JoinsTo log (0 ∷ []) out → out ≡ log
 join-empty bytes e =
     let j = joins-from bytes (cons {a = 0} (omega arith) nil) e in
-    one-log (joins (j .2) empty-log e) (j .2) (append-nil (j .0))
+    one-log (joins (j .2) empty-log e) (j .2) (turn-nothing (j .0))
 
 pub empty-join : {log out : List ℕ} → Bytes log → JoinsTo (0 ∷ []) log out → out ≡ log
 empty-join bytes e =
     let j = joins-from (cons {a = 0} (omega arith) nil) bytes e in
-    one-log (joins empty-log (j .3) e) (j .3) refl
+    one-log (joins empty-log (j .3) e) (j .3) (nothing-turn (j .1))
 
 -- ---- shifting
 
