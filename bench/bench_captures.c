@@ -192,7 +192,7 @@ static void figure(int f, size_t bytes)
 int main(int argc, char **argv)
 {
     table_begin(argc, argv, "a word", "words", "traffic, plan, size", columns, FUNCTIONS);
-    for (int n = 0; traffic_row(&t, n); n++) {
+    for (int n = 0; traffic_row(&t, n, 0); n++) {
         if (!is_wanted(t.name))
             continue;
         make_row();

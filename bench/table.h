@@ -15,6 +15,10 @@ typedef struct {
     vin_answer (*call)(enum who who);
 } column;
 
+/* How many logs the calls take in turn: what LOGS says in the environment, at most LOGS_MAX; 1 if it is not set. */
+enum { LOGS_MAX = 16 };
+int logs_in_turn(void);
+
 /* Takes the program's arguments (SAMPLES and ROWS) and prints the head: what a figure is by, as "a word" and "words", and what the lines are. */
 void table_begin(int argc, char **argv, const char *by, const char *units, const char *lines, const column *columns, int count);
 

@@ -250,7 +250,7 @@ int traffic_log(traffic *t, int n)
     return 1;
 }
 
-int traffic_row(traffic *t, int n)
+int traffic_row(traffic *t, int n, int drawing)
 {
     int seen = 0;
     for (int kind = 0; kind < COUNT(traffics); kind++)
@@ -260,7 +260,7 @@ int traffic_row(traffic *t, int n)
             for (int size = 0; size < COUNT(sizes); size++, seen++) {
                 if (seen != n)
                     continue;
-                state = 88172645463325252u + (uint64_t)n;
+                state = 88172645463325252u + (uint64_t)n + (uint64_t)drawing * 1000003;
                 t->words = plans[plan].words;
                 t->tracks = plans[plan].tracks;
                 t->frame_time = plans[plan].frame_time;

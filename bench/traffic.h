@@ -17,8 +17,8 @@ typedef struct {
     int then_largest; /* the capture is also read with fill up to the limit behind it */
 } traffic;
 
-/* Makes row n; 0 if there is none. */
-int traffic_row(traffic *t, int n);
+/* Makes row n; 0 if there is none. Each drawing of it has another log of the same traffic and size. */
+int traffic_row(traffic *t, int n, int drawing);
 
 /* Writes a group of fill by the row's plan, without CRC and frame time; its bytes. */
 size_t traffic_fill(const traffic *t, uint8_t *to);

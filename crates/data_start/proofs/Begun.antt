@@ -5,13 +5,13 @@ use mathlib.Core.Bool.{Bool, true, false}
 use mathlib.Core.Path.{_≡_, refl, sym, _∙_}
 use mathlib.Core.List.{flatMap}
 use lib.Dec.{eqb}
-use borrow.Author.Tests.{eq-eqb, ne-eqb, eqb-true, lt-ltb}
+use borrow.Author.Tests.{eq-eqb, ne-eqb, eqb-true, lt-ltb, le-ltb}
 use Rattle.format.specs.Laws.Tests.{below16, clash}
 use Rattle.format.specs.Item.{itemFields, channelOf}
 use Rattle.format.specs.Reader.{starts, isPair}
 use Rattle.format.specs.declared.Kind.the-variants.{Mil1553, Arinc429}
 use Rattle.data_start.specs.declared.Holding.{Holding}
-use Rattle.data_start.specs.Step.{refusal, holding, ended, begun, headOf}
+use Rattle.data_start.specs.Step.{refusal, holding, ended, begun}
 use Rattle.data_start.proofs.Labels.{lower, upper}
 
 -- the two labels of a notice
@@ -54,14 +54,6 @@ channel-of-high high l u =
     (λ x. absurd (x refl)) (λ x. refl) (λ x. absurd (x refl)) (λ x. refl) (λ x. absurd (x refl)) (λ x. refl) (λ x. absurd (x refl)) (λ x. refl)
     high l u
 
--- a user word or an overflow mark, "on either kind of bus"
-pub either-kind-starts-alike : (bus info label : ℕ) → label < 8 → (label ≡ 4 → ⊥) → starts Mil1553 bus label info ≡ starts Arinc429 bus label info
-unfolding starts
-either-kind-starts-alike bus info label l =
-    lower (λ n. (n ≡ 4 → ⊥) → starts Mil1553 bus n info ≡ starts Arinc429 bus n info)
-    (λ x. refl) (λ x. refl) (λ x. refl) (λ x. refl) (λ x. absurd (x refl)) (λ x. refl) (λ x. refl) (λ x. refl)
-    label l
-
 module _ (g : Holding) (v w bus info : ℕ) where
   holds-base : {x y : ℕ} (t a : ℕ) → x ≡ y → holding v w (record { base = x; time = t; awaits = a }) ≡ holding v w (record { base = y; time = t; awaits = a })
   holds-base t a e = rw e
@@ -70,10 +62,10 @@ module _ (g : Holding) (v w bus info : ℕ) where
   ends-second k e = rw e
 
   pub command-is-held : (label : ℕ) → 8 ≤ label → label < 16 → label % 4 ≡ 3
-      → holding v w (record { base = headOf bus label * 65536 + info; time = 0; awaits = bus * 16 + 7 }) ≡ begun g v w (starts Mil1553 bus label info)
+      → holding v w (record { base = ((16 + bus) * 2 + (3 - label / 4)) * 131072 + info; time = 0; awaits = bus * 16 + 7 }) ≡ begun g v w (starts Mil1553 bus label info)
   unfolding starts itemFields flatMap
   command-is-held label l u =
-      upper (λ n. n % 4 ≡ 3 → holding v w (record { base = headOf bus n * 65536 + info; time = 0; awaits = bus * 16 + 7 }) ≡ begun g v w (starts Mil1553 bus n info))
+      upper (λ n. n % 4 ≡ 3 → holding v w (record { base = ((16 + bus) * 2 + (3 - n / 4)) * 131072 + info; time = 0; awaits = bus * 16 + 7 }) ≡ begun g v w (starts Mil1553 bus n info))
       (λ e. absurd (omega arith)) (λ e. absurd (omega arith)) (λ e. absurd (omega arith)) (λ e. holds-base 0 (bus * 16 + 7) (omega arith))
       (λ e. absurd (omega arith)) (λ e. absurd (omega arith)) (λ e. absurd (omega arith)) (λ e. holds-base 0 (bus * 16 + 7) (omega arith))
       label l u
@@ -82,35 +74,9 @@ module _ (g : Holding) (v w bus info : ℕ) where
   unfolding starts flatMap
   response-is-held l = simp (lt-ltb info 10000 l) refl
 
-  pub one-word-ends : (label : ℕ) → 8 ≤ label → label < 16 → (label % 4 ≡ 3 → ⊥)
-      → ended v w (headOf bus label * 65536 + info) (25 + label / 2 % 2) ≡ begun g v w (starts Mil1553 bus label info)
-  unfolding starts itemFields flatMap
-  one-word-ends label l u =
-      upper (λ n. (n % 4 ≡ 3 → ⊥) → ended v w (headOf bus n * 65536 + info) (25 + n / 2 % 2) ≡ begun g v w (starts Mil1553 bus n info))
-      (λ e. ends-second 25 (omega arith)) (λ e. ends-second 25 (omega arith)) (λ e. ends-second 26 (omega arith)) (λ e. absurd (e refl))
-      (λ e. ends-second 25 (omega arith)) (λ e. ends-second 25 (omega arith)) (λ e. ends-second 26 (omega arith)) (λ e. absurd (e refl))
-      label l u
-
-  pub overflow-ends : ended v w ((128 + bus) * 65536 + info) 24 ≡ begun g v w (starts Mil1553 bus 0 info)
-  unfolding starts itemFields flatMap
-  overflow-ends = ends-second 24 (omega arith)
-
-  pub user-word-ends : (label : ℕ) → label < 8 → label / 2 ≡ 1
-      → ended v w (((112 + bus) * 2 + label % 2) * 65536 + info) 25 ≡ begun g v w (starts Mil1553 bus label info)
-  unfolding starts itemFields flatMap
-  user-word-ends =
-      λ label l. lower (λ n. n / 2 ≡ 1 → ended v w (((112 + bus) * 2 + n % 2) * 65536 + info) 25 ≡ begun g v w (starts Mil1553 bus n info))
-      (λ e. absurd (omega arith)) (λ e. absurd (omega arith)) (λ e. ends-second 25 (omega arith)) (λ e. ends-second 25 (omega arith)) (λ e. absurd (omega arith)) (λ e. absurd (omega arith)) (λ e. absurd (omega arith)) (λ e. absurd (omega arith))
-      label l
-
-  pub time-word-starts-nothing : (label : ℕ) → label < 8 → (label ≡ 0 → ⊥) → (label / 2 ≡ 1 → ⊥) → (label ≡ 4 → ⊥)
-      → refusal g ≡ begun g v w (starts Mil1553 bus label info)
+  pub late-response-starts-nothing : 10000 ≤ info → refusal g ≡ begun g v w (starts Mil1553 bus 4 info)
   unfolding starts
-  time-word-starts-nothing label l =
-      lower (λ n. (n ≡ 0 → ⊥) → (n / 2 ≡ 1 → ⊥) → (n ≡ 4 → ⊥) → refusal g ≡ begun g v w (starts Mil1553 bus n info))
-      (λ x y z. absurd (x refl)) (λ x y z. refl) (λ x y z. absurd (y refl)) (λ x y z. absurd (y refl))
-      (λ x y z. absurd (z refl)) (λ x y z. refl) (λ x y z. refl) (λ x y z. refl)
-      label l
+  late-response-starts-nothing l = simp (le-ltb info 10000 l) refl
 
   pub high-syllable-is-held : (label : ℕ) → 8 ≤ label → label < 16 → label % 2 ≡ 1
       → holding v w (record { base = ((80 + bus) * 8 + (label - 9)) * 65536 + info; time = 0; awaits = bus * 16 + (label - 1) }) ≡ begun g v w (starts Arinc429 bus label info)
@@ -119,13 +85,6 @@ module _ (g : Holding) (v w bus info : ℕ) where
       upper (λ n. n % 2 ≡ 1 → holding v w (record { base = ((80 + bus) * 8 + (n - 9)) * 65536 + info; time = 0; awaits = bus * 16 + (n - 1) }) ≡ begun g v w (starts Arinc429 bus n info))
       (λ e. absurd (omega arith)) (λ e. holds-base 0 (bus * 16 + 8) (omega arith)) (λ e. absurd (omega arith)) (λ e. holds-base 0 (bus * 16 + 10) (omega arith))
       (λ e. absurd (omega arith)) (λ e. holds-base 0 (bus * 16 + 12) (omega arith)) (λ e. absurd (omega arith)) (λ e. holds-base 0 (bus * 16 + 14) (omega arith))
-      label l u
-
-  pub low-syllable-starts-nothing : (label : ℕ) → 8 ≤ label → label < 16 → (label % 2 ≡ 1 → ⊥) → refusal g ≡ begun g v w (starts Arinc429 bus label info)
-  unfolding starts
-  low-syllable-starts-nothing label l u =
-      upper (λ n. (n % 2 ≡ 1 → ⊥) → refusal g ≡ begun g v w (starts Arinc429 bus n info))
-      (λ x. refl) (λ x. absurd (x refl)) (λ x. refl) (λ x. absurd (x refl)) (λ x. refl) (λ x. absurd (x refl)) (λ x. refl) (λ x. absurd (x refl))
       label l u
 
   pub no-pair-starts-nothing : isPair (info / 4096) (info / 256 % 16) ≡ false → refusal g ≡ begun g v w (starts Arinc429 bus 4 info)

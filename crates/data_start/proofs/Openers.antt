@@ -1,17 +1,20 @@
 -- What the numbers of the openings say of a word.
-use Prim.Native.Nat.{ℕ, zero, suc, _+_, _*_, _%_, _^_, _-_, _<_, _≤_}
+use Prim.Native.Nat.{ℕ, zero, suc, _+_, _*_, _/_, _%_, _^_, _-_, _<_, _≤_}
 use native.Mathlib.Omega.{arith}
-use mathlib.Core.Path.{_≡_, refl}
-use mathlib.Core.List.{flatMap}
+use mathlib.Core.Bool.{false}
+use mathlib.Core.Path.{_≡_, refl, sym, ap}
+use mathlib.Core.List.{[], _∷_, flatMap}
 use lib.ListN.{getD}
 use Rattle.format.specs.Item.{itemFields}
-use Rattle.format.specs.Reader.{starts}
+use Rattle.format.specs.Reader.{Fed, bad, fed, starts}
 use Rattle.format.specs.declared.Kind.{Kind}
 use Rattle.format.specs.declared.Kind.the-variants.{Unused, Mil1553, Arinc429}
-use Rattle.format.specs.Laws.Tests.{below16}
+use Rattle.format.specs.Laws.Tests.{below16, clash}
 use Rattle.data_start.specs.declared.Holding.{Holding}
+use Rattle.data_start.specs.declared.Step.{Step}
 use Rattle.data_start.specs.Step.{ended, begun}
-use Rattle.data_start.specs.Opening.{opens, openings, rowOf, singleOf}
+use Rattle.data_start.specs.Opening.{oneWord, opens, openings, row, rowOf, singleOf}
+use Rattle.data_start.proofs.Labels.{lower, upper}
 
 -- what the number n says of a word with this label on a bus of the kind k
 pub record Says (k : Kind) (label n : ℕ) : Type 0 where
@@ -19,15 +22,17 @@ pub record Says (k : Kind) (label n : ℕ) : Type 0 where
   pub syllable : n ≡ 2 → (k ≡ Arinc429) × (8 ≤ label) × (label % 2 ≡ 1)
   pub response : n ≡ 3 → (k ≡ Mil1553) × (label ≡ 4)
   pub notice : n ≡ 4 → (k ≡ Arinc429) × (label ≡ 4)
+  pub nothing : n < 8 → (n ≡ 1 → ⊥) → (n ≡ 2 → ⊥) → (n ≡ 3 → ⊥) → (n ≡ 4 → ⊥) → (bus info : ℕ) → starts k bus label info ≡ bad
   pub single : 8 ≤ n → (g : Holding) (bus info : ℕ) → singleOf n bus info ≡ begun g 0 0 (starts k bus label info)
   pub low : n < 4096
 
-says-nothing : {k : Kind} {label : ℕ} → Says k label 0
-says-nothing = record {
+says-nothing : {k : Kind} {label : ℕ} → ((bus info : ℕ) → starts k bus label info ≡ bad) → Says k label 0
+says-nothing f = record {
   command = λ e. absurd (omega (arith, e));
   syllable = λ e. absurd (omega (arith, e));
   response = λ e. absurd (omega (arith, e));
   notice = λ e. absurd (omega (arith, e));
+  nothing = λ _ _ _ _ _. f;
   single = λ e. absurd (omega (arith, e));
   low = omega arith;
 }
@@ -38,6 +43,7 @@ says-command a b = record {
   syllable = λ e. absurd (omega (arith, e));
   response = λ e. absurd (omega (arith, e));
   notice = λ e. absurd (omega (arith, e));
+  nothing = λ _ x _ _ _. absurd (x refl);
   single = λ e. absurd (omega (arith, e));
   low = omega arith;
 }
@@ -48,6 +54,7 @@ says-syllable a b = record {
   syllable = λ e. (refl, a, b);
   response = λ e. absurd (omega (arith, e));
   notice = λ e. absurd (omega (arith, e));
+  nothing = λ _ _ x _ _. absurd (x refl);
   single = λ e. absurd (omega (arith, e));
   low = omega arith;
 }
@@ -58,6 +65,7 @@ says-response = record {
   syllable = λ e. absurd (omega (arith, e));
   response = λ e. (refl, refl);
   notice = λ e. absurd (omega (arith, e));
+  nothing = λ _ _ _ x _. absurd (x refl);
   single = λ e. absurd (omega (arith, e));
   low = omega arith;
 }
@@ -68,6 +76,7 @@ says-notice = record {
   syllable = λ e. absurd (omega (arith, e));
   response = λ e. absurd (omega (arith, e));
   notice = λ e. (refl, refl);
+  nothing = λ _ _ _ _ x. absurd (x refl);
   single = λ e. absurd (omega (arith, e));
   low = omega arith;
 }
@@ -78,6 +87,7 @@ says-single l u f = record {
   syllable = λ e. absurd (omega (arith, e, l));
   response = λ e. absurd (omega (arith, e, l));
   notice = λ e. absurd (omega (arith, e, l));
+  nothing = λ x. absurd (omega (arith, x, l));
   single = λ e. f;
   low = u;
 }
@@ -89,19 +99,21 @@ pub opens-says : (k : Kind) (label : ℕ) → label < 16 → Says k label (opens
 unfolding opens starts itemFields flatMap
 opens-says Unused label l =
     below16 (λ n. Says Unused n (opens Unused n))
-    says-nothing says-nothing says-nothing says-nothing says-nothing says-nothing says-nothing says-nothing
-    says-nothing says-nothing says-nothing says-nothing says-nothing says-nothing says-nothing says-nothing
+    (says-nothing (λ _ _. refl)) (says-nothing (λ _ _. refl)) (says-nothing (λ _ _. refl)) (says-nothing (λ _ _. refl))
+    (says-nothing (λ _ _. refl)) (says-nothing (λ _ _. refl)) (says-nothing (λ _ _. refl)) (says-nothing (λ _ _. refl))
+    (says-nothing (λ _ _. refl)) (says-nothing (λ _ _. refl)) (says-nothing (λ _ _. refl)) (says-nothing (λ _ _. refl))
+    (says-nothing (λ _ _. refl)) (says-nothing (λ _ _. refl)) (says-nothing (λ _ _. refl)) (says-nothing (λ _ _. refl))
     label l
 opens-says Mil1553 label l =
     below16 (λ n. Says Mil1553 n (opens Mil1553 n))
     (says-single (omega arith) (omega arith) (λ g bus info. ends-second 24 (omega arith)))
-    says-nothing
+    (says-nothing (λ _ _. refl))
     (says-single (omega arith) (omega arith) (λ g bus info. ends-second 25 (omega arith)))
     (says-single (omega arith) (omega arith) (λ g bus info. ends-second 25 (omega arith)))
     says-response
-    says-nothing
-    says-nothing
-    says-nothing
+    (says-nothing (λ _ _. refl))
+    (says-nothing (λ _ _. refl))
+    (says-nothing (λ _ _. refl))
     (says-single (omega arith) (omega arith) (λ g bus info. ends-second 25 (omega arith)))
     (says-single (omega arith) (omega arith) (λ g bus info. ends-second 25 (omega arith)))
     (says-single (omega arith) (omega arith) (λ g bus info. ends-second 26 (omega arith)))
@@ -114,39 +126,115 @@ opens-says Mil1553 label l =
 opens-says Arinc429 label l =
     below16 (λ n. Says Arinc429 n (opens Arinc429 n))
     (says-single (omega arith) (omega arith) (λ g bus info. ends-second 24 (omega arith)))
-    says-nothing
+    (says-nothing (λ _ _. refl))
     (says-single (omega arith) (omega arith) (λ g bus info. ends-second 25 (omega arith)))
     (says-single (omega arith) (omega arith) (λ g bus info. ends-second 25 (omega arith)))
     says-notice
-    says-nothing
-    says-nothing
-    says-nothing
-    says-nothing
+    (says-nothing (λ _ _. refl))
+    (says-nothing (λ _ _. refl))
+    (says-nothing (λ _ _. refl))
+    (says-nothing (λ _ _. refl))
     (says-syllable (omega arith) refl)
-    says-nothing
+    (says-nothing (λ _ _. refl))
     (says-syllable (omega arith) refl)
-    says-nothing
+    (says-nothing (λ _ _. refl))
     (says-syllable (omega arith) refl)
-    says-nothing
+    (says-nothing (λ _ _. refl))
     (says-syllable (omega arith) refl)
     label l
 
+pub opened-says : (k : Kind) (label : ℕ) {n : ℕ} → label < 16 → n ≡ opens k label → Says k label n
+opened-says k label l e = rw e (opens-says k label l)
+
+behind-first : (first width : ℕ) (g : Holding) (f : Fed) {x long : ℕ} → ended 0 0 x long ≡ begun g 0 0 f → ended first width x long ≡ begun g first width f
+behind-first first width g bad e = clash (ap (λ (s : Step). s .bad) e)
+behind-first first width g (fed is h) e =
+    ap (λ (s : Step). record { first = first; second = s .second; «first_width» = width; «second_width» = s .«second_width»; held = s .held; bad = false }) e
+
+-- an item of one word, behind a string that is finished
+pub single-starts : {k : Kind} {label n : ℕ} → Says k label n → 8 ≤ n → (first width bus info : ℕ) (g : Holding) {r : Step} → r ≡ singleOf n bus info
+    → ended first width (r .second) (r .«second_width») ≡ begun g first width (starts k bus label info)
+single-starts {k} {label} says l first width bus info g e = rw e (behind-first first width g (starts k bus label info) (says .single l g bus info))
+
+-- what the code says of a label
+pub either-overflow : (label : ℕ) → label ≡ 0 → (oneWord 8 0 0 ≡ opens Mil1553 label) × (oneWord 8 0 0 ≡ opens Arinc429 label)
+unfolding opens
+either-overflow label e = rw e (refl, refl)
+
+pub either-user : (label : ℕ) → label < 8 → label / 2 ≡ 1 → (oneWord 7 1 (label % 2) ≡ opens Mil1553 label) × (oneWord 7 1 (label % 2) ≡ opens Arinc429 label)
+unfolding opens
+either-user =
+    λ label l. lower (λ n. n / 2 ≡ 1 → (oneWord 7 1 (n % 2) ≡ opens Mil1553 n) × (oneWord 7 1 (n % 2) ≡ opens Arinc429 n))
+    (λ e. absurd (omega arith)) (λ e. absurd (omega arith)) (λ e. (refl, refl)) (λ e. (refl, refl))
+    (λ e. absurd (omega arith)) (λ e. absurd (omega arith)) (λ e. absurd (omega arith)) (λ e. absurd (omega arith))
+    label l
+
+pub either-nothing : (label : ℕ) → label < 8 → (label ≡ 4 → ⊥) → (label ≡ 0 → ⊥) → (label / 2 ≡ 1 → ⊥) → (0 ≡ opens Mil1553 label) × (0 ≡ opens Arinc429 label)
+unfolding opens
+either-nothing =
+    λ label l. lower (λ n. (n ≡ 4 → ⊥) → (n ≡ 0 → ⊥) → (n / 2 ≡ 1 → ⊥) → (0 ≡ opens Mil1553 n) × (0 ≡ opens Arinc429 n))
+    (λ x y z. absurd (y refl)) (λ x y z. (refl, refl)) (λ x y z. absurd (z refl)) (λ x y z. absurd (z refl))
+    (λ x y z. absurd (x refl)) (λ x y z. (refl, refl)) (λ x y z. (refl, refl)) (λ x y z. (refl, refl))
+    label l
+
+pub none-on-unused : {k : Kind} (label : ℕ) → label < 16 → k ≡ Unused → 0 ≡ opens k label
+unfolding opens
+none-on-unused label l e = rw e (below16 (λ n. 0 ≡ opens Unused n) refl refl refl refl refl refl refl refl refl refl refl refl refl refl refl refl label l)
+
+pub on-1553-command : (label : ℕ) → 8 ≤ label → label < 16 → (15 - label) % 4 ≡ 0 → 1 ≡ opens Mil1553 label
+unfolding opens
+on-1553-command label l u =
+    upper (λ n. (15 - n) % 4 ≡ 0 → 1 ≡ opens Mil1553 n)
+    (λ e. absurd (omega arith)) (λ e. absurd (omega arith)) (λ e. absurd (omega arith)) (λ e. refl)
+    (λ e. absurd (omega arith)) (λ e. absurd (omega arith)) (λ e. absurd (omega arith)) (λ e. refl)
+    label l u
+
+pub on-1553-status : (label : ℕ) → 8 ≤ label → label < 16 → (15 - label) % 4 ≡ 1 → oneWord 2 2 ((15 - label) / 4 * 2) ≡ opens Mil1553 label
+unfolding opens
+on-1553-status label l u =
+    upper (λ n. (15 - n) % 4 ≡ 1 → oneWord 2 2 ((15 - n) / 4 * 2) ≡ opens Mil1553 n)
+    (λ e. absurd (omega arith)) (λ e. absurd (omega arith)) (λ e. refl) (λ e. absurd (omega arith))
+    (λ e. absurd (omega arith)) (λ e. absurd (omega arith)) (λ e. refl) (λ e. absurd (omega arith))
+    label l u
+
+pub on-1553-word : (label : ℕ) → 8 ≤ label → label < 16 → ((15 - label) % 4 ≡ 0 → ⊥) → ((15 - label) % 4 ≡ 1 → ⊥)
+    → oneWord ((15 - label) % 4 + 1) 1 ((15 - label) / 4) ≡ opens Mil1553 label
+unfolding opens
+on-1553-word label l u =
+    upper (λ n. ((15 - n) % 4 ≡ 0 → ⊥) → ((15 - n) % 4 ≡ 1 → ⊥) → oneWord ((15 - n) % 4 + 1) 1 ((15 - n) / 4) ≡ opens Mil1553 n)
+    (λ x y. refl) (λ x y. refl) (λ x y. absurd (y refl)) (λ x y. absurd (x refl))
+    (λ x y. refl) (λ x y. refl) (λ x y. absurd (y refl)) (λ x y. absurd (x refl))
+    label l u
+
+pub on-429-syllable : (label : ℕ) → 8 ≤ label → label < 16 → label % 2 * 2 ≡ opens Arinc429 label
+unfolding opens
+on-429-syllable label l u = upper (λ n. n % 2 * 2 ≡ opens Arinc429 n) refl refl refl refl refl refl refl refl label l u
+
 -- the row of a kind, found in the table
-pub row-at : (k : Kind) (label : ℕ) → label < 16 → getD openings (rowOf k + label) 0 ≡ opens k label
+pub row-at : (k : Kind) (label : ℕ) → getD (getD openings (rowOf k) []) label 0 ≡ opens k label
 unfolding opens openings
-row-at Unused label l = below16 (λ n. getD openings (0 + n) 0 ≡ opens Unused n) refl refl refl refl refl refl refl refl refl refl refl refl refl refl refl refl label l
-row-at Mil1553 label l = below16 (λ n. getD openings (16 + n) 0 ≡ opens Mil1553 n) refl refl refl refl refl refl refl refl refl refl refl refl refl refl refl refl label l
-row-at Arinc429 label l = below16 (λ n. getD openings (32 + n) 0 ≡ opens Arinc429 n) refl refl refl refl refl refl refl refl refl refl refl refl refl refl refl refl label l
+row-at Unused label = refl
+row-at Mil1553 label = refl
+row-at Arinc429 label = refl
 
--- the bus moved up by at most three bits
-pub moved : (bus n : ℕ) → bus < 16 → n < 4 → (bus * 2 ^ n % 2 ^ 32 ≡ bus * 2 ^ n) × (bus * 2 ^ n < 128)
-moved bus zero b l = (omega arith, omega arith)
-moved bus (suc zero) b l = (omega arith, omega arith)
-moved bus (suc (suc zero)) b l = (omega arith, omega arith)
-moved bus (suc (suc (suc zero))) b l = (omega arith, omega arith)
-moved bus (suc (suc (suc (suc n)))) b l = absurd (omega arith)
+pub row-is : (k : Kind)
+    → opens k 0 ∷ opens k 1 ∷ opens k 2 ∷ opens k 3 ∷ opens k 4 ∷ opens k 5 ∷ opens k 6 ∷ opens k 7
+    ∷ opens k 8 ∷ opens k 9 ∷ opens k 10 ∷ opens k 11 ∷ opens k 12 ∷ opens k 13 ∷ opens k 14 ∷ opens k 15 ∷ []
+    ≡ row k
+unfolding opens
+row-is Unused = refl
+row-is Mil1553 = refl
+row-is Arinc429 = refl
 
-pub row-low : (k : Kind) → rowOf k ≤ 32
+-- a number moved up by at most three bits
+pub moved : (x n : ℕ) → x < 256 → n < 4 → (x * 2 ^ n % 2 ^ 32 ≡ x * 2 ^ n) × (x * 2 ^ n < 2048)
+moved x zero b l = (omega arith, omega arith)
+moved x (suc zero) b l = (omega arith, omega arith)
+moved x (suc (suc zero)) b l = (omega arith, omega arith)
+moved x (suc (suc (suc zero))) b l = (omega arith, omega arith)
+moved x (suc (suc (suc (suc n)))) b l = absurd (omega arith)
+
+pub row-low : (k : Kind) → rowOf k < 3
 row-low Unused = omega arith
 row-low Mil1553 = omega arith
 row-low Arinc429 = omega arith

@@ -1,8 +1,7 @@
 -- What a word brings, as two strings of log bits and what is then held.
-use Prim.Native.Nat.{ℕ, _+_, _*_, _/_, _%_, _-_}
-use mathlib.Core.Bool.{true, false, cond}
+use Prim.Native.Nat.{ℕ}
+use mathlib.Core.Bool.{true, false}
 use mathlib.Core.List.{flatMap}
-use lib.Dec.{eqb}
 use Rattle.format.specs.Item.{itemFields}
 use Rattle.format.specs.Reader.{Fed, bad, fed}
 use Rattle.format.specs.declared.Held.the-variants.{Nothing}
@@ -22,11 +21,6 @@ holding first width g =
 abbrev pub ended : ℕ → ℕ → ℕ → ℕ → Step
 ended first width second long =
     record { first = first; second = second; «first_width» = width; «second_width» = long; held = flat Nothing; bad = false }
-
--- kind, bus and side of the 1553 word with this label, 8 to 15, and the mark of a command or a status
-abbrev pub headOf : ℕ → ℕ → ℕ
-headOf bus label =
-    let side : ℕ = ((4 - label % 4) * 16 + bus) * 2 + (3 - label / 4) in cond (eqb (label / 2 % 2) 1) (side * 2) side
 
 -- what a word starts, behind a string that is finished already
 abbrev pub begun : Holding → ℕ → ℕ → Fed → Step

@@ -7,11 +7,9 @@ ghost use Rattle.format.specs.declared.Kind.the-variants.{Mil1553, Arinc429};
 ghost use Rattle.format.specs.declared.Held.the-variants.{Nothing};
 ghost use Rattle.data_start.specs.Begins.{Begins};
 ghost use Rattle.data_start.specs.Holding.{flat};
-ghost use Rattle.data_start.specs.Opening.{openings, opens, rowOf, singleOf};
-ghost use Rattle.data_start.specs.Step.{refusal, holding, ended, begun, headOf};
+ghost use Rattle.data_start.specs.Opening.{oneWord, opens, openings, row, rowOf, singleOf};
+ghost use Rattle.data_start.specs.Step.{refusal, holding, ended, begun};
 use format::Kind;
-
-mod table;
 
 // What is held between two data words. `base` is the log bits of the command or ARINC word so far, untagged; `time` its time
 // words so far, or a response time; `awaits` is bus x 16 + label of the word that goes on with it.
@@ -88,49 +86,13 @@ pub fn ends(first: u64, width: u32, second: u64, long: u32) -> Step
     }
 }
 
-// A user word or an overflow mark, "on either kind of bus".
-fn starts_on_either(
-    held: Holding,
-    first: u64,
-    width: u32,
-    bus: u32,
-    label: u32,
-    information: u32,
-) -> Step
-    requires { ⌜ (bus < 16) × (label < 8) × (information < 65536) × (label ≡ 4 → ⊥) ⌝ }
-    ensures { λ r. ⌜ r ≡ begun held first width (reader.starts Mil1553 bus label information) ⌝ }
-{
-    if label == 0 {
-        return ends(first, width, ((128 + bus) * 65536 + information) as u64, 24);
-    }
-    if label / 2 == 1 {
-        return ends(
-            first,
-            width,
-            (((112 + bus) * 2 + label % 2) * 65536 + information) as u64,
-            25,
-        );
-    }
-    refused(held)
-}
-
-// The bits before the word of a command, status, data word or bus error: kinds 1 to 4, labels 15 to 12 for A and 11 to 8 for B;
-// a command and a status have a mark, 0 here.
-fn head(bus: u32, label: u32) -> u32
-    requires { ⌜ (bus < 16) × (8 ≤ label) × (label < 16) ⌝ }
-    ensures { λ r. ⌜ (r ≡ headOf bus label) × (r < 1024) ⌝ }
-{
-    let side = ((4 - label % 4) * 16 + bus) * 2 + (3 - label / 4);
-    if label / 2 % 2 == 1 { side * 2 } else { side }
-}
-
 // A command, which may have a tag.
 pub fn command(first: u64, width: u32, bus: u32, label: u32, information: u32) -> Step
     requires { ⌜ (bus < 16) × (8 ≤ label) × (label < 16) × (label % 4 ≡ 3) × (information < 65536) ⌝ }
     ensures { λ r. ⌜ Begins first width (reader.starts Mil1553 bus label information) r ⌝ }
 {
-    let bits = head(bus, label) as u64 * 65536 + information as u64;
-    holds(first, width, bits, 0, bus * 16 + 7)
+    let bits = ((16 + bus) * 2 + (3 - label / 4)) * 131072 + information;
+    holds(first, width, bits as u64, 0, bus * 16 + 7)
 }
 
 // A response time, whose status follows.
@@ -139,33 +101,6 @@ pub fn response(first: u64, width: u32, bus: u32, information: u32) -> Step
     ensures { λ r. ⌜ Begins first width (reader.starts Mil1553 bus 4 information) r ⌝ }
 {
     holds(first, width, 0, information, 270 + bus * 16)
-}
-
-fn starts_on_1553(
-    held: Holding,
-    first: u64,
-    width: u32,
-    bus: u32,
-    label: u32,
-    information: u32,
-) -> Step
-    requires { ⌜ (bus < 16) × (label < 16) × (information < 65536) ⌝ }
-    ensures { λ r. ⌜ r ≡ begun held first width (reader.starts Mil1553 bus label information) ⌝ }
-{
-    if 8 <= label {
-        if label % 4 == 3 {
-            return command(first, width, bus, label, information);
-        }
-        let bits = head(bus, label) as u64 * 65536 + information as u64;
-        return ends(first, width, bits, 25 + label / 2 % 2);
-    }
-    if label == 4 {
-        if 10000 <= information {
-            return refused(held);
-        }
-        return response(first, width, bus, information);
-    }
-    starts_on_either(held, first, width, bus, label, information)
 }
 
 // Whether the two labels of a notice are one channel's pair.
@@ -207,30 +142,154 @@ pub fn syllable(first: u64, width: u32, bus: u32, label: u32, information: u32) 
     holds(first, width, bits, 0, bus * 16 + (label - 1))
 }
 
-fn starts_on_429(
-    held: Holding,
-    first: u64,
-    width: u32,
-    bus: u32,
-    label: u32,
-    information: u32,
-) -> Step
-    requires { ⌜ (bus < 16) × (label < 16) × (information < 65536) ⌝ }
-    ensures { λ r. ⌜ r ≡ begun held first width (reader.starts Arinc429 bus label information) ⌝ }
+// An item of one word, as its opening: its kind in the log, and the bits behind its bus, so many and of this number.
+fn one_word(kind: u32, behind: u32, number: u32) -> u32
+    requires { ⌜ (kind < 16) × (behind < 4) × (number < 4) ⌝ }
+    ensures { λ r. ⌜ r ≡ oneWord kind behind number ⌝ }
 {
-    if 8 <= label {
-        if label % 2 == 1 {
-            return syllable(first, width, bus, label, information);
+    ((kind * 16 << behind) + number) * 4 + behind
+}
+
+// An overflow mark or a user word, "on either kind of bus".
+fn opens_on_either(label: u32) -> u32
+    requires { ⌜ (label < 8) × (label ≡ 4 → ⊥) ⌝ }
+    ensures { λ r. ⌜ (r ≡ opens Mil1553 label) × (r ≡ opens Arinc429 label) ⌝ }
+{
+    if label == 0 {
+        return one_word(8, 0, 0);
+    }
+    if label / 2 == 1 {
+        return one_word(7, 1, label % 2);
+    }
+    0
+}
+
+// Labels 15 to 12 are kinds 1 to 4 on A, labels 11 to 8 on B; a status has a mark behind its side, 0 here.
+fn opens_on_1553(label: u32) -> u32
+    requires { ⌜ label < 16 ⌝ }
+    ensures { λ r. ⌜ r ≡ opens Mil1553 label ⌝ }
+{
+    if label < 8 {
+        if label == 4 {
+            return 3;
         }
+        return opens_on_either(label);
+    }
+    let down = 15 - label;
+    match down % 4 {
+        0 => 1,
+        1 => one_word(2, 2, down / 4 * 2),
+        _ => one_word(down % 4 + 1, 1, down / 4),
+    }
+}
+
+fn opens_on_429(label: u32) -> u32
+    requires { ⌜ label < 16 ⌝ }
+    ensures { λ r. ⌜ r ≡ opens Arinc429 label ⌝ }
+{
+    if label < 8 {
+        if label == 4 {
+            return 4;
+        }
+        return opens_on_either(label);
+    }
+    label % 2 * 2
+}
+
+// What a word opens, by the kind of its bus and its label: 0 nothing, 1 a command, 2 a high syllable, 3 a response time,
+// 4 a notice. Any other number is an item of one word: four times the log bits before the word, as they are on bus 0, and how
+// many of them stand behind the bus.
+pub fn opens(kind: Kind, label: u32) -> u32
+    requires { ⌜ label < 16 ⌝ }
+    ensures { λ r. ⌜ r ≡ opens kind label ⌝ }
+{
+    match kind {
+        Kind::Unused => 0, // nothing
+        Kind::Mil1553 => opens_on_1553(label),
+        Kind::Arinc429 => opens_on_429(label),
+    }
+}
+
+// What the labels 0 to 15 open on a bus of this kind.
+fn row(kind: Kind) -> [u32; 16]
+    ensures { λ r. ⌜ r ≡ row kind ⌝ }
+{
+    [
+        opens(kind, 0),
+        opens(kind, 1),
+        opens(kind, 2),
+        opens(kind, 3),
+        opens(kind, 4),
+        opens(kind, 5),
+        opens(kind, 6),
+        opens(kind, 7),
+        opens(kind, 8),
+        opens(kind, 9),
+        opens(kind, 10),
+        opens(kind, 11),
+        opens(kind, 12),
+        opens(kind, 13),
+        opens(kind, 14),
+        opens(kind, 15),
+    ]
+}
+
+// All of it as a table, which the compiler works out: for a loop that looks up word after word. It is made once and lent, since a
+// constant is copied wherever it is named.
+pub fn openings() -> [[u32; 16]; 3]
+    ensures { λ r. ⌜ r ≡ openings ⌝ }
+{
+    [row(Kind::Unused), row(Kind::Mil1553), row(Kind::Arinc429)]
+}
+
+fn row_of(kind: Kind) -> usize
+    ensures { λ r. ⌜ r ≡ rowOf kind ⌝ }
+{
+    match kind {
+        Kind::Unused => 0, // the first row
+        Kind::Mil1553 => 1,
+        Kind::Arinc429 => 2,
+    }
+}
+
+// What a word opens, by the table.
+pub fn opening(table: &[[u32; 16]; 3], kind: Kind, label: u32) -> u32
+    requires { ⌜ (now table ≡ openings) × (label < 16) ⌝ }
+    ensures { λ r. ⌜ r ≡ opens kind label ⌝ }
+{
+    table[row_of(kind)][label as usize]
+}
+
+// The item of one word, by its opening.
+pub fn single(opening: u32, bus: u32, information: u32) -> Step
+    requires { ⌜ (opening < 4096) × (bus < 16) × (information < 65536) ⌝ }
+    ensures { λ r. ⌜ r ≡ singleOf opening bus information ⌝ }
+{
+    let behind = opening % 4;
+    let head = opening / 4 + (bus << behind);
+    ends(0, 0, (head * 65536 + information) as u64, 24 + behind)
+}
+
+// A word with the label of a response time.
+fn starts_response(held: Holding, first: u64, width: u32, bus: u32, information: u32) -> Step
+    requires { ⌜ (bus < 16) × (information < 65536) ⌝ }
+    ensures { λ r. ⌜ r ≡ begun held first width (reader.starts Mil1553 bus 4 information) ⌝ }
+{
+    if 10000 <= information {
         return refused(held);
     }
-    if label == 4 {
-        if is_pair(information) {
-            return notice(first, width, bus, information);
-        }
-        return refused(held);
+    response(first, width, bus, information)
+}
+
+// A word with the label of a notice.
+fn starts_notice(held: Holding, first: u64, width: u32, bus: u32, information: u32) -> Step
+    requires { ⌜ (bus < 16) × (information < 65536) ⌝ }
+    ensures { λ r. ⌜ r ≡ begun held first width (reader.starts Arinc429 bus 4 information) ⌝ }
+{
+    if is_pair(information) {
+        return notice(first, width, bus, information);
     }
-    starts_on_either(held, first, width, bus, label, information)
+    refused(held)
 }
 
 // What a word starts.
@@ -246,43 +305,16 @@ pub fn starts(
     requires { ⌜ (bus < 16) × (label < 16) × (information < 65536) ⌝ }
     ensures { λ r. ⌜ r ≡ begun held first width (reader.starts kind bus label information) ⌝ }
 {
-    match kind {
-        Kind::Unused => refused(held),
-        Kind::Mil1553 => starts_on_1553(held, first, width, bus, label, information),
-        Kind::Arinc429 => starts_on_429(held, first, width, bus, label, information),
+    let opened = opens(kind, label);
+    if 8 <= opened {
+        let one = single(opened, bus, information);
+        return ends(first, width, one.second, one.second_width);
     }
-}
-
-// The table, to be made once and lent to each `opening`: a constant is copied wherever it is named.
-pub fn openings() -> [u32; 48]
-    ensures { λ r. ⌜ r ≡ openings ⌝ }
-{
-    table::OPENINGS
-}
-
-fn row_of(kind: Kind) -> usize
-    ensures { λ r. ⌜ r ≡ rowOf kind ⌝ }
-{
-    match kind {
-        Kind::Unused => 0,
-        Kind::Mil1553 => 16,
-        Kind::Arinc429 => 32,
+    match opened {
+        1 => command(first, width, bus, label, information),
+        2 => syllable(first, width, bus, label, information),
+        3 => starts_response(held, first, width, bus, information),
+        4 => starts_notice(held, first, width, bus, information),
+        _ => refused(held),
     }
-}
-
-pub fn opening(table: &[u32; 48], kind: Kind, label: u32) -> u32
-    requires { ⌜ (now table ≡ openings) × (label < 16) ⌝ }
-    ensures { λ r. ⌜ r ≡ opens kind label ⌝ }
-{
-    table[row_of(kind) + label as usize]
-}
-
-// The item of one word, by its opening.
-pub fn single(opening: u32, bus: u32, information: u32) -> Step
-    requires { ⌜ (opening < 4096) × (bus < 16) × (information < 65536) ⌝ }
-    ensures { λ r. ⌜ r ≡ singleOf opening bus information ⌝ }
-{
-    let behind = opening % 4;
-    let head = opening / 4 + (bus << behind);
-    ends(0, 0, (head * 65536 + information) as u64, 24 + behind)
 }

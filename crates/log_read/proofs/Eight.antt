@@ -1,11 +1,11 @@
 -- Eight bytes, with zeros past the end, as one number of 64 bits, and a field in them.
-use Prim.Native.Nat.{ℕ, suc, _+_, _*_, _-_, _/_, _%_, _^_, _≤_, _<_}
-use native.Mathlib.Nat.{mod-lt, mod-eq-of-lt, add-zero, div-add-mod', le-refl}
+use Prim.Native.Nat.{ℕ, zero, suc, _+_, _*_, _-_, _/_, _%_, _^_, _≤_, _<_}
+use native.Mathlib.Nat.{mod-lt, mod-eq-of-lt, add-zero, zero-mul, div-add-mod', le-refl}
 use native.Mathlib.Omega.{arith}
 use mathlib.Core.Path.{_≡_, refl, sym, ap, ap₂, _∙_}
-use mathlib.Core.List.{List, [], _∷_, _++_, append-assoc}
+use mathlib.Core.List.{List, [], _∷_, _++_, append-assoc, append-nil}
 use lib.ListN.{length, take, drop, getD, replicate, length-drop, length-take, take-append-drop}
-use lib.Seq.{drop-at, take-at, drop-drop, getD-drop}
+use lib.Seq.{drop-at, take-at, take-all, take-suc, drop-drop, getD-drop}
 use lib.Pow.{pow-pos, split, shr-lt, shr-shr}
 use Rattle.format.specs.Bits.{bitsOf, bytesBits, numOf}
 use Rattle.format.specs.Log.{field}
@@ -135,3 +135,46 @@ tag-ahead log p far e =
     let i = (p + 53) / 8 - 8 in
     let a = p + 64 - 8 * ((p + 53) / 8) in
     rw e (moved-ahead log i a p 46 (said log i) (omega arith) (omega arith) (said-bits log i))
+
+-- ---- fewer than eight bytes are left: n is the first m of them
+
+-- one more
+pub cut-more : (s : List ℕ) (i m n : ℕ) → i + m < length s → m < 7 → getD s (i + m) 0 < 256 → bitsOf (m * 8) n ≡ bytesBits (take m (drop i s))
+    → bitsOf ((m + 1) * 8) (n * 2 ^ 8 % 2 ^ 64 + getD s (i + m) 0) ≡ bytesBits (take (m + 1) (drop i s))
+unfolding bytesBits
+cut-more s i m n h l low e =
+    let b = getD s (i + m) 0 in
+    let f : n * 2 ^ 8 % 2 ^ 64 + b ≡ (n * 2 ^ 8 + b) % 2 ^ 64 = omega (arith, low) in
+    let g : (m + 1) * 8 ≡ m * 8 + 8 = omega arith in
+    let r : m < length (drop i s) = rw (length-drop) (omega (arith, h)) in
+    let p : m + 1 ≡ suc m = omega arith in
+    ap₂ bitsOf g f
+    ∙ bits-mod (m * 8 + 8) 64 (n * 2 ^ 8 + b) (omega (arith, l))
+    ∙ bits-cat (m * 8) 8 n b low
+    ∙ ap (λ (x : List ℕ). x ++ bitsOf 8 b) e
+    ∙ sym (ap (λ (k : ℕ). bytesBits (take k (drop i s))) p
+    ∙ ap bytesBits (take-suc (drop i s) m 0 r)
+    ∙ bytes-append (take m (drop i s)) (getD (drop i s) m 0 ∷ [])
+    ∙ ap (λ (x : ℕ). bytesBits (take m (drop i s)) ++ bytesBits (x ∷ [])) (getD-drop i s m 0)
+    ∙ ap (λ (x : List ℕ). bytesBits (take m (drop i s)) ++ x) (append-nil (bitsOf 8 b)))
+
+zeros-bits : (j : ℕ) → bytesBits (replicate j 0) ≡ bitsOf (j * 8) 0
+unfolding bytesBits bitsOf
+zeros-bits zero = refl
+zeros-bits (suc j) =
+    let e : suc j * 8 ≡ 8 + j * 8 = omega arith in
+    let z : 0 ≡ 0 * 2 ^ (j * 8) + 0 = sym (add-zero (0 * 2 ^ (j * 8)) ∙ zero-mul (2 ^ (j * 8))) in
+    ap (λ (l : List ℕ). bitsOf 8 0 ++ l) (zeros-bits j) ∙ sym (ap₂ bitsOf e z ∙ bits-cat 8 (j * 8) 0 0 (pow-pos (j * 8)))
+
+-- all of them
+pub cut-eight : (s : List ℕ) (i m n : ℕ) → length s < i + 8 → m ≡ length s - i → bitsOf (m * 8) n ≡ bytesBits (take m (drop i s))
+    → bytesBits (eight s i) ≡ bitsOf 64 (n * 2 ^ (64 - 8 * m) % 2 ^ 64)
+cut-eight s i m n h k e =
+    let d : length (drop i s) ≡ m = length-drop i s ∙ sym k in
+    let a = 64 - 8 * m in
+    let f : m * 8 + a ≡ 64 = omega (arith, h, k) in
+    let g : (8 - m) * 8 ≡ a = omega (arith, h, k) in
+    ap bytesBits (eight-pad s i ∙ rw d (ap (λ (l : List ℕ). l ++ replicate (8 - m) 0) (take-all 8 (drop i s) (rw d (omega (arith, h, k))))))
+    ∙ bytes-append (drop i s) (replicate (8 - m) 0)
+    ∙ ap₂ _++_ (ap bytesBits (sym (take-all m (drop i s) (rw d (le-refl m)))) ∙ sym e) (zeros-bits (8 - m) ∙ ap (λ (l : ℕ). bitsOf l 0) g)
+    ∙ sym (bits-mod 64 64 (n * 2 ^ a) (le-refl 64) ∙ ap₂ bitsOf (sym f) (sym (add-zero (n * 2 ^ a))) ∙ bits-cat (m * 8) a n 0 (pow-pos a))

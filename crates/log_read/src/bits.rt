@@ -8,13 +8,6 @@ ghost use Rattle.log_read.specs.Cursor.{eight, filledOf, tagFilledOf, to
 use crate::Cursor;
 use crate::Took;
 
-// The byte at i, and 0 past the end.
-fn byte(s: &[u8], i: usize) -> u8
-    ensures { λ r. ⌜ r ≡ getD (now (s .entry)) i 0 ⌝ }
-{
-    if i < s.len() { s[i] } else { 0 }
-}
-
 // Four bytes as one number, the first one highest.
 fn four(a: u8, b: u8, c: u8, d: u8) -> u64
     ensures { λ r. ⌜ (r ≡ a * 16777216 + b * 65536 + c * 256 + d) × (r < 4294967296) ⌝ }
@@ -46,6 +39,24 @@ fn eight_in(s: &[u8], i: usize) -> u64
     )
 }
 
+// The same where fewer than eight bytes are left. It is a loop, which keeps `filled` so small that it is inlined wherever it is
+// called.
+fn eight_cut(s: &[u8], i: usize) -> u64
+    requires { ⌜ (i ≤ 2 ^ 40) × (length (now s) < i + 8) ⌝ }
+    ensures { λ r. ⌜ bytesBits (eight (now (s .entry)) i) ≡ bitsOf 64 r ⌝ }
+{
+    let mut n: u64 = 0;
+    let mut m: usize = 0;
+    while i + m < s.len() {
+        n = (n << 8) + s[i + m] as u64;
+        m += 1;
+    }
+    if m == 0 {
+        return 0;
+    }
+    n << (64 - 8 * m) as u32
+}
+
 // The eight bytes from i on, zeros past the end, as one number.
 fn eight_at(s: &[u8], i: usize) -> u64
     requires { ⌜ i ≤ 2 ^ 40 ⌝ }
@@ -54,16 +65,7 @@ fn eight_at(s: &[u8], i: usize) -> u64
     if i + 8 <= s.len() {
         return eight_in(s, i);
     }
-    join(
-        byte(s, i),
-        byte(s, i + 1),
-        byte(s, i + 2),
-        byte(s, i + 3),
-        byte(s, i + 4),
-        byte(s, i + 5),
-        byte(s, i + 6),
-        byte(s, i + 7),
-    )
+    eight_cut(s, i)
 }
 
 impl Cursor {

@@ -11,13 +11,13 @@ shl-head : tie.Need-shl-head
 shl-head c = search needs
 
 add-head : tie.Need-add-head
-add-head c = let m = moved (c .args .bus) (c .args .opening % 4) (c .pre .1) (omega arith) in omega (arith, m .0, m .1)
+add-head c = let m = moved (c .args .bus) (c .args .opening % 4) (omega (arith, c .pre .1)) (omega arith) in omega (arith, m .0, m .1)
 
 mul-ends : tie.Need-mul-ends
-mul-ends c = let m = moved (c .args .bus) (c .args .opening % 4) (c .pre .1) (omega arith) in omega (arith, m .0, m .1)
+mul-ends c = let m = moved (c .args .bus) (c .args .opening % 4) (omega (arith, c .pre .1)) (omega arith) in omega (arith, m .0, m .1)
 
 add-ends : tie.Need-add-ends
-add-ends c = let m = moved (c .args .bus) (c .args .opening % 4) (c .pre .1) (omega arith) in omega (arith, m .0, m .1)
+add-ends c = let m = moved (c .args .bus) (c .args .opening % 4) (omega (arith, c .pre .1)) (omega arith) in omega (arith, m .0, m .1)
 
 cast-ends : tie.Need-cast-ends
 cast-ends c = search needs
@@ -29,7 +29,10 @@ ends-requires : tie.Need-ends-requires
 ends-requires c κs = search needs
 
 returns : tie.Need-returns
-returns c = c .ends .ensures ∙ ap (λ (x : ℕ). ended 0 0 ((c .before .args .opening / 4 + x) * 65536 + c .before .args .information) (24 + c .before .args .opening % 4)) (moved (c .before .args .bus) (c .before .args .opening % 4) (c .before .pre .1) (omega arith) .0)
+returns c =
+    let a = c .before .args in
+    let m = moved (a .bus) (a .opening % 4) (omega (arith, c .before .pre .1)) (omega arith) in
+    c .ends .ensures ∙ ap (λ (x : ℕ). ended 0 0 ((a .opening / 4 + x) * 65536 + a .information) (24 + a .opening % 4)) (m .0)
 
 pub single-spec : {M : Type 1} → statement M
 single-spec =
