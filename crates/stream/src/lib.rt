@@ -4,7 +4,7 @@ ghost use Prim.Native.Nat.{_+_, _*_, _-_, _<_, _≤_};
 ghost use lib.ListN.{length, take};
 ghost use Rattle.format.specs.Plan.{slots};
 ghost use Rattle.stream_rules.specs.Stream.{feedBytes, groupSize, working};
-ghost use Rattle.stream_state.specs.AtWork.{workIn};
+ghost use Rattle.stream_state.specs.AtWork.{tableAt, workIn};
 ghost use Rattle.stream_state.specs.Parts.{kindsAt};
 ghost use Rattle.stream_state.specs.Layout.{stateBytes};
 ghost use Rattle.stream_piece.specs.Along.{Goes, Rooms, laid};
@@ -31,6 +31,7 @@ use stream_state::Stand;
 use stream_state::keep;
 use stream_state::kinds_at;
 use stream_state::load;
+use stream_state::notices_at;
 use stream_state::store;
 use stream_state::store_closed;
 use stream_state::store_failed;
@@ -242,14 +243,15 @@ fn feed_groups(
     state: &mut [u8],
     stand: Stand,
     filled: usize,
-    table: &mut [u64],
     piece: &[u8],
     log: &mut [u8],
     times: &mut [u64],
 ) -> Answer
-    requires { ⌜ Filled (now state) stand (now table) (now piece) (length (now log)) (length (now times)) filled ⌝ }
+    requires { ⌜ Filled (now state) stand (tableAt (now state)) (now piece) (length (now log)) (length (now times)) filled ⌝ }
     ensures { λ r. ⌜ Feeds (now (state .entry)) (now (piece .entry)) r (now (state .exit)) (now (log .entry)) (now (log .exit)) (now (times .entry)) (now (times .exit)) ⌝ }
 {
+    let mut table = [0u64; 64];
+    notices_at(state, &mut table);
     if group_words(stand.plan) <= 628 {
         let mut row = [0u32; 628];
         let mut out = [0u8; 2064];
@@ -257,7 +259,7 @@ fn feed_groups(
             state,
             stand,
             filled,
-            table,
+            &mut table,
             piece,
             &mut row,
             &mut out,
@@ -271,7 +273,7 @@ fn feed_groups(
         state,
         stand,
         filled,
-        table,
+        &mut table,
         piece,
         &mut row,
         &mut out,
@@ -285,12 +287,11 @@ fn feed_groups(
 fn feed_working(
     state: &mut [u8],
     stand: Stand,
-    table: &mut [u64],
     piece: &[u8],
     log: &mut [u8],
     times: &mut [u64],
 ) -> Answer
-    requires { ⌜ Fed (now state) stand (now table) (now piece) (length (now log)) ⌝ }
+    requires { ⌜ Fed (now state) stand (tableAt (now state)) (now piece) (length (now log)) ⌝ }
     ensures { λ r. ⌜ Feeds (now (state .entry)) (now (piece .entry)) r (now (state .exit)) (now (log .entry)) (now (log .exit)) (now (times .entry)) (now (times .exit)) ⌝ }
 {
     let plan = stand.plan;
@@ -307,15 +308,14 @@ fn feed_working(
         keep(state, waiting, piece);
         return refusal(0, 0, 0);
     }
-    feed_groups(state, stand, filled, table, piece, log, times)
+    feed_groups(state, stand, filled, piece, log, times)
 }
 
 // "16 first in the others", then the fault that is repeated: all that is refused is refused before anything is written.
 pub fn feed(state: &mut [u8], piece: &[u8], log: &mut [u8], times: &mut [u64]) -> Answer
     ensures { λ r. ⌜ Feeds (now (state .entry)) (now (piece .entry)) r (now (state .exit)) (now (log .entry)) (now (log .exit)) (now (times .entry)) (now (times .exit)) ⌝ }
 {
-    let mut table = [0u64; 64];
-    let found = load(state, &mut table);
+    let found = load(state);
     if !within(found.stage, piece.len(), log.len()) {
         return refusal(16, 0, 0);
     }
@@ -323,7 +323,7 @@ pub fn feed(state: &mut [u8], piece: &[u8], log: &mut [u8], times: &mut [u64]) -
         return refusal(found.number, found.place, found.second);
     }
     let stand = found.stand;
-    feed_working(state, stand, &mut table, piece, log, times)
+    feed_working(state, stand, piece, log, times)
 }
 
 // ---- Closing
@@ -356,11 +356,12 @@ fn close_on(found: Loaded, table: &[u64], log: &mut [u8]) -> Answer
 pub fn close(state: &mut [u8], log: &mut [u8]) -> Answer
     ensures { λ r. ⌜ Closes (now (state .entry)) r (now (state .exit)) (now (log .entry)) (now (log .exit)) ⌝ }
 {
-    let mut table = [0u64; 64];
-    let found = load(state, &mut table);
+    let found = load(state);
     if !within(found.stage, 0, log.len()) {
         return refusal(16, 0, 0);
     }
+    let mut table = [0u64; 64];
+    notices_at(state, &mut table);
     let answer = close_on(found, &table, log);
     store_closed(state);
     answer

@@ -28,7 +28,7 @@ use Rattle.stream_state.specs.declared.Loaded.{Loaded}
 use Rattle.stream_state.specs.declared.Stand.{Stand}
 use Rattle.stream_state.specs.Layout.{isState, numberAt, stateAt}
 use Rattle.stream_state.specs.Parts.{kindsAt, planAt, workingAt}
-use Rattle.stream_state.specs.Stand.{loadedAs, loadedOf, standOf, tableOf, workingOf}
+use Rattle.stream_state.specs.Stand.{loadedAs, loadedOf, standOf, workingOf}
 use Rattle.stream_state.specs.AtWork.{AtWork, tableAt, workIn}
 use Rattle.stream_state.specs.Laws.Bytes.{passed}
 use Rattle.stream_state.specs.Laws.Ended.{state-closed, state-failed}
@@ -119,7 +119,6 @@ module _ (b : List ℕ) (e : isState b ≡ true) (stage : numberAt b 0 ≡ 1025)
     passes = e;
     says = state-working b stage (s .kinds) ∙ ap working work-is;
     fit = ap (λ (w : Working). fits (working w)) (sym work-is) ∙ sound-fits b long stage s;
-    table = λ t. rw (eq-eqb (length b) 7168 long, eq-eqb (numberAt b 0) 1025 stage) refl;
     sixteen = sixteen;
     lawful = s .lawful;
     shape = legal-is (planAt b) (kindsAt b) (s .lawful) .shape;

@@ -6,15 +6,18 @@ use mathlib.Core.Path.{_≡_, refl, ap, sym, _∙_}
 use mathlib.Core.List.{List, [], _∷_}
 use lib.ListN.{length, getD, take, drop}
 use lib.Seq.{take-at, drop-at}
+use lib.Dec.{eqb}
+use borrow.Author.Tests.{eqb-true}
 use Rattle.format.specs.Lists.{list}
 use Rattle.format.specs.Laws.Lists.{length-list, list-split}
-use Rattle.format.specs.Laws.Tests.{clash}
+use Rattle.format.specs.Laws.Tests.{and-true, clash}
 use Rattle.format.specs.Reader.{Fed, bad, fed}
 use Rattle.format.specs.declared.Kind.{Kind}
 use Rattle.format.specs.declared.Held.{Held}
 use Rattle.format.specs.declared.Held.the-variants.{Nothing}
 use Rattle.data_start.specs.Holding.{flat}
 use Rattle.stream_rules.specs.StateNumbers.{heldFrom}
+use Rattle.stream_state.specs.declared.Again.{Again}
 use Rattle.stream_state.specs.Again.{again, againFrom, againOf}
 use Rattle.stream_state.specs.Parts.{areZeros, heldPasses}
 use Rattle.stream_state.specs.Laws.Again.{passes-again, passing}
@@ -72,3 +75,11 @@ module _ (ks : List Kind) (sixteen : length ks ≡ 16) (f : ℕ → ℕ) where
           let n : getD row 0 0 ≤ 4 = omega (arith, head .0, h) in
           let p = passes-again ks row is k (length-list f 15 5) n (ap (again ks Nothing) (words h) ∙ e) (ap areZeros (rest h) ∙ z) in
           rw (p .0, p .1) refl
+
+  pub none-held : areZeros row ≡ true → _≡_ {A = Again} (record { bad = false; held = flat Nothing }) (againOf ks row)
+  unfolding areZeros list again
+  none-held e =
+      let t = and-true (eqb (f 15) 0) (areZeros (list f 16 4)) e in
+      let z : f 15 ≡ 0 = eqb-true (f 15) 0 (t .0) in
+      let g : areZeros (list f (16 + f 15) (20 - (16 + f 15))) ≡ true = ap (λ (n : ℕ). areZeros (list f (16 + n) (20 - (16 + n)))) z ∙ t .1 in
+      ap (λ (n : ℕ). againFrom (again ks Nothing (list f 16 n))) (sym z) ∙ fed-again (omega (arith, z)) g

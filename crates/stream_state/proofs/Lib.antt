@@ -1,5 +1,6 @@
 -- Laws that the functions' proofs apply.
 pub mod Runs
+pub mod Used
 pub mod Sizes
 pub mod Fault
 pub mod Loads

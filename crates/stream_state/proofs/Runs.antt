@@ -34,18 +34,6 @@ module _ (f : ℕ → ℕ) (index end : ℕ) where
   unfolding areZeros list
   zero-bad h z = rw (one-more index end h, ne-eqb (f index) 0 z) refl
 
-  pub kinds-end : end ≤ index → areKinds (list f index (end - index)) ≡ true
-  unfolding areKinds list
-  kinds-end h = rw (none-left index end h) refl
-
-  pub kind-good : index < end → f index ≤ 2 → areKinds (list f index (end - index)) ≡ areKinds (list f (index + 1) (end - (index + 1)))
-  unfolding areKinds list
-  kind-good h z = rw (one-more index end h, le-leb (f index) 2 z) refl
-
-  pub kind-bad : index < end → 2 < f index → areKinds (list f index (end - index)) ≡ false
-  unfolding areKinds list
-  kind-bad h z = rw (one-more index end h, lt-leb (f index) 2 z) refl
-
 -- ---- all bytes at once
 
 pub or-zero : (a b : ℕ) → eqb (bitOr a b) 0 ≡ (eqb a 0 && eqb b 0)
@@ -54,7 +42,7 @@ or-zero (suc a) b =
     ne-eqb (bitOr (suc a) b) 0 (λ e. absurd (omega (arith, e, or-add-and (suc a) b, and-le-r (suc a) b)))
     ∙ rw (ne-eqb (suc a) 0 (λ e. absurd (omega (arith, e)))) refl
 
-and-assoc : (a b c : Bool) → (a && (b && c)) ≡ ((a && b) && c)
+pub and-assoc : (a b c : Bool) → (a && (b && c)) ≡ ((a && b) && c)
 and-assoc true b c = refl
 and-assoc false b c = refl
 
@@ -64,7 +52,7 @@ bytes-more s any i h =
     ap (λ (l : List ℕ). eqb any 0 && areZeros l) (drop-cons s i 0 h) ∙ and-assoc (eqb any 0) (eqb (getD s i 0) 0) (areZeros (drop (suc i) s))
     ∙ rw (add-one i, or-zero any (getD s i 0)) refl
 
-and-true-right : (t : Bool) → (t && true) ≡ t
+pub and-true-right : (t : Bool) → (t && true) ≡ t
 and-true-right true = refl
 and-true-right false = refl
 
@@ -151,3 +139,10 @@ module _ (n : ℕ) (l : List ℕ) where
 
   pub rest-zero : areZeros (take (length l - 4 * n) (drop (4 * n) l)) ≡ true → four ≡ areZeros l
   rest-zero e = sym (lent-parts ∙ rw e (and-true-right four))
+
+-- in front, and from there on
+pub front-not : (n : ℕ) (l : List ℕ) → areZeros (take (n - 0) l) ≡ false → false ≡ areZeros l
+front-not n l e = let a : n - 0 ≡ n = omega arith in sym (zeros-cut n l ∙ rw (rw a at e) refl)
+
+pub front-zero : (n : ℕ) (l : List ℕ) → areZeros (take (n - 0) l) ≡ true → areZeros (take (length l - n) (drop n l)) ≡ areZeros l
+front-zero n l e = let a : n - 0 ≡ n = omega arith in ap areZeros (from-on n l) ∙ sym (zeros-cut n l ∙ rw (rw a at e) refl)

@@ -1,25 +1,20 @@
 -- The table of unanswered notices is read from its 512 bytes.
-use Prim.Native.Nat.{ℕ, _+_, _*_, _/_, _≤_, _<_}
+use Prim.Native.Nat.{ℕ, _+_, _*_, _-_, _/_, _≤_, _<_}
 use native.Mathlib.Omega.{arith}
-use mathlib.Core.Bool.{Bool, true, false, cond, _&&_}
+use mathlib.Core.Bool.{true}
 use mathlib.Core.Path.{_≡_, refl, sym, ap, _∙_}
-use mathlib.Core.List.{List, [], _∷_, _++_, append-nil, flatMap}
+use mathlib.Core.List.{List, [], _++_, append-nil, flatMap}
 use lib.ListN.{length, getD, take, drop, replicate, length-drop}
 use lib.Seq.{drop-length, getD-drop, getD-take, length-take-le}
-use lib.Dec.{eqb}
-use borrow.Author.Tests.{eq-eqb, ne-eqb}
 use Rattle.format.specs.Answer.{over}
 use Rattle.format.specs.Lists.{list}
 use Rattle.format.specs.Laws.Lists.{length-list, list-same}
 use Rattle.from_c.specs.Numbers.{halfAt, timeAt, timeBytes, timesFrom}
 use Rattle.from_c.specs.Laws.{times-back}
-use Rattle.stream_state.specs.Layout.{isState, numberAt}
+use Rattle.stream_state.specs.Layout.{numberAt}
 use Rattle.stream_state.specs.Parts.{areZeros}
-use Rattle.stream_state.specs.Stand.{loadedOf, stopped, tableOf}
-use Rattle.stream_state.specs.Laws.Bytes.{passed}
-use Rattle.stream_state.specs.Laws.Row.{zeros-are}
+use Rattle.stream_state.specs.Laws.Row.{are-zeros, zeros-are}
 use Rattle.stream_state.specs.Laws.Small.{zeros-small}
-use Rattle.stream_state.proofs.Loads.{misfits}
 use Rattle.stream_state.proofs.Zeros.{zero-times}
 
 -- a number in a part of the bytes
@@ -39,13 +34,18 @@ part-number b k n at h =
     farther : (i : ℕ) → k + (at + 4 + i) ≡ k + at + 4 + i
     farther i = omega arith
 
+-- the numbers of a part of the bytes
+part-numbers : (b : List ℕ) (k n : ℕ) → length (take (8 * n) (drop (8 * k) b)) ≡ 8 * n → timesFrom (take (8 * n) (drop (8 * k) b)) ≡ list (numberAt b) k n
+part-numbers b k n l =
+    let m : length (take (8 * n) (drop (8 * k) b)) / 8 ≡ n = rw l (omega arith) in
+    ap (list (λ i. timeAt (take (8 * n) (drop (8 * k) b)) (8 * i)) 0) m
+    ∙ list-same (λ i. timeAt (take (8 * n) (drop (8 * k) b)) (8 * i)) (numberAt b) n 0 k
+    (λ i h. let e : 8 * k + 8 * (0 + i) ≡ 8 * (k + i) = omega arith in part-number b (8 * k) (8 * n) (8 * (0 + i)) (omega (arith, h)) ∙ ap (timeAt b) e)
+
 numbers-read : (b : List ℕ) → length b ≡ 7168 → timesFrom (take 512 (drop 288 b)) ≡ list (numberAt b) 36 64
 numbers-read b long =
     let d : length (drop 288 b) ≡ 6880 = length-drop 288 b ∙ rw long refl in
-    let l : length (take 512 (drop 288 b)) / 8 ≡ 64 = rw (length-take-le 512 (drop 288 b) (rw d (omega arith))) refl in
-    ap (list (λ i. timeAt (take 512 (drop 288 b)) (8 * i)) 0) l
-    ∙ list-same (λ i. timeAt (take 512 (drop 288 b)) (8 * i)) (numberAt b) 64 0 36
-    (λ i h. let e : 288 + 8 * (0 + i) ≡ 8 * (36 + i) = omega arith in part-number b 288 512 (8 * (0 + i)) (omega arith) ∙ ap (timeAt b) e)
+    part-numbers b 36 64 (length-take-le 512 (drop 288 b) (rw d (omega arith)))
 
 pub table-read : (b table : List ℕ) → length b ≡ 7168 → length table ≡ 64 → over (timesFrom (take 512 (drop 288 b))) table ≡ list (numberAt b) 36 64
 table-read b table long size =
@@ -62,18 +62,21 @@ zero-table b table long size z =
     ap (λ (n : ℕ). replicate n 0) size
     ∙ sym (ap (λ (l : List ℕ). over l table) t ∙ ap (λ (l : List ℕ). replicate 64 0 ++ l) d ∙ append-nil (replicate 64 0))
 
--- ---- by the stage
+-- bytes that are 0 say numbers that are 0
+pub zero-numbers : (b : List ℕ) (k n : ℕ) → length b ≡ 7168 → 8 * (k + n) ≤ 7168 → areZeros (take (8 * n) (drop (8 * k) b)) ≡ true → areZeros (list (numberAt b) k n) ≡ true
+zero-numbers b k n long h z =
+    let d : length (drop (8 * k) b) ≡ 7168 - 8 * k = length-drop (8 * k) b ∙ rw long refl in
+    let l : length (take (8 * n) (drop (8 * k) b)) ≡ 8 * n = length-take-le (8 * n) (drop (8 * k) b) (rw d (omega (arith, h))) in
+    let e : take (8 * n) (drop (8 * k) b) ≡ flatMap timeBytes (replicate n 0) =
+    zeros-are (take (8 * n) (drop (8 * k) b)) z ∙ ap (λ (m : ℕ). replicate m 0) l ∙ sym (zero-times n) in
+    let t : timesFrom (take (8 * n) (drop (8 * k) b)) ≡ replicate n 0 = ap timesFrom e ∙ times-back (replicate n 0) (zeros-small n) in
+    ap areZeros (sym (part-numbers b k n l) ∙ t) ∙ are-zeros n
 
-pub other-length : (b table : List ℕ) → (length b ≡ 7168 → ⊥) → (stopped 3 0 0 0 ≡ loadedOf b) × (table ≡ tableOf b table)
-other-length b table h =
-    (sym (misfits b (eqb (length b) 7168) (λ e. eq-eqb (length b) 7168 (passed b e .long)) (ne-eqb (length b) 7168 h)), rw (ne-eqb (length b) 7168 h) refl)
-
-pub table-kept : (b table : List ℕ) → (numberAt b 0 ≡ 1025 → ⊥) → table ≡ tableOf b table
-table-kept b table h = go (eqb (length b) 7168)
-  where
-    go : (t : Bool) → table ≡ cond (t && eqb (numberAt b 0) 1025) (list (numberAt b) 36 64) table
-    go true = rw (ne-eqb (numberAt b 0) 1025 h) refl
-    go false = refl
-
-pub table-taken : (b table : List ℕ) → length b ≡ 7168 → numberAt b 0 ≡ 1025 → list (numberAt b) 36 64 ≡ tableOf b table
-table-taken b table long stage = rw (eq-eqb (length b) 7168 long, eq-eqb (numberAt b 0) 1025 stage) refl
+-- and a table of zeros is stored as zeros
+pub zeros-stored : (table old : List ℕ) → length table ≡ 64 → length old ≡ 512 → areZeros table ≡ true → replicate (length old) 0 ≡ over (flatMap timeBytes (take 64 table)) old
+zeros-stored table old size long z =
+    let t : table ≡ replicate 64 0 = zeros-are table z ∙ ap (λ (n : ℕ). replicate n 0) size in
+    let d : drop 512 old ≡ [] = ap (λ (n : ℕ). drop n old) (sym long) ∙ drop-length old in
+    ap (λ (n : ℕ). replicate n 0) long
+    ∙ sym (ap (λ (l : List ℕ). over (flatMap timeBytes (take 64 l)) old) t ∙ ap (λ (l : List ℕ). over l old) (zero-times 64)
+    ∙ ap (λ (l : List ℕ). replicate 512 0 ++ l) d ∙ append-nil (replicate 512 0))

@@ -12,7 +12,7 @@ use Rattle.stream_rules.specs.Stream.{Working, working, fits, groupSize, heldFi
 use Rattle.stream_state.specs.declared.Stand.{Stand}
 use Rattle.stream_state.specs.Layout.{isState, numberAt, stateAt}
 use Rattle.stream_state.specs.Parts.{kindsAt}
-use Rattle.stream_state.specs.Stand.{tableOf, workingOf}
+use Rattle.stream_state.specs.Stand.{workingOf}
 
 -- the notices' table that lent bytes say
 abbrev pub tableAt : List ℕ → List ℕ
@@ -28,7 +28,6 @@ pub record AtWork (b : List ℕ) (x : Stand) : Type 0 where
   pub passes : isState b ≡ true
   pub says : stateAt b ≡ working (workIn b x)
   pub fit : fits (working (workIn b x)) ≡ true
-  pub table : (t : List ℕ) → tableOf b t ≡ tableAt b
   pub sixteen : length (kindsAt b) ≡ 16
   pub lawful : legal (x .plan) (kindsAt b) ≡ true
   pub shape : Shape (x .plan)

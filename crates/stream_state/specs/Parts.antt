@@ -1,18 +1,19 @@
 -- The written test of the lent bytes in parts, each of a few numbers (document 02, K4: "a state whose own numbers do not fit together").
 use Prim.Native.Nat.{ℕ, _+_, _*_, _/_, _%_, _^_}
-use mathlib.Core.Bool.{Bool, true, cond, _&&_, _||_}
+use mathlib.Core.Bool.{Bool, true, cond, not, _&&_, _||_}
 use mathlib.Core.List.{List, [], _∷_, map}
 use lib.ListN.{getD, take, drop}
 use lib.Dec.{eqb, leb, ltb}
 use Rattle.format.specs.Bits.{bitsOf}
 use Rattle.format.specs.Lists.{list}
 use Rattle.format.specs.Plan.{kindOn}
-use Rattle.from_c.specs.Numbers.{isChoice, kindOf, planFrom}
+use Rattle.from_c.specs.Numbers.{areKinds, isChoice, kindOf, planFrom}
 use Rattle.stream_rules.specs.Stream.{State, Working, failed, fits, groupSize, heldFits, isArinc, mostBytes}
 use Rattle.stream_rules.specs.StateNumbers.{fourWords, heldFrom, sameRow}
 use Rattle.format.specs.Laws.Reader.Forth.{heldParts}
 use Rattle.format.specs.declared.Kind.{Kind}
 use Rattle.format.specs.declared.Plan.{Plan}
+use Rattle.stream_state.specs.declared.Buses.{Buses}
 use Rattle.stream_state.specs.Layout.{numberAt}
 
 -- what says nothing is 0
@@ -24,6 +25,22 @@ areZeros (n ∷ ns) = eqb n 0 && areZeros ns
 abbrev pub planNamed : ℕ → ℕ → ℕ → ℕ → ℕ → ℕ → ℕ → Bool
 planNamed words tracks time crc parity label code =
     leb words 512 && (leb tracks 4 && (isChoice time && (isChoice crc && (isChoice parity && (leb label 7 && leb code 15)))))
+
+-- ---- the kinds' numbers: which are named, and how many buses are used
+
+abbrev pub usedOf : ℕ → ℕ
+usedOf n = cond (eqb n 0) 0 1
+
+unfoldable pub usedIn : List ℕ → ℕ
+usedIn [] = 0
+usedIn (n ∷ ns) = usedOf n + usedIn ns
+
+abbrev pub busesIn : List ℕ → Buses
+busesIn ns = record { named = areKinds ns; used = usedIn ns }
+
+-- what else makes a plan legal whose numbers are in their ranges, by how many buses are used, and how many above 7
+abbrev pub busesFit : Plan → ℕ → ℕ → Bool
+busesFit p used above = leb 128 (p .words) && ((leb 1 (p .tracks) && (eqb (p .tracks) 1 || eqb used 1)) && (not (p .parity) || (eqb above 0 && leb (p .«fill_bus») 7)))
 
 -- "less than one group" waits, and "a capture may run to 2^40 bytes"
 abbrev pub sizeFits : Plan → ℕ → ℕ → Bool

@@ -54,7 +54,3 @@ loadedAs (working w) = record { stage = 1; stand = standOf w; number = 0; place 
 -- what the lent bytes give: 3 is for bytes that are no state
 unfoldable pub loadedOf : List ℕ → Loaded
 loadedOf b = cond (isState b) (loadedAs (stateAt b)) (stopped 3 0 0 0)
-
--- the table of unanswered notices then: theirs if the stage says a state at work, else as it was
-abbrev pub tableOf : List ℕ → List ℕ → List ℕ
-tableOf b table = cond (eqb (length b) 7168 && eqb (numberAt b 0) 1025) (list (numberAt b) 36 64) table

@@ -4,7 +4,7 @@
 ghost use mathlib.Core.Path.{_≡_};
 ghost use mathlib.Core.List.{[], flatMap, map};
 ghost use Prim.Native.Nat.{_+_, _*_, _-_, _^_, _<_, _≤_};
-ghost use lib.ListN.{length, replicate};
+ghost use lib.ListN.{length, replicate, take};
 ghost use Rattle.format.specs.Bits.{bit};
 ghost use Rattle.format.specs.Item.{sided};
 ghost use Rattle.format.specs.Lists.{list};
@@ -18,14 +18,15 @@ ghost use Rattle.from_c.specs.Numbers.{areKinds, timeBytes, timesFrom};
 ghost use Rattle.stream_rules.specs.Stream.{closed, fits, failed, fresh, isArinc, placeFits, waitsFit, working};
 ghost use Rattle.stream_rules.specs.StateNumbers.{fourWords, kindNumber};
 ghost use Rattle.stream_state.specs.Layout.{numberAt, stateAt, stateBytes};
-ghost use Rattle.stream_state.specs.Parts.{areZeros, bitsFit, kindsAt, leadOf, planNamed, sizeFits, waitFits, waitsIn};
+ghost use Rattle.stream_state.specs.Parts.{areZeros, bitsFit, busesFit, busesIn, kindsAt, leadOf, planNamed, sizeFits, usedIn, usedOf, waitFits, waitsIn};
 ghost use Rattle.stream_state.specs.Again.{again, againFrom, againOf};
 ghost use Rattle.stream_state.specs.Loading.{Planned, Sized};
-ghost use Rattle.stream_state.specs.Stand.{loadedOf, noStand, stopped, tableOf, workingOf};
+ghost use Rattle.stream_state.specs.Stand.{loadedOf, noStand, stopped, workingOf};
 ghost use Rattle.stream_state.specs.Storing.{Storable, Waits, arincIn, commandIn, frontRow, keptIn, staged, standRow, waitingBytes};
 ghost use Rattle.format.specs.Reader.{bad};
 ghost use Rattle.format.specs.declared.Held.the-variants.{Nothing};
-ghost use mathlib.Core.Bool.{true, false, _&&_};
+ghost use mathlib.Core.Bool.{true, false, not, _&&_, _||_};
+ghost use lib.Dec.{eqb, leb};
 use data_word::Holding;
 use data_word::feed;
 use data_word::nothing;
@@ -108,8 +109,8 @@ fn four_zero(first: &[u8], second: &[u8], third: &[u8], fourth: &[u8]) -> bool
     (any | any2) | (any3 | any4) == 0
 }
 
-// The state is 7,168 bytes, nearly all of them zeros that are looked at in each call. Parts of whole 32 bytes leave few over.
-fn bytes_zero(bytes: &[u8]) -> bool
+// Four runs and what is left over. Runs of whole 32 bytes leave few over.
+fn runs_zero(bytes: &[u8]) -> bool
     ensures { λ r. ⌜ r ≡ areZeros (now (bytes .entry)) ⌝ }
 {
     let part = bytes.len() / 128 * 32;
@@ -125,6 +126,18 @@ fn bytes_zero(bytes: &[u8]) -> bool
         &bytes[third..fourth],
         &bytes[fourth..rest],
     )
+}
+
+// The state is 7,168 bytes, nearly all of them zeros that are looked at in each call. What is left over stands in front: the runs then
+// stand as the state's end stands in memory, wherever they begin.
+fn bytes_zero(bytes: &[u8]) -> bool
+    ensures { λ r. ⌜ r ≡ areZeros (now (bytes .entry)) ⌝ }
+{
+    let front = bytes.len() % 128;
+    if few_zero(&bytes[0..front]) {
+        return runs_zero(&bytes[front..]);
+    }
+    false
 }
 
 fn plan_named(
@@ -159,18 +172,76 @@ fn plan_named(
     code <= 15
 }
 
-fn kinds_named(state: &[u8]) -> bool
-    requires { ⌜ length (now state) ≡ 7168 ⌝ }
-    ensures { λ r. ⌜ r ≡ areKinds (list (numberAt (now (state .entry))) 20 16) ⌝ }
+fn both(a: bool, b: bool) -> bool
+    ensures { λ r. ⌜ r ≡ (a && b) ⌝ }
 {
-    let mut index = 20;
-    while index < 36 {
-        if 2 < time_at(state, 8 * index) {
-            return false;
-        }
+    if a { b } else { false }
+}
+
+fn one_used(number: u64) -> u64
+    ensures { λ r. ⌜ r ≡ usedOf number ⌝ }
+{
+    if number == 0 { 0 } else { 1 }
+}
+
+// Whether the numbers of some buses are kinds, and how many of the buses are used.
+pub struct Buses {
+    pub named: bool,
+    pub used: u64,
+}
+
+// Eight at once, all of them looked at: faster than one by one.
+fn eight_buses(state: &[u8], first: usize) -> Buses
+    requires { ⌜ (length (now state) ≡ 7168) × (first ≤ 28) ⌝ }
+    ensures { λ r. ⌜ r ≡ busesIn (list (numberAt (now (state .entry))) first 8) ⌝ }
+{
+    let mut named = true;
+    let mut used: u64 = 0;
+    let mut index = 0;
+    while index < 8 {
+        let number = time_at(state, 8 * (first + index));
+        named = both(named, number <= 2);
+        used += one_used(number);
         index += 1;
     }
+    Buses { named, used }
+}
+
+// The rest of what makes a plan legal whose numbers are named goes by how many buses are used, and how many above 7.
+fn tracks_fit(tracks: usize, used: u64) -> bool
+    ensures { λ r. ⌜ r ≡ (leb 1 tracks && (eqb tracks 1 || eqb used 1)) ⌝ }
+{
+    if tracks < 1 {
+        return false;
+    }
+    if tracks == 1 {
+        return true;
+    }
+    used == 1
+}
+
+fn parity_fits(parity: bool, above: u64, code: u32) -> bool
+    ensures { λ r. ⌜ r ≡ (not parity || (eqb above 0 && leb code 7)) ⌝ }
+{
+    if parity {
+        if above == 0 {
+            return code <= 7;
+        }
+        return false;
+    }
     true
+}
+
+fn buses_fit(plan: Plan, used: u64, above: u64) -> bool
+    ensures { λ r. ⌜ r ≡ busesFit plan used above ⌝ }
+{
+    if plan.words < 128 {
+        return false;
+    }
+    if tracks_fit(plan.tracks, used) {
+        return parity_fits(plan.parity, above, plan.fill_bus);
+    }
+    false
 }
 
 // The sixteen kinds of a state at work.
@@ -360,10 +431,13 @@ fn refeed(state: &[u8], count: usize, kinds: [Kind; 16]) -> Again
     kept(held)
 }
 
-fn held_at(state: &[u8], kinds: [Kind; 16]) -> Again
-    requires { ⌜ (length (now state) ≡ 7168) × (length kinds ≡ 16) ⌝ }
-    ensures { λ r. ⌜ r ≡ againOf kinds (list (numberAt (now (state .entry))) 15 5) ⌝ }
+fn held_at(state: &[u8]) -> Again
+    requires { ⌜ length (now state) ≡ 7168 ⌝ }
+    ensures { λ r. ⌜ r ≡ againOf (kindsAt (now (state .entry))) (list (numberAt (now (state .entry))) 15 5) ⌝ }
 {
+    if few_zero(&state[120..160]) {
+        return kept(nothing());
+    }
     let count = time_at(state, 120);
     if 4 < count {
         return lost();
@@ -373,6 +447,7 @@ fn held_at(state: &[u8], kinds: [Kind; 16]) -> Again
     if !numbers_zero(state, first, 20) {
         return lost();
     }
+    let kinds = kinds_at(state);
     refeed(state, words, kinds)
 }
 
@@ -439,31 +514,64 @@ fn none_waits(table: &[u64]) -> bool
     any == 0
 }
 
-// Most states have no notice that waits.
-fn waits_fit(table: &[u64], plan: Plan, groups: u64, kinds: [Kind; 16]) -> bool
-    requires { ⌜ Shape plan × (groups ≤ 1099511627776) × (length (now table) ≡ 64) ⌝ }
-    ensures { λ r. ⌜ r ≡ waitsFit plan kinds groups 0 (now (table .entry)) ⌝ }
+fn clear_table(table: &mut [u64])
+    ensures { λ _. ⌜ now (table .exit) ≡ replicate (length (now (table .entry))) 0 ⌝ }
 {
-    if none_waits(table) {
-        return true;
+    let mut index = 0;
+    while index < table.len() {
+        table[index] = 0;
+        index += 1;
     }
+}
+
+// Numbers are taken apart only if there are any.
+fn read_table(bytes: &[u8], table: &mut [u64])
+    requires { ⌜ (length (now bytes) ≡ 512) × (length (now table) ≡ 64) ⌝ }
+    ensures { λ _. ⌜ now (table .exit) ≡ over (timesFrom (now (bytes .entry))) (now (table .entry)) ⌝ }
+{
+    if bytes_zero(bytes) {
+        clear_table(table);
+        return;
+    }
+    times_from(bytes, table);
+}
+
+// The numbers of the unanswered notices of a state at work.
+pub fn notices_at(state: &[u8], table: &mut [u64])
+    requires { ⌜ (length (now state) ≡ 7168) × (length (now table) ≡ 64) ⌝ }
+    ensures { λ _. ⌜ now (table .exit) ≡ list (numberAt (now (state .entry))) 36 64 ⌝ }
+{
+    read_table(&state[288..800], table);
+}
+
+fn each_fits(state: &[u8], plan: Plan, groups: u64) -> bool
+    requires { ⌜ Shape plan × (groups ≤ 1099511627776) × (length (now state) ≡ 7168) ⌝ }
+    ensures { λ r. ⌜ r ≡ waitsFit plan (kindsAt (now (state .entry))) groups 0 (list (numberAt (now (state .entry))) 36 64) ⌝ }
+{
+    let mut table = [0u64; 64];
+    notices_at(state, &mut table);
+    let kinds = kinds_at(state);
     let lead = lead(plan.frame_time);
     let last = lead + plan::slots(plan) as u64;
-    waits_in(table, kinds, groups * 2048, lead, last)
+    waits_in(&table, kinds, groups * 2048, lead, last)
+}
+
+// Most states have no notice that waits.
+fn waits_fit(state: &[u8], plan: Plan, groups: u64) -> bool
+    requires { ⌜ Shape plan × (groups ≤ 1099511627776) × (length (now state) ≡ 7168) ⌝ }
+    ensures { λ r. ⌜ r ≡ waitsFit plan (kindsAt (now (state .entry))) groups 0 (list (numberAt (now (state .entry))) 36 64) ⌝ }
+{
+    if few_zero(&state[288..800]) {
+        return true;
+    }
+    each_fits(state, plan, groups)
 }
 
 // ---- A state at work
 
 // The rest of the written test, of a state whose plan and size fit.
-fn load_sized(
-    state: &[u8],
-    plan: Plan,
-    groups: u64,
-    waiting: u64,
-    kinds: [Kind; 16],
-    table: &[u64],
-) -> Loaded
-    requires { ⌜ Sized (now state) plan groups waiting kinds × (now table ≡ list (numberAt (now state)) 36 64) ⌝ }
+fn load_sized(state: &[u8], plan: Plan, groups: u64, waiting: u64) -> Loaded
+    requires { ⌜ Sized (now state) plan groups waiting (kindsAt (now state)) ⌝ }
     ensures { λ r. ⌜ r ≡ loadedOf (now (state .entry)) ⌝ }
 {
     let left = time_at(state, 64);
@@ -478,11 +586,11 @@ fn load_sized(
     if !numbers_zero(state, 12, 15) {
         return ended(3, 0, 0, 0);
     }
-    let again = held_at(state, kinds);
+    let again = held_at(state);
     if again.bad {
         return ended(3, 0, 0, 0);
     }
-    if !waits_fit(table, plan, groups, kinds) {
+    if !waits_fit(state, plan, groups) {
         return ended(3, 0, 0, 0);
     }
     if !bytes_zero(&state[808..1024]) {
@@ -510,12 +618,11 @@ fn load_sized(
     }
 }
 
-fn load_planned(state: &[u8], plan: Plan, table: &[u64]) -> Loaded
-    requires { ⌜ Planned (now state) plan × (now table ≡ list (numberAt (now state)) 36 64) ⌝ }
+fn load_planned(state: &[u8], plan: Plan, used: u64, above: u64) -> Loaded
+    requires { ⌜ Planned (now state) plan × (used ≡ usedIn (list (numberAt (now state)) 20 16)) × (above ≡ usedIn (list (numberAt (now state)) 28 8)) ⌝ }
     ensures { λ r. ⌜ r ≡ loadedOf (now (state .entry)) ⌝ }
 {
-    let kinds = kinds_at(state);
-    if !plan::legal(plan, kinds) {
+    if !buses_fit(plan, used, above) {
         return ended(3, 0, 0, 0);
     }
     let groups = time_at(state, 80);
@@ -523,11 +630,11 @@ fn load_planned(state: &[u8], plan: Plan, table: &[u64]) -> Loaded
     if !size_fits(plan, groups, waiting) {
         return ended(3, 0, 0, 0);
     }
-    load_sized(state, plan, groups, waiting, kinds, table)
+    load_sized(state, plan, groups, waiting)
 }
 
-fn load_working(state: &[u8], table: &[u64]) -> Loaded
-    requires { ⌜ (length (now state) ≡ 7168) × (numberAt (now state) 0 ≡ 1025) × (now table ≡ list (numberAt (now state)) 36 64) ⌝ }
+fn load_working(state: &[u8]) -> Loaded
+    requires { ⌜ (length (now state) ≡ 7168) × (numberAt (now state) 0 ≡ 1025) ⌝ }
     ensures { λ r. ⌜ r ≡ loadedOf (now (state .entry)) ⌝ }
 {
     let words = time_at(state, 8);
@@ -540,7 +647,9 @@ fn load_working(state: &[u8], table: &[u64]) -> Loaded
     if !plan_named(words, tracks, frame_time, crc, parity, label, code) {
         return ended(3, 0, 0, 0);
     }
-    if !kinds_named(state) {
+    let low = eight_buses(state, 20);
+    let high = eight_buses(state, 28);
+    if !both(low.named, high.named) {
         return ended(3, 0, 0, 0);
     }
     let plan = plan_from(
@@ -552,44 +661,19 @@ fn load_working(state: &[u8], table: &[u64]) -> Loaded
         label as u32,
         code as u32,
     );
-    load_planned(state, plan, table)
+    load_planned(state, plan, low.used + high.used, high.used)
 }
 
-fn clear_table(table: &mut [u64])
-    ensures { λ _. ⌜ now (table .exit) ≡ replicate (length (now (table .entry))) 0 ⌝ }
-{
-    let mut index = 0;
-    while index < table.len() {
-        table[index] = 0;
-        index += 1;
-    }
-}
-
-// Numbers are taken apart only if there are any.
-fn read_table(bytes: &[u8], table: &mut [u64])
-    requires { ⌜ (length (now bytes) ≡ 512) × (length (now table) ≡ 64) ⌝ }
-    ensures { λ _. ⌜ now (table .exit) ≡ over (timesFrom (now (bytes .entry))) (now (table .entry)) ⌝ }
-{
-    if bytes_zero(bytes) {
-        clear_table(table);
-        return;
-    }
-    times_from(bytes, table);
-}
-
-// The one written test of lent bytes, and what they say. `table` takes the numbers of the unanswered notices if the stage says a state
-// at work.
-pub fn load(state: &[u8], table: &mut [u64]) -> Loaded
-    requires { ⌜ length (now table) ≡ 64 ⌝ }
-    ensures { λ r. ⌜ (r ≡ loadedOf (now (state .entry))) × (now (table .exit) ≡ tableOf (now (state .entry)) (now (table .entry))) ⌝ }
+// The one written test of lent bytes, and what they say.
+pub fn load(state: &[u8]) -> Loaded
+    ensures { λ r. ⌜ r ≡ loadedOf (now (state .entry)) ⌝ }
 {
     if state.len() != 7168 {
         return ended(3, 0, 0, 0);
     }
     let stage = time_at(state, 0);
     if stage == 1025 {
-        read_table(&state[288..800], table);
-        return load_working(state, table);
+        return load_working(state);
     }
     if stage == 1026 {
         return load_failed(state);
@@ -614,7 +698,7 @@ pub fn store_closed(state: &mut [u8])
     requires { ⌜ length (now state) ≡ 7168 ⌝ }
     ensures { λ _. ⌜ now (state .exit) ≡ stateBytes closed ⌝ }
 {
-    clear(state);
+    clear(&mut state[0..7168]);
 }
 
 // All bytes of `from`.
@@ -778,6 +862,17 @@ fn put_stand(stand: Stand, bytes: &mut [u8])
     put_times(&row, 15, bytes);
 }
 
+fn put_table(table: &[u64], bytes: &mut [u8])
+    requires { ⌜ (length (now table) ≡ 64) × (length (now bytes) ≡ 512) ⌝ }
+    ensures { λ _. ⌜ now (bytes .exit) ≡ over (flatMap timeBytes (take 64 (now (table .entry)))) (now (bytes .entry)) ⌝ }
+{
+    if none_waits(table) {
+        clear(bytes);
+        return;
+    }
+    put_times(table, 64, bytes);
+}
+
 fn put_front(stand: Stand, kinds: [Kind; 16], table: &[u64], bytes: &mut [u8])
     requires { ⌜ (length (now bytes) ≡ 800) × (length (now table) ≡ 64) × (length kinds ≡ 16) × Sane (stand .held) ⌝ }
     ensures { λ _. ⌜ now (bytes .exit) ≡ flatMap timeBytes (frontRow kinds stand (now (table .entry))) ⌝ }
@@ -787,7 +882,7 @@ fn put_front(stand: Stand, kinds: [Kind; 16], table: &[u64], bytes: &mut [u8])
     put_times(&words, 5, &mut bytes[120..160]);
     let numbers = kind_numbers(kinds);
     put_times(&numbers, 16, &mut bytes[160..288]);
-    put_times(table, 64, &mut bytes[288..800]);
+    put_table(table, &mut bytes[288..800]);
 }
 
 fn put_count(count: usize, bytes: &mut [u8])

@@ -4,7 +4,6 @@ use lib.ListN.{length}
 use borrow.Author.Tests.{not-false, not-true}
 use Rattle.stream_state.specs.Stand.{loadedOf}
 use Rattle.stream_state.specs.declared.Loaded.{Loaded}
-use Rattle.stream_state.proofs.AtWork.{loaded-work}
 use Rattle.stream.specs.Calls.{within}
 use Rattle.stream.specs.Closing.{Says}
 use Rattle.stream.proofs.Closing.{not-closable, open-long, shut-state}
@@ -18,6 +17,7 @@ use Rattle.capture_parts.proofs.refusal.Reads as refusal-reads
 use Rattle.stream.proofs.close_on.Reads as close-on-reads
 use Rattle.stream.proofs.within.Reads as within-reads
 use Rattle.stream_state.proofs.load.Reads as load-reads
+use Rattle.stream_state.proofs.notices_at.Reads as notices-at-reads
 use Rattle.stream_state.proofs.store_closed.Reads as store-closed-reads
 
 -- ---- the places
@@ -26,20 +26,17 @@ abbrev Found : Type 0
 Found = tie.After-load
 
 abbrev start : Found → tie.Start
-start c = c .before .before .before .before .before
+start c = c .before .before .before .before
 
 staged : (c : Found) → c .load .result .stage ≡ loadedOf (start c .args .state .now) .stage
-staged c = ap (λ (r : Loaded). r .stage) (c .load .ensures .0)
-
-says : (c : Found) → Says (start c .args .state .now) (c .load .result) (c .load .last .1 .0)
-says c = record { is = c .load .ensures .0; table-is = λ e. c .load .ensures .1 ∙ loaded-work (start c .args .state .now) (sym (staged c) ∙ e) .table _ }
+staged c = ap (λ (r : Loaded). r .stage) (c .load .ensures)
 
 -- the limits were looked at
 abbrev Judged : Type 0
 Judged = tie.After-within
 
 abbrev found : Judged → Found
-found c = c .before .before
+found c = c .before
 
 judged : (c : Judged) → c .within .result ≡ within (found c .load .result .stage) 0 (length (start (found c) .args .log .now))
 judged c = c .within .ensures
@@ -51,10 +48,20 @@ Open = tie.Else1
 within-them : (c : Open) → Limits (found (c .before) .load .result .stage) 0 (length (start (found (c .before)) .args .log .now))
 within-them c = limits (found (c .before) .load .result .stage) 0 (length (start (found (c .before)) .args .log .now)) (sym (judged (c .before)) ∙ not-false _ (c .if1 .left))
 
--- ---- the needs
+long : (o : Open) → length (start (found (o .before)) .args .state .now) ≡ 7168
+long o = let f = found (o .before) in open-long (start f .args .state .now) (f .load .result .stage) (sym (staged f)) (within-them o .open-stage)
 
-slice-aggregate-load : tie.Need-slice-aggregate-load
-slice-aggregate-load c = search needs
+-- the notices' numbers were read
+abbrev Read : Type 0
+Read = tie.After-notices-at
+
+abbrev within-limits : Read → Open
+within-limits n = n .before .before .before
+
+says : (n : Read) → let f = found (within-limits n .before) in Says (start f .args .state .now) (f .load .result) (n .notices-at .last .1 .0)
+says n = record { is = found (within-limits n .before) .load .ensures; table-is = λ e. n .notices-at .ensures }
+
+-- ---- the needs
 
 load-requires : tie.Need-load-requires
 load-requires c κs = search needs
@@ -76,20 +83,23 @@ returns c =
     (ap (λ (n : ℕ). within n 0 (length (a .log .now))) (sym (staged (found j))) ∙ sym (judged j) ∙ not-true _ (c .before .if1 .taken)) in
     rw e (c .refusal .ensures, refl, refl)
 
+slice-aggregate-notices-at : tie.Need-slice-aggregate-notices-at
+slice-aggregate-notices-at c = search needs
+
+notices-at-requires : tie.Need-notices-at-requires
+notices-at-requires c κs = (long (c .before .before), refl)
+
 slice-aggregate-close-on : tie.Need-slice-aggregate-close-on
 slice-aggregate-close-on c = search needs
 
 close-on-requires : tie.Need-close-on-requires
 close-on-requires c κs =
-    let o = c .before .before in
-    let f = found (o .before) in
-    record { bytes = start f .args .state .now; says = says f; open-stage = within-them o .open-stage; roomy = within-them o .roomy }
+    let n = c .before .before .before in
+    let o = within-limits n in
+    record { bytes = start (found (o .before)) .args .state .now; says = says n; open-stage = within-them o .open-stage; roomy = within-them o .roomy }
 
 store-closed-requires : tie.Need-store-closed-requires
-store-closed-requires c κs =
-    let o = c .before .before .before .before .before .before in
-    let f = found (o .before) in
-    open-long (start f .args .state .now) (f .load .result .stage) (sym (staged f)) (within-them o .open-stage)
+store-closed-requires c κs = long (within-limits (c .before .before .before .before .before .before .before))
 
 same-length-2 : tie.Need-same-length-2
 same-length-2 c = search needs
@@ -99,10 +109,11 @@ same-length-3 c = search needs
 
 returns-2 : tie.Need-returns-2
 returns-2 c =
-    let o = c .before .before .before .before .before .before .before .before .before in
+    let n = c .before .before .before .before .before .before .before .before .before .before in
+    let o = within-limits n in
     let f = found (o .before) in
     let a = start f .args in
-    let k = c .before .before .before .before .before .before .close-on .ensures (a .state .now) (says f) in (
+    let k = c .before .before .before .before .before .before .close-on .ensures (a .state .now) (says n) in (
       k .0,
       c .before .before .store-closed .ensures ∙ sym
           (shut-state (a .state .now) (length (a .log .now)) (f .load .result .stage) (sym (staged f)) (within-them o .open-stage) (within-them o .roomy)),
@@ -113,12 +124,13 @@ pub close-spec : {M : Type 1} → statement M
 close-spec =
     tie.close
     (tie.spec
-    slice-aggregate-load
     load-requires
     within-requires
     refusal-requires
     same-length
     returns
+    slice-aggregate-notices-at
+    notices-at-requires
     slice-aggregate-close-on
     close-on-requires
     store-closed-requires

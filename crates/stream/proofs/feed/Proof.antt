@@ -1,4 +1,4 @@
-use mathlib.Core.Path.{_≡_, ap, subst, sym, _∙_}
+use mathlib.Core.Path.{_≡_, refl, ap, subst, sym, _∙_}
 use Prim.Native.Nat.{ℕ}
 use lib.ListN.{length}
 use borrow.Author.Tests.{not-false, not-true}
@@ -25,17 +25,17 @@ abbrev Found : Type 0
 Found = tie.After-load
 
 abbrev start : Found → tie.Start
-start c = c .before .before .before .before .before .before .before
+start c = c .before .before .before .before .before .before
 
 staged : (c : Found) → c .load .result .stage ≡ loadedOf (start c .args .state .now) .stage
-staged c = ap (λ (r : Loaded). r .stage) (c .load .ensures .0)
+staged c = ap (λ (r : Loaded). r .stage) (c .load .ensures)
 
 -- the limits were looked at
 abbrev Judged : Type 0
 Judged = tie.After-within
 
 abbrev found : Judged → Found
-found c = c .before .before
+found c = c .before
 
 judged : (c : Judged) → c .within .result ≡ within (loadedOf (start (found c) .args .state .now) .stage) (length (start (found c) .args .piece .now)) (length (start (found c) .args .log .now))
 judged c =
@@ -43,9 +43,6 @@ judged c =
     c .within .ensures ∙ ap (λ (n : ℕ). within n (length (a .piece .now)) (length (a .log .now))) (staged (found c))
 
 -- ---- the needs
-
-slice-aggregate-load : tie.Need-slice-aggregate-load
-slice-aggregate-load c = search needs
 
 load-requires : tie.Need-load-requires
 load-requires c κs = search needs
@@ -78,26 +75,23 @@ returns-2 c =
     let f = found j in
     let a = start f .args in
     let k = limits (loadedOf (a .state .now) .stage) (length (a .piece .now)) (length (a .log .now)) (sym (judged j) ∙ not-false _ (c .before .before .before .if1 .left)) in
-    let e = f .load .ensures .0 in
+    let e = f .load .ensures in
     unread-leaves (a .state .now) (a .log .now) (a .times .now)
     (repeated (a .state .now) (a .piece .now) (length (a .log .now)) (length (a .times .now)) (sym (staged f) ∙ c .before .if2 .taken) (k .short) (k .roomy))
     (c .refusal2 .ensures ∙ ap (λ (r : Loaded). refusal (r .number) (r .place) (r .second)) e)
 
-slice-aggregate-feed-working : tie.Need-slice-aggregate-feed-working
-slice-aggregate-feed-working c = search needs
-
 feed-working-requires : tie.Need-feed-working-requires
 feed-working-requires c κs =
-    let j = c .before .before .before .before .before .before .before .before in
+    let j = c .before .before .before .before .before .before .before in
     let f = found j in
     let a = start f .args in
     let k = limits (loadedOf (a .state .now) .stage) (length (a .piece .now)) (length (a .log .now))
-    (sym (judged j) ∙ not-false _ (c .before .before .before .before .before .before .before .if1 .left)) in
-    let one = k .open-stage (λ z. c .before .before .before .before .before .if2 .left (staged f ∙ z)) in
+    (sym (judged j) ∙ not-false _ (c .before .before .before .before .before .before .if1 .left)) in
+    let one = k .open-stage (λ z. c .before .before .before .before .if2 .left (staged f ∙ z)) in
     let w = loaded-work (a .state .now) one in
     record {
-      work = subst (AtWork (a .state .now)) (sym (ap (λ (r : Loaded). r .stand) (f .load .ensures .0))) w;
-      table-is = f .load .ensures .1 ∙ w .table _;
+      work = subst (AtWork (a .state .now)) (sym (ap (λ (r : Loaded). r .stand) (f .load .ensures))) w;
+      table-is = refl;
       short = k .short;
       roomy = k .roomy;
     }
@@ -118,7 +112,6 @@ pub feed-spec : {M : Type 1} → statement M
 feed-spec =
     tie.close
     (tie.spec
-    slice-aggregate-load
     load-requires
     within-requires
     refusal-requires
@@ -127,7 +120,6 @@ feed-spec =
     refusal-requires-2
     same-length-2
     returns-2
-    slice-aggregate-feed-working
     feed-working-requires
     same-length-3
     same-length-4

@@ -25,7 +25,7 @@ abbrev Counted : Type 0
 Counted = tie.After-groups-in
 
 abbrev start : Counted → tie.Start
-start c = c .before .before .before .before .before .before .before
+start c = c .before .before .before .before .before .before
 
 -- how many entries are asked for
 abbrev Asked : Type 0
@@ -55,7 +55,7 @@ add-groups-in : tie.Need-add-groups-in
 add-groups-in c = search needs
 
 groups-in-requires : tie.Need-groups-in-requires
-groups-in-requires c κs = let s = c .before .before .before .before .before .before in
+groups-in-requires c κs = let s = c .before .before .before .before .before in
     (s .pre .work .shape, omega (arith, s .pre .short, s .pre .work .part, group-most (s .args .stand .plan) (s .pre .work .shape)))
 
 times-of-requires : tie.Need-times-of-requires
@@ -128,16 +128,16 @@ returns-3 c =
 
 feed-groups-requires : tie.Need-feed-groups-requires
 feed-groups-requires c κs =
-    let d = c .before .before .before .before .before .before .before in
+    let d = c .before .before .before .before .before .before in
     let s = from d in
     let a = s .args in
     let e = d .before .before .before .groups-in .ensures in
     record {
       fed = s .pre;
       whole = e;
-      some = omega (arith, c .before .before .before .before .if3 .left);
+      some = omega (arith, c .before .before .before .if3 .left);
       timed = rw e (enough d);
-      size = omega (arith, counts d, c .before .before .before .before .before .if2 .left);
+      size = omega (arith, counts d, c .before .before .before .before .if2 .left);
     }
 
 same-length-2 : tie.Need-same-length-2
@@ -148,9 +148,6 @@ same-length-3 c = search needs
 
 same-length-4 : tie.Need-same-length-4
 same-length-4 c = search needs
-
-same-length-5 : tie.Need-same-length-5
-same-length-5 c = search needs
 
 returns-4 : tie.Need-returns-4
 returns-4 c = search needs
@@ -179,5 +176,4 @@ feed-working-spec =
     same-length-2
     same-length-3
     same-length-4
-    same-length-5
     returns-4)

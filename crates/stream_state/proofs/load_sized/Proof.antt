@@ -1,17 +1,16 @@
 use Prim.Native.Nat.{ℕ, _+_, _^_, _≤_}
 use mathlib.Core.Bool.{true}
-use mathlib.Core.Path.{_≡_, sym, ap, _∙_}
+use mathlib.Core.Path.{_≡_, refl, sym, ap, _∙_}
 use native.Mathlib.Omega.{arith}
 use lib.ListN.{length, take, drop}
 use borrow.Author.Tests.{not-true, not-false}
 use Rattle.format.specs.Laws.Word.Bytes.{all-bytes}
-use Rattle.format.specs.Laws.Lists.{length-list}
 use Rattle.format.specs.Laws.Limits.{Shape}
 use Rattle.format.specs.Laws.Legal.{legal-is}
 use Rattle.format.specs.Lists.{list}
 use Rattle.stream_rules.specs.Stream.{placeFits, waitsFit}
 use Rattle.stream_state.specs.Layout.{numberAt}
-use Rattle.stream_state.specs.Parts.{areZeros, bitsFit}
+use Rattle.stream_state.specs.Parts.{areZeros, bitsFit, kindsAt}
 use Rattle.stream_state.proofs.Sizes.{bits-few, sized-few}
 use Rattle.stream_state.proofs.Runs.{from-on}
 use Rattle.stream_state.proofs.Parts.{all-good, bad-bits, bad-fault, bad-gap, bad-held, bad-since, bad-tail, bad-waits}
@@ -33,20 +32,20 @@ use Rattle.stream_state.proofs.waits_fit.Reads as waits-fit-reads
 
 -- the entry
 shape : (s : tie.Start) → Shape (s .args .plan)
-shape s = legal-is (s .args .plan) (s .args .kinds) (s .pre .0 .lawful) .shape
+shape s = legal-is (s .args .plan) (kindsAt (s .args .state .now)) (s .pre .lawful) .shape
 
 few : (s : tie.Start) → (s .args .groups ≤ 2 ^ 40) × (s .args .waiting ≤ 6144)
-few s = sized-few (s .args .plan) (shape s) (s .args .groups) (s .args .waiting) (s .pre .0 .size)
+few s = sized-few (s .args .plan) (shape s) (s .args .groups) (s .args .waiting) (s .pre .size)
 
 long : (s : tie.Start) → length (s .args .state .now) ≡ 7168
-long s = s .pre .0 .planned .long
+long s = s .pre .planned .long
 
 -- three numbers were read
 abbrev Read : Type 0
 Read = tie.After-time-at3
 
 abbrev start : Read → tie.Start
-start c = c .before .before .before .before .before
+start c = c .before .before .before .before
 
 abbrev left : Read → ℕ
 left c = c .before .before .time-at .result
@@ -90,7 +89,7 @@ since-good c = sym (c .before .place-fits .ensures) ∙ not-false _ (c .if2 .lef
 faultless : (c : tie.Else3) → areZeros (list (numberAt (start (three c) .args .state .now)) 12 3) ≡ true
 faultless c = sym (c .before .numbers-zero .ensures) ∙ not-false _ (c .if3 .left)
 
-waits-good : (c : tie.Else5) → let a = start (five c) .args in waitsFit (a .plan) (a .kinds) (a .groups) 0 (a .table .now) ≡ true
+waits-good : (c : tie.Else5) → let a = start (five c) .args in waitsFit (a .plan) (kindsAt (a .state .now)) (a .groups) 0 (list (numberAt (a .state .now)) 36 64) ≡ true
 waits-good c = sym (c .before .waits-fit .ensures) ∙ not-false _ (c .if5 .left)
 
 gap-good : (c : tie.Else6) → areZeros (take 216 (drop 808 (start (six c) .args .state .now))) ≡ true
@@ -119,7 +118,7 @@ ended-requires c κs = search needs
 returns : tie.Need-returns
 returns c = let t = c .before .before .before in
     let e = sym (c .before .before .bits-fit .ensures) ∙ not-true _ (c .before .if1 .taken) in
-    c .ended .ensures ∙ bad-bits (start t .pre .0) (t .before .before .time-at .ensures) (t .before .time-at2 .ensures) e
+    c .ended .ensures ∙ bad-bits (start t .pre) (t .before .before .time-at .ensures) (t .before .time-at2 .ensures) e
 
 place-fits-requires : tie.Need-place-fits-requires
 place-fits-requires c κs = let s = start (one c) in (shape s, few s .0)
@@ -130,7 +129,7 @@ ended-requires-2 c κs = search needs
 returns-2 : tie.Need-returns-2
 returns-2 c = let t = one (c .before .before .before) in
     let e = sym (c .before .before .place-fits .ensures) ∙ not-true _ (c .before .if2 .taken) in
-    c .ended2 .ensures ∙ bad-since (start t .pre .0) (t .time-at3 .ensures) e
+    c .ended2 .ensures ∙ bad-since (start t .pre) (t .time-at3 .ensures) e
 
 numbers-zero-requires : tie.Need-numbers-zero-requires
 numbers-zero-requires c κs = search needs
@@ -140,19 +139,19 @@ ended-requires-3 c κs = search needs
 
 returns-3 : tie.Need-returns-3
 returns-3 c = let t = two (c .before .before .before) in
-    c .ended3 .ensures ∙ bad-fault (start t .pre .0) (sym (c .before .before .numbers-zero .ensures) ∙ not-true _ (c .before .if3 .taken))
+    c .ended3 .ensures ∙ bad-fault (start t .pre) (sym (c .before .before .numbers-zero .ensures) ∙ not-true _ (c .before .if3 .taken))
 
 held-at-requires : tie.Need-held-at-requires
-held-at-requires c κs = let s = start (three c) in (long s, ap length (s .pre .0 .kinds-are) ∙ length-list _ 0 16)
+held-at-requires c κs = long (start (three c))
 
 ended-requires-4 : tie.Need-ended-requires-4
 ended-requires-4 c κs = search needs
 
 returns-4 : tie.Need-returns-4
-returns-4 c = let t = three (c .before .before .before) in c .ended4 .ensures ∙ bad-held (start t .pre .0) (c .before .before .held-at .ensures) (c .before .if4 .taken)
+returns-4 c = let t = three (c .before .before .before) in c .ended4 .ensures ∙ bad-held (start t .pre) (c .before .before .held-at .ensures) (c .before .if4 .taken)
 
 waits-fit-requires : tie.Need-waits-fit-requires
-waits-fit-requires c κs = let s = start (four c) in (shape s, few s .0, ap length (s .pre .1) ∙ length-list _ 36 64)
+waits-fit-requires c κs = let s = start (four c) in (shape s, few s .0, long s)
 
 ended-requires-5 : tie.Need-ended-requires-5
 ended-requires-5 c κs = search needs
@@ -160,7 +159,7 @@ ended-requires-5 c κs = search needs
 returns-5 : tie.Need-returns-5
 returns-5 c = let t = four (c .before .before .before) in
     let e = sym (c .before .before .waits-fit .ensures) ∙ not-true _ (c .before .if5 .taken) in
-    c .ended5 .ensures ∙ bad-waits (start t .pre .0) (start t .pre .1) e
+    c .ended5 .ensures ∙ bad-waits (start t .pre) refl e
 
 sub-bytes-zero : tie.Need-sub-bytes-zero
 sub-bytes-zero c = search needs
@@ -179,7 +178,7 @@ ended-requires-6 c κs = search needs
 
 returns-6 : tie.Need-returns-6
 returns-6 c = let t = five (c .before .before .before .before) in
-    c .ended6 .ensures ∙ bad-gap (start t .pre .0) (sym (c .before .before .bytes-zero .ensures) ∙ not-true _ (c .before .if6 .taken))
+    c .ended6 .ensures ∙ bad-gap (start t .pre) (sym (c .before .before .bytes-zero .ensures) ∙ not-true _ (c .before .if6 .taken))
 
 add-end : tie.Need-add-end
 add-end c = omega (arith, few (start (seventh c)) .1)
@@ -201,15 +200,15 @@ ended-requires-7 c κs = search needs
 
 returns-7 : tie.Need-returns-7
 returns-7 c = let t = seventh (c .before .before .before .before) in
-    c .ended7 .ensures ∙ bad-tail (start t .pre .0) (sym (tail-is (c .before .before)) ∙ not-true _ (c .before .if7 .taken))
+    c .ended7 .ensures ∙ bad-tail (start t .pre) (sym (tail-is (c .before .before)) ∙ not-true _ (c .before .if7 .taken))
 
-cast-t22 : tie.Need-cast-t22
-cast-t22 c = let t = eighth c in
+cast-t20 : tie.Need-cast-t20
+cast-t20 c = let t = eighth c in
     let b = c .before .before .before .before .before .before .before .before .before .before .before .before .before .before .before in
     omega (arith, bits-few (left t) (last t) (bits-good b) .0)
 
-cast-t23 : tie.Need-cast-t23
-cast-t23 c = let t = eighth c in
+cast-t21 : tie.Need-cast-t21
+cast-t21 c = let t = eighth c in
     let b = c .before .before .before .before .before .before .before .before .before .before .before .before .before .before .before in
     omega (arith, bits-few (left t) (last t) (bits-good b) .1)
 
@@ -221,9 +220,9 @@ returns-8 c = let t = eighth c in
     let four = five .before .before in
     let three = four .before .before in
     let two = three .before .before in
-    let bytes = all-bytes (s .args .state .now) (λ i. omega (arith, t .before .before .before .before .shared-slice-known .given i)) in
+    let bytes = all-bytes (s .args .state .now) (λ i. omega (arith, t .before .before .before .shared-slice-known .given i)) in
     let tail = sym (tail-is (c .before)) ∙ not-false _ (c .if7 .left) in
-    all-good (s .pre .0) bytes (t .before .before .time-at .ensures) (t .before .time-at2 .ensures) (t .time-at3 .ensures) (four .before .held-at .ensures) (s .pre .1)
+    all-good (s .pre) bytes (t .before .before .time-at .ensures) (t .before .time-at2 .ensures) (t .time-at3 .ensures) (four .before .held-at .ensures) refl
     (bits-good (two .before .before)) (since-good two) (faultless three) (four .if4 .left) (waits-good five) (gap-good six) tail
 
 pub load-sized-spec : {M : Type 1} → statement M
@@ -261,6 +260,6 @@ load-sized-spec =
     bytes-zero-requires-2
     ended-requires-7
     returns-7
-    cast-t22
-    cast-t23
+    cast-t20
+    cast-t21
     returns-8)

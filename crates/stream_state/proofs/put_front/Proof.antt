@@ -16,6 +16,7 @@ use Rattle.stream_state.proofs.put_front.Tie as tie
 use Rattle.stream_state.proofs.put_front.Reads as reads
 use Rattle.stream_state.proofs.put_front.Lts as lts
 use Rattle.from_c.proofs.put_times.Reads as put-times-reads
+use Rattle.stream_state.proofs.put_table.Reads as put-table-reads
 use Rattle.stream_state.proofs.held_words.Reads as held-words-reads
 use Rattle.stream_state.proofs.kind_numbers.Reads as kind-numbers-reads
 use Rattle.stream_state.proofs.put_stand.Reads as put-stand-reads
@@ -68,17 +69,17 @@ part-put-times-end-2 c = search needs
 put-times-requires-2 : tie.Need-put-times-requires-2
 put-times-requires-2 c κs = search needs
 
-sub-put-times-3 : tie.Need-sub-put-times-3
-sub-put-times-3 c = search needs
+sub-put-table : tie.Need-sub-put-table
+sub-put-table c = search needs
 
-part-put-times-start-3 : tie.Need-part-put-times-start-3
-part-put-times-start-3 c = search needs
+part-put-table-start : tie.Need-part-put-table-start
+part-put-table-start c = search needs
 
-part-put-times-end-3 : tie.Need-part-put-times-end-3
-part-put-times-end-3 c = search needs
+part-put-table-end : tie.Need-part-put-table-end
+part-put-table-end c = search needs
 
-put-times-requires-3 : tie.Need-put-times-requires-3
-put-times-requires-3 c κs = search needs
+put-table-requires : tie.Need-put-table-requires
+put-table-requires c κs = search needs
 
 same-length : tie.Need-same-length
 same-length c = search needs
@@ -99,7 +100,7 @@ returns c = let t = c .before .before .before .before .before .before in
     let stood = front-part 120 _ (front-none (s .args .bytes .now)) (length-times (standRow x)) (omega (arith, s .pre .0)) refl (p .put-stand .ensures) in
     let held = put-row 40 5 words five refl stood (omega (arith, s .pre .0)) refl (u .put-times .ensures) in
     let kinds = put-row 128 16 numbers sixteen refl held (omega (arith, s .pre .0)) refl (t .put-times2 .ensures) in
-    let all = put-row 512 64 table (s .pre .1) refl kinds (omega (arith, s .pre .0)) refl (c .before .before .put-times3 .ensures) in
+    let all = put-row 512 64 table (s .pre .1) refl kinds (omega (arith, s .pre .0)) refl (c .before .before .put-table .ensures) in
     all-put all (s .pre .0)
     ∙ rw (h .held-words .ensures, k .kind-numbers .ensures) (rows-joined (standRow x) (fourWords (heldParts (heldOf (x .held)))) (map kindNumber (s .args .kinds)) table)
 
@@ -123,9 +124,9 @@ put-front-spec =
     part-put-times-start-2
     part-put-times-end-2
     put-times-requires-2
-    sub-put-times-3
-    part-put-times-start-3
-    part-put-times-end-3
-    put-times-requires-3
+    sub-put-table
+    part-put-table-start
+    part-put-table-end
+    put-table-requires
     same-length
     returns)

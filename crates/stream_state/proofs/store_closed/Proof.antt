@@ -1,7 +1,7 @@
-use Prim.Native.Nat.{ℕ}
-use lib.ListN.{replicate}
-use mathlib.Core.Path.{_≡_, ap, _∙_}
-use lib.ListN.{length, length-replicate}
+use mathlib.Core.Path.{refl, _∙_}
+use native.Mathlib.Omega.{arith}
+use Rattle.format.specs.Laws.Front.{front-none}
+use Rattle.stream_state.proofs.Stored.{all-put, put-zeros}
 use Rattle.stream_state.proofs.Zeros.{closed-bytes}
 use borrow.Author.Needs.{needs}
 use Rattle.stream_state.proofs.store_closed.Statement.{statement}
@@ -10,14 +10,32 @@ use Rattle.stream_state.proofs.store_closed.Reads as reads
 use Rattle.stream_state.proofs.store_closed.Lts as lts
 use Rattle.stream_state.proofs.clear.Reads as clear-reads
 
+sub-clear : tie.Need-sub-clear
+sub-clear c = search needs
+
+part-clear-start : tie.Need-part-clear-start
+part-clear-start c = search needs
+
+part-clear-end : tie.Need-part-clear-end
+part-clear-end c = search needs
+
 clear-requires : tie.Need-clear-requires
 clear-requires c κs = search needs
 
 same-length : tie.Need-same-length
-same-length c = ap length (c .before .before .clear .ensures) ∙ length-replicate {A = ℕ} (length (c .before .before .before .before .before .args .state .now)) 0
+same-length c = search needs
 
 returns : tie.Need-returns
-returns c = c .before .before .clear .ensures ∙ ap (λ (n : ℕ). replicate n 0) (c .before .before .before .before .before .pre) ∙ closed-bytes
+returns c = let s = c .before .before .before .before .before in
+    all-put (put-zeros {n = 7168} 7168 (front-none (s .args .state .now)) (omega (arith, s .pre)) refl (c .before .before .clear .ensures)) (s .pre) ∙ closed-bytes
 
 pub store-closed-spec : {M : Type 1} → statement M
-store-closed-spec = tie.close (tie.spec clear-requires same-length returns)
+store-closed-spec =
+    tie.close
+    (tie.spec
+    sub-clear
+    part-clear-start
+    part-clear-end
+    clear-requires
+    same-length
+    returns)

@@ -41,7 +41,7 @@ unfolding timeAt halfAt
 last-byte b at h = omega (arith, h)
 
 -- the kinds are those that the numbers say
-kinds-are : (b : List ℕ) (n bus : ℕ) → areKinds (list (numberAt b) (20 + bus) n) ≡ true
+pub kinds-are : (b : List ℕ) (n bus : ℕ) → areKinds (list (numberAt b) (20 + bus) n) ≡ true
     → list (λ k. kindOf (getD b (167 + 8 * k) 0)) bus n ≡ map kindFrom (list (numberAt b) (20 + bus) n)
 unfolding list areKinds
 kinds-are b zero bus e = refl
