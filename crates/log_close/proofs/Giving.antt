@@ -20,34 +20,47 @@ use Rattle.log_put.specs.declared.Put.{Put}
 use Rattle.log_put.specs.declared.Put.the-variants.{All, Fault}
 use Rattle.log_close.specs.Made.{madeOf, StandsIn}
 
--- ---- the log of the items
+-- ---- the log of the items, which has so many bytes
 
+module _ (is : List Item) (bytes : ℕ) (long : bytes ≡ length (logOf is)) where
+  pub made-beyond : (room : ℕ) (out : List ℕ) (r : Answer) → 32768 < bytes → r ≡ refusal 6 bytes 0 → Made (logIn room is) r out out
+  made-beyond room out r h a =
+      let z : leb (length (logOf is)) 32768 ≡ false = lt-leb (length (logOf is)) 32768 (omega (arith, long)) in
+      rw (z, ← long) (a, refl)
+
+  pub made-short : (room : ℕ) (out : List ℕ) (r : Answer) → bytes ≤ 32768 → room < bytes → r ≡ refusal 6 bytes 0 → Made (logIn room is) r out out
+  made-short room out r h g a =
+      let y : leb (length (logOf is)) 32768 ≡ true = le-leb (length (logOf is)) 32768 (omega (arith, long)) in
+      let z : leb (length (logOf is)) room ≡ false = lt-leb (length (logOf is)) room (omega (arith, long)) in
+      rw (y, z, ← long) (a, refl)
+
+  pub made-all : (log out out′ : List ℕ) → bytes ≤ 32768 → bytes ≤ length out → log ≡ logOf is → out′ ≡ log ++ drop bytes out
+      → Made (logIn (length out) is) (record { number = 0; place = 0; second = 0; bytes = bytes; times = 0 }) out out′
+  made-all log out out′ h g t o =
+      let y : leb (length (logOf is)) 32768 ≡ true = le-leb (length (logOf is)) 32768 (omega (arith, long)) in
+      let z : leb (length (logOf is)) (length out) ≡ true = le-leb (length (logOf is)) (length out) (omega (arith, long)) in
+      rw (y, z) (
+        ap (λ (n : ℕ). record { number = 0; place = 0; second = 0; bytes = n; times = 0 }) long,
+        o ∙ ap (λ (l : List ℕ). l ++ drop bytes out) t ∙ ap (λ (n : ℕ). logOf is ++ drop n out) long,
+      )
+
+-- closed in an array
 module _ (is : List Item) (built : List ℕ) (p : Pen) (w : Wrote (flatMap itemBits is) built p) (bytes : ℕ) (size : bytes ≡ closedSize p) where
   long : bytes ≡ length (logOf is)
   long = size ∙ closed-size is built p w
 
   pub give-beyond : (room : ℕ) (out : List ℕ) (r : Answer) → 32768 < bytes → r ≡ refusal 6 bytes 0 → Made (logIn room is) r out out
-  give-beyond room out r h a =
-      let z : leb (length (logOf is)) 32768 ≡ false = lt-leb (length (logOf is)) 32768 (omega (arith, long)) in
-      rw (z, ← long) (a, refl)
+  give-beyond = made-beyond is bytes long
 
   pub give-short : (room : ℕ) (out : List ℕ) (r : Answer) → bytes ≤ 32768 → room < bytes → r ≡ refusal 6 bytes 0 → Made (logIn room is) r out out
-  give-short room out r h g a =
-      let y : leb (length (logOf is)) 32768 ≡ true = le-leb (length (logOf is)) 32768 (omega (arith, long)) in
-      let z : leb (length (logOf is)) room ≡ false = lt-leb (length (logOf is)) room (omega (arith, long)) in
-      rw (y, z, ← long) (a, refl)
+  give-short = made-short is bytes long
 
   pub give-all : (built′ out out′ : List ℕ) → built′ ≡ closedIn built p → bytes ≤ 32768 → bytes ≤ length out → bytes + 7 ≤ length built
       → out′ ≡ take bytes built′ ++ drop bytes out
       → Made (logIn (length out) is) (record { number = 0; place = 0; second = 0; bytes = bytes; times = 0 }) out out′
   give-all built′ out out′ c h g k o =
-      let y : leb (length (logOf is)) 32768 ≡ true = le-leb (length (logOf is)) 32768 (omega (arith, long)) in
-      let z : leb (length (logOf is)) (length out) ≡ true = le-leb (length (logOf is)) (length out) (omega (arith, long)) in
       let t : take bytes built′ ≡ logOf is = rw (c, long) (closed-log is built p w (omega (arith, long))) in
-      rw (y, z) (
-        ap (λ (n : ℕ). record { number = 0; place = 0; second = 0; bytes = n; times = 0 }) long,
-        o ∙ ap (λ (l : List ℕ). l ++ drop bytes out) t ∙ ap (λ (n : ℕ). logOf is ++ drop n out) long,
-      )
+      made-all is bytes long (take bytes built′) out out′ h g t o
 
 -- ---- what was put
 

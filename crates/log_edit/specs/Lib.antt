@@ -1,2 +1,3 @@
 -- What the contracts cite beside the definitions of `format` and `log_rules`.
+pub mod Join
 pub mod Rows

@@ -16,15 +16,17 @@ use Rattle.log_read.specs.declared.Tally.the-variants.{Items as Tallied, Fault 
 use Rattle.format.specs.Bits.{bytesBits}
 use Rattle.format.specs.Group.{none, found}
 use Rattle.format.specs.Item.{itemBits}
-use Rattle.format.specs.Log.{nextAt, ends, wrong, Parsed, items, fault, parsed, onNoPlan}
+use Rattle.format.specs.Log.{nextAt, ends, Parsed, items, fault, parsed, onNoPlan}
 use Rattle.format.specs.Laws.Lists.{flatMap-append}
 use Rattle.format.specs.declared.Item.{Item}
 use Rattle.log_close.specs.Made.{StandsIn}
 use Rattle.log_put.specs.Put.{Fits, Puts, PutsPacked, packedBits}
+use Rattle.log_put.proofs.Putting.{holds-fits}
 use Rattle.log_put.specs.declared.Put.{Put}
 use Rattle.log_put.specs.declared.Put.the-variants.{All, Fault}
 use Rattle.log_rules.specs.Shift.{firstFailing, itemMoves, movedItem}
-use Rattle.log_rules.specs.Laws.Checking.{Walk, walk-start, walk-more, walk-over, walk-wrong, walk-fault, walk-far, walk-bit, walk-first, walk-long}
+use Rattle.log_rules.specs.Laws.Checking.{Walk, walk-start, walk-over, walk-first}
+use Rattle.log_pass.proofs.Walking.{next-fits, walk-item}
 use Rattle.log_walk.specs.Piece.{timesIn}
 use Rattle.log_walk.proofs.Items.{Holds}
 use Rattle.log_write.specs.Pen.{Wrote, start}
@@ -86,23 +88,9 @@ moving-start log by built p h e = rw e record { past = []; walk = walk-start onN
 
 module _ {log : List ℕ} {by : ℤ} {built : List ℕ} {place : ℕ} {p : Pen} (w : Moving log by built place p) where
   module _ {k : Packed} (h : Holds log place k) where
-    pub next-is : place + (k .«first_bits» + k .«behind_bits») ≡ h .next
-    next-is = ap (λ (n : ℕ). place + n) (sym (h .long)) ∙ sym (walk-bit onNoPlan log (w .walk) (h .item) (h .next) (h .stands))
-
-    pub next-fits : place + (k .«first_bits» + k .«behind_bits») ≤ length log * 8
-    next-fits = rw next-is (walk-far onNoPlan log (w .walk) (h .item) (h .next) (h .stands) .1)
-
-    pub moving-late : timesIn k ≡ false → parsed onNoPlan log ≡ fault 4 place
-    moving-late t =
-        let c : onNoPlan (h .item) ≡ 4 = rw (sym (h .times) ∙ t) refl in
-        walk-fault onNoPlan log (w .walk) (h .item) (h .next) (h .stands) (λ z. absurd (omega arith)) ∙ ap (λ (n : ℕ). fault n place) c
-
     module _ (t : timesIn k ≡ true) where
-      passed : onNoPlan (h .item) ≡ 0
-      passed = rw (sym (h .times) ∙ t) refl
-
-      on : Walk onNoPlan log (w .past ++ (h .item ∷ [])) (h .next)
-      on = walk-more onNoPlan log (w .walk) (h .item) (h .next) (h .stands) passed
+      on : Walk onNoPlan log (w .past ++ (h .item ∷ [])) (place + (k .«first_bits» + k .«behind_bits»))
+      on = walk-item (w .walk) h t
 
       -- a tag that cannot be moved
       pub moving-fails : (built′ : List ℕ) → itemMoves by (h .item) ≡ false
@@ -130,7 +118,7 @@ module _ {log : List ℕ} {by : ℤ} {built : List ℕ} {place : ℕ} {p : Pen} 
           ∙ ap (λ (l : List ℕ). flatMap itemBits (map (movedItem by) (w .past)) ++ l) (one i ∙ sym b) in
           record {
             past = w .past ++ (h .item ∷ []);
-            walk = rw next-is on;
+            walk = on;
             clear = passes-more (itemMoves by) 17 0 (w .past) (h .item) (w .clear) f;
             wrote = rw e (x .writes (flatMap itemBits (map (movedItem by) (w .past))) (w .wrote));
             few = omega (arith, x .few, w .few, s);
@@ -140,16 +128,13 @@ module _ {log : List ℕ} {by : ℤ} {built : List ℕ} {place : ℕ} {p : Pen} 
           one : (i : Item) → flatMap itemBits (i ∷ []) ≡ itemBits i
           one i = append-nil (itemBits i)
 
-  pub moving-wrong : nextAt (bytesBits log) place ≡ wrong → parsed onNoPlan log ≡ fault 2 place
-  moving-wrong n = walk-wrong onNoPlan log (w .walk) n
-
   pub moving-over : nextAt (bytesBits log) place ≡ ends → StandsIn (movedRow by (parsed onNoPlan log)) (length log * 8) built (All p)
   moving-over n =
       rw (walk-over onNoPlan log (w .walk) n, w .clear) (p, refl, omega (arith, w .short), omega (arith, w .few, w .walk .fits), w .wrote)
 
 -- ---- what the code asks of an item moved
 
-pub moved-fits : (k : Packed) (t : ℕ) → Fits k → timeNumber t < 2 ^ 46 → Fits (movedPacked t k)
+moved-fits : (k : Packed) (t : ℕ) → Fits k → timeNumber t < 2 ^ 46 → Fits (movedPacked t k)
 moved-fits k t f h = go (eqb (k .«behind_bits») 46)
   where
     go : (b : Bool) → Fits (cond b (record { first = k .first; «first_bits» = k .«first_bits»; behind = timeNumber t; «behind_bits» = 46 }) k)
@@ -168,6 +153,13 @@ moved-long k t = go (eqb (k .«behind_bits») 46) refl
 pub moved-size : (m k : Packed) (t : ℕ) → m ≡ movedPacked t k → m .«first_bits» + m .«behind_bits» ≡ k .«first_bits» + k .«behind_bits»
 moved-size m k t e = ap (λ (q : Packed). q .«first_bits» + q .«behind_bits») e ∙ moved-long k t
 
+moved-first : (k : Packed) (t : ℕ) → movedPacked t k .«first_bits» ≡ k .«first_bits»
+moved-first k t = go (eqb (k .«behind_bits») 46)
+  where
+    go : (b : Bool) → (cond b (record { first = k .first; «first_bits» = k .«first_bits»; behind = timeNumber t; «behind_bits» = 46 }) k) .«first_bits» ≡ k .«first_bits»
+    go true = refl
+    go false = refl
+
 pub time-number-low : (t : ℕ) → t < timeEnd → timeNumber t < 2 ^ 46
 time-number-low t h =
     let q : t / 10000 < 4294967296 = omega arith in
@@ -178,6 +170,16 @@ time-number-low t h =
   where
     low : (x y z : ℕ) → x < 65536 → y < 65536 → z < 16384 → (x * 65536 + y) * 16384 + z < 2 ^ 46
     low x y z a b c = omega arith
+
+-- the room for its bits in an array that has eight bytes more than the log
+pub moving-room : {log : List ℕ} {by : ℤ} {built : List ℕ} {place : ℕ} {p : Pen} (w : Moving log by built place p) {k : Packed} (h : Holds log place k) (m : Packed) (t n : ℕ)
+    → m ≡ movedPacked t k → t < timeEnd → length log + 8 ≤ n → (p .bits < 2 ^ 61) × Fits m × ((p .bits + m .«first_bits») / 8 + 8 ≤ n)
+moving-room w {k} h m t n e l room =
+    let f : m .«first_bits» ≡ k .«first_bits» = ap (λ (q : Packed). q .«first_bits») e ∙ moved-first k t in (
+      omega (arith, w .few, w .walk .fits, w .short),
+      rw e (moved-fits k t (holds-fits h) (time-number-low t l)),
+      omega (arith, f, w .few, next-fits (w .walk) h),
+    )
 
 pub judged-is : (r : Parsed) (place : ℕ) (t : Tally) → t ≡ talliedOf r → (n w : ℕ) → t ≡ Tallied n w → Fault 17 place ≡ judged r place
 judged-is (items is) place t e n w g = refl

@@ -112,7 +112,7 @@ pub fn judged(log: &[u8], place: usize) -> Put
 
 // All items of a log with their tags moved, put; or its first fault, or 17 for the first tag that cannot be moved.
 pub fn put_moved(log: &[u8], by: i64, built: &mut [u8]) -> Put
-    requires { ⌜ inLimits by ≡ true ⌝ }
+    requires { ⌜ (inLimits by ≡ true) × (length (now log) ≤ 32768 → length (now log) + 8 ≤ length (now built)) ⌝ }
     ensures { λ r. ⌜ StandsIn (movedRow by (parsed onNoPlan (now (log .entry)))) (length (now (log .entry)) * 8) (now (built .exit)) r ⌝ }
 {
     if 32768 < log.len() {

@@ -1,36 +1,26 @@
 -- Items put behind what is written: one by its numbers, and those of a log that are on the buses.
-use Prim.Native.Nat.{ℕ, _+_, _*_, _^_, _≤_, _<_}
+use Prim.Native.Nat.{ℕ, _+_, _*_, _/_, _^_, _≤_, _<_}
 use native.Mathlib.Omega.{arith}
-use mathlib.Core.Bool.{Bool, true, false, cond, not}
+use mathlib.Core.Bool.{Bool, true, false, cond}
 use mathlib.Core.Path.{_≡_, refl, ap, sym, _∙_}
 use mathlib.Core.List.{List, [], _∷_, _++_, flatMap, append-assoc, append-nil}
 use lib.ListN.{length}
 use Rattle.format.specs.Bits.{bitsOf, bytesBits}
 use Rattle.format.specs.Item.{itemBits}
-use Rattle.format.specs.Log.{nextAt, has, ends, wrong, items, fault, parsed, onNoPlan}
-use Rattle.format.specs.Lists.{All, nil, cons}
-use Rattle.format.specs.Laws.Lists.{all-append, flatMap-append}
-use Rattle.format.specs.Laws.Tests.{clash}
-use Rattle.format.specs.declared.Item.{Item}
+use Rattle.format.specs.Log.{nextAt, ends, parsed, onNoPlan}
+use Rattle.format.specs.Laws.Lists.{flatMap-append}
 use Rattle.log_rules.specs.Pick.{inSet, keep, onBuses}
-use Rattle.log_rules.specs.Laws.Checking.{Walk, walk-start, walk-more, walk-over, walk-wrong, walk-fault, walk-far, walk-bit}
+use Rattle.log_rules.specs.Laws.Checking.{walk-start, walk-over}
 use Rattle.log_rules.specs.Laws.Logs.{keep-append}
+use Rattle.log_pass.proofs.Walking.{next-fits, walk-item}
 use Rattle.log_walk.specs.Piece.{busIn, timesIn}
 use Rattle.log_walk.proofs.Items.{Holds}
-use Rattle.log_write.specs.Pen.{penPut, penIn}
+use Rattle.log_write.specs.Pen.{penPut, penIn, start}
 use Rattle.log_write.specs.declared.Packed.{Packed}
 use Rattle.log_write.specs.declared.Pen.{Pen}
-use Rattle.log_write.proofs.Writing.{wrote-more, put-long, put-bits}
-use Rattle.log_put.specs.Put.{Coded, Fits, Puts, PutsPacked, PutsPicked, packedBits, Told}
+use Rattle.log_write.proofs.Writing.{wrote-more, wrote-none, put-long, put-bits}
+use Rattle.log_put.specs.Put.{Fits, Picking, Puts, PutsPacked, PutsPicked, packedBits, Told}
 use Rattle.log_put.specs.declared.Put.the-variants.{All as Done}
-
-pub not-true : (b : Bool) → not b ≡ true → b ≡ false
-not-true false e = refl
-not-true true e = clash e
-
-pub not-false : (b : Bool) → not b ≡ false → b ≡ true
-not-false true e = refl
-not-false false e = clash (sym e)
 
 -- ---- bits behind bits
 
@@ -71,9 +61,11 @@ module _ (k : Packed) (f : Fits k) (out : List ℕ) (p : Pen) where
   pub packed-two : {out′ out″ : List ℕ} {p′ p″ : Pen} → p′ ≡ penPut p (k .first) (k .«first_bits») → out′ ≡ penIn out p (k .first) (k .«first_bits»)
       → p″ ≡ penPut p′ (k .behind) (k .«behind_bits») → out″ ≡ penIn out′ p′ (k .behind) (k .«behind_bits») → PutsPacked k out p out″ p″
   packed-two {out′} {out″} {p′} {p″} e g e′ g′ =
-      rw (e′, g′, e, g) (puts-then first-put (puts-number (k .behind) (k .«behind_bits») (penIn out p (k .first) (k .«first_bits»)) (penPut p (k .first) (k .«first_bits»)) (omega (arith, f .behind-few)) (f .behind-low)))
+      rw (e′, g′, e, g) (puts-then first-put (puts-number (k .behind) (k .«behind_bits») (penIn out p (k .first) (k .«first_bits»)) (penPut p (k .first)
+      (k .«first_bits»)) (omega (arith, f .behind-few)) (f .behind-low)))
 
-pub picked-yes : (set bus : ℕ) (k : Packed) {out out′ : List ℕ} {p p′ : Pen} {b : Bool} → bus ≡ busIn k → b ≡ inSet set bus → b ≡ true → PutsPacked k out p out′ p′ → PutsPicked set k out p out′ p′
+pub picked-yes : (set bus : ℕ) (k : Packed) {out out′ : List ℕ} {p p′ : Pen} {b : Bool} → bus ≡ busIn k → b ≡ inSet set bus → b ≡ true → PutsPacked k out p out′ p′
+    → PutsPicked set k out p out′ p′
 picked-yes set bus k g e t x = let y : inSet set (busIn k) ≡ true = ap (inSet set) (sym g) ∙ sym e ∙ t in rw y x
 
 pub picked-no : (set bus : ℕ) (k : Packed) (out : List ℕ) (p : Pen) {b : Bool} → bus ≡ busIn k → b ≡ inSet set bus → b ≡ false → PutsPicked set k out p out p
@@ -90,25 +82,12 @@ holds-fits h = record {
 
 -- ---- the items of a log
 
-pub record Picking (log : List ℕ) (set : ℕ) (out : List ℕ) (p : Pen) (out′ : List ℕ) (place : ℕ) (p′ : Pen) : Type 0 where
-  pub past : List Item
-  pub walk : Walk onNoPlan log past place
-  pub coded : All Coded past
-  pub short : length log ≤ 32768
-  pub puts : Puts (flatMap itemBits (keep (onBuses set) past)) place out p out′ p′
-
-pub picking-start : (log : List ℕ) (set : ℕ) (out : List ℕ) (p : Pen) → length log ≤ 32768 → Picking log set out p out 0 p
+pub picking-start : (log : List ℕ) (set : ℕ) (out : List ℕ) → length log ≤ 32768 → Picking log set out 0 start
 unfolding keep flatMap
-picking-start log set out p h = record { past = []; walk = walk-start onNoPlan log h; coded = nil; short = h; puts = puts-none out p 0 }
+picking-start log set out h = record { past = []; walk = walk-start onNoPlan log h; wrote = wrote-none out; few = omega arith }
 
-module _ {log : List ℕ} {set : ℕ} {out : List ℕ} {p : Pen} {out′ : List ℕ} {place : ℕ} {p′ : Pen} (w : Picking log set out p out′ place p′) where
+module _ {log : List ℕ} {set : ℕ} {out : List ℕ} {place : ℕ} {p : Pen} (w : Picking log set out place p) where
   module _ {k : Packed} (h : Holds log place k) where
-    pub next-is : place + (k .«first_bits» + k .«behind_bits») ≡ h .next
-    next-is = ap (λ (n : ℕ). place + n) (sym (h .long)) ∙ sym (walk-bit onNoPlan log (w .walk) (h .item) (h .next) (h .stands))
-
-    pub next-fits : place + (k .«first_bits» + k .«behind_bits») ≤ length log * 8
-    next-fits = rw next-is (walk-far onNoPlan log (w .walk) (h .item) (h .next) (h .stands) .1)
-
     one-item : flatMap itemBits (keep (onBuses set) (h .item ∷ [])) ≡ cond (inSet set (busIn k)) (packedBits k) []
     unfolding keep flatMap
     one-item = rw (h .bus) (go (onBuses set (h .item)))
@@ -117,10 +96,9 @@ module _ {log : List ℕ} {set : ℕ} {out : List ℕ} {p : Pen} {out′ : List 
         go true = append-nil (itemBits (h .item)) ∙ h .says .bits
         go false = refl
 
-    pub picking-more : {out″ : List ℕ} {p″ : Pen} → timesIn k ≡ true → PutsPicked set k out′ p′ out″ p″
-        → Picking log set out p out″ (place + (k .«first_bits» + k .«behind_bits»)) p″
+    pub picking-more : {out′ : List ℕ} {p′ : Pen} → timesIn k ≡ true → PutsPicked set k out p out′ p′
+        → Picking log set out′ (place + (k .«first_bits» + k .«behind_bits»)) p′
     picking-more t x =
-        let c : onNoPlan (h .item) ≡ 0 = rw (sym (h .times) ∙ t) refl in
         let e : flatMap itemBits (keep (onBuses set) (w .past ++ h .item ∷ []))
         ≡ flatMap itemBits (keep (onBuses set) (w .past)) ++ cond (inSet set (busIn k)) (packedBits k) [] =
         ap (flatMap itemBits) (keep-append (onBuses set) (w .past) (h .item ∷ []))
@@ -128,23 +106,21 @@ module _ {log : List ℕ} {set : ℕ} {out : List ℕ} {p : Pen} {out′ : List 
         ∙ ap (λ (l : List ℕ). flatMap itemBits (keep (onBuses set) (w .past)) ++ l) one-item in
         record {
           past = w .past ++ h .item ∷ [];
-          walk = rw next-is (walk-more onNoPlan log (w .walk) (h .item) (h .next) (h .stands) c);
-          coded = all-append (w .coded) (cons {a = h .item} (rw (← (h .bus)) (omega arith)) nil);
-          short = w .short;
-          puts = rw e (puts-then (w .puts) x);
+          walk = walk-item (w .walk) h t;
+          wrote = rw e (x .writes _ (w .wrote));
+          few = omega (arith, w .few, x .few);
         }
 
-    -- answer 4
-    pub picking-late : timesIn k ≡ false → parsed onNoPlan log ≡ fault 4 place
-    picking-late t =
-        let c : onNoPlan (h .item) ≡ 4 = rw (sym (h .times) ∙ t) refl in
-        walk-fault onNoPlan log (w .walk) (h .item) (h .next) (h .stands) (λ z. absurd (omega arith)) ∙ ap (λ (n : ℕ). fault n place) c
+    pub picking-data : {out′ : List ℕ} {p′ : Pen} → k .«first_bits» ≡ 25 → k .behind ≡ 0 → k .«behind_bits» ≡ 0 → PutsPicked set k out p out′ p′
+        → Picking log set out′ (place + 25) p′
+    picking-data f b g x =
+        let e : k .«first_bits» + k .«behind_bits» ≡ 25 = omega (arith, f, g) in
+        let t : timesIn k ≡ true = rw b refl in
+        rw e at (picking-more t x)
 
-  pub picking-wrong : nextAt (bytesBits log) place ≡ wrong → parsed onNoPlan log ≡ fault 2 place
-  picking-wrong n = walk-wrong onNoPlan log (w .walk) n
+    -- the room for its bits in an array that has eight bytes more than the log
+    pub picking-room : (n : ℕ) → length log ≤ 32768 → length log + 8 ≤ n → (p .bits < 2 ^ 61) × Fits k × ((p .bits + k .«first_bits») / 8 + 8 ≤ n)
+    picking-room n short room = (omega (arith, w .few, w .walk .fits), holds-fits h, omega (arith, w .few, next-fits (w .walk) h))
 
-  pub picking-over : nextAt (bytesBits log) place ≡ ends → Told (parsed onNoPlan log) set (length log * 8) out p out′ (Done p′)
-  picking-over n =
-      let x : Puts (flatMap itemBits (keep (onBuses set) (w .past))) (length log * 8) out p out′ p′ =
-      record { writes = w .puts .writes; few = omega (arith, w .puts .few, w .walk .fits); long = w .puts .long } in
-      rw (walk-over onNoPlan log (w .walk) n) (p′, refl, omega (arith, w .short), w .coded, x)
+  pub picking-over : length log ≤ 32768 → nextAt (bytesBits log) place ≡ ends → Told (parsed onNoPlan log) set (length log * 8) out (Done p)
+  picking-over short n = rw (walk-over onNoPlan log (w .walk) n) (p, refl, omega arith, omega (arith, w .few, w .walk .fits), w .wrote)

@@ -7,10 +7,10 @@ use mathlib.Core.List.{List, [], _++_, flatMap}
 use lib.ListN.{length, length-append}
 use Rattle.format.specs.Bits.{bitsOf, bytesBits}
 use Rattle.format.specs.Laws.Bits.{length-bits, length-bytes}
-use Rattle.format.specs.Item.{busOfItem, itemBits}
-use Rattle.format.specs.Lists as Lists
-use Rattle.format.specs.Log.{Parsed, items, fault}
+use Rattle.format.specs.Item.{itemBits}
+use Rattle.format.specs.Log.{Parsed, items, fault, onNoPlan}
 use Rattle.format.specs.declared.Item.{Item}
+use Rattle.log_rules.specs.Laws.Checking.{Walk}
 use Rattle.log_rules.specs.Pick.{inSet, keep, onBuses}
 use Rattle.log_walk.specs.Piece.{busIn}
 use Rattle.log_write.specs.Pen.{Wrote}
@@ -45,15 +45,18 @@ PutsPacked k out p out′ p′ = Puts (packedBits k) (k .«first_bits» + k .«b
 abbrev pub PutsPicked : ℕ → Packed → List ℕ → Pen → List ℕ → Pen → Type 0
 PutsPicked set k out p out′ p′ = Puts (cond (inSet set (busIn k)) (packedBits k) []) (k .«first_bits» + k .«behind_bits») out p out′ p′
 
--- an item on a bus that has a code
-abbrev pub Coded : Item → Type 0
-Coded i = busOfItem i < 16
+-- the items of a log so far, each of them good, and those on the buses put
+pub record Picking (log : List ℕ) (set : ℕ) (out : List ℕ) (place : ℕ) (p : Pen) : Type 0 where
+  pub past : List Item
+  pub walk : Walk onNoPlan log past place
+  pub wrote : Wrote (flatMap itemBits (keep (onBuses set) past)) out p
+  pub few : p .bits ≤ place
 
--- a log's items on the buses are put, of at most so many bits; or its fault
-abbrev pub Told : Parsed → ℕ → ℕ → List ℕ → Pen → List ℕ → Put → Type 0
-Told (items is) set most out p out′ r =
-    (p′ : Pen) × (r ≡ All p′) × (most ≤ 262144) × Lists.All Coded is × Puts (flatMap itemBits (keep (onBuses set) is)) most out p out′ p′
-Told (fault n q) set most out p out′ r = r ≡ Fault n q
+-- a log's items on the buses stand in the array, of at most so many bits; or its fault
+abbrev pub Told : Parsed → ℕ → ℕ → List ℕ → Put → Type 0
+Told (items is) set most out r =
+    (p : Pen) × (r ≡ All p) × (most ≤ 262144) × (p .bits ≤ most) × Wrote (flatMap itemBits (keep (onBuses set) is)) out p
+Told (fault n q) set most out r = r ≡ Fault n q
 
 -- ---- one answer
 
@@ -72,9 +75,7 @@ SameTold (Fault n k) (Fault m j) = (n ≡ m) × (k ≡ j)
 same-fault : (r r′ : Put) (n k : ℕ) → r ≡ Fault n k → r′ ≡ Fault n k → SameTold r r′
 same-fault r r′ n k t u = rw (t, u) (refl, refl)
 
--- two answers name the same fault, or have put as many bits, and these are the items' bits behind those before
-pub told-one : (row : Parsed) (set most : ℕ) (bits out : List ℕ) (p : Pen) (a b : List ℕ) (r r′ : Put) → Wrote bits out p
-    → Told row set most out p a r → Told row set most out p b r′ → SameTold r r′
-told-one (items is) set most bits out p a b r r′ w (q, e, h, c, x) (q′, e′, h′, c′, x′) =
-    rw (e, e′) (sym (written (x .writes bits w)) ∙ written (x′ .writes bits w))
-told-one (fault n k) set most bits out p a b r r′ w t u = same-fault r r′ n k t u
+-- two answers name the same fault, or have put as many bits, which are the items' bits
+pub told-one : (row : Parsed) (set most : ℕ) (a b : List ℕ) (r r′ : Put) → Told row set most a r → Told row set most b r′ → SameTold r r′
+told-one (items is) set most a b r r′ (q, e, h, f, x) (q′, e′, h′, f′, x′) = rw (e, e′) (sym (written x) ∙ written x′)
+told-one (fault n k) set most a b r r′ t u = same-fault r r′ n k t u

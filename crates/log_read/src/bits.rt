@@ -81,6 +81,18 @@ impl Cursor {
         }
     }
 
+    // As `filled`, where the log has all eight bytes.
+    pub fn filled_in(self, log: &[u8]) -> Cursor
+        requires { ⌜ (self .at / 8 + 8 ≤ length (now log)) × (self .at ≤ 2 ^ 40) ⌝ }
+        ensures { λ r. ⌜ (r ≡ filledOf (now (log .entry)) (self .at)) × (r .at ≡ self .at) ⌝ }
+    {
+        let at = self.at;
+        Cursor {
+            at,
+            ahead: eight_in(log, at / 8) << (at % 8) as u32,
+        }
+    }
+
     // The same place, with the 46 bits of a tag ahead, which the log has: from the eight bytes that end with them.
     pub fn tag_filled(self, log: &[u8]) -> Cursor
         requires { ⌜ (18 ≤ self .at) × (self .at + 46 ≤ length (now log) * 8) × (length (now log) ≤ 4294967296) ⌝ }

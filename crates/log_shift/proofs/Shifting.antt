@@ -1,5 +1,6 @@
 -- What a shift answers, of what was put and of the row.
 use Prim.Native.Nat.{ℕ, zero, suc, _+_, _*_, _/_, _≤_, _<_}
+use native.Mathlib.Decide.{decLt}
 use native.Mathlib.Omega.{arith}
 use mathlib.Core.Bool.{Bool, true, false}
 use mathlib.Core.Path.{_≡_, refl, ap, ap₂, sym, subst, _∙_}
@@ -120,9 +121,21 @@ pub put-fault : (by : ℤ) (row : Parsed) (most room : ℕ) (built out times : L
 put-fault by (items is) most room built out times put n q r s e a = no-all (sym e ∙ s .1)
 put-fault by (fault m k) most room built out times put n q r s e a = (a ∙ refusals n q m k (sym e ∙ s), refl, refl)
 
-pub put-finishes : (row : Parsed) (n room : ℕ) (built : List ℕ) (put : Put) → StandsIn row (n * 8) built put → 32776 ≤ room → Finishable put room
+-- an array that has room for a log as long as this one, or for the longest
+pub room-for : (n room : ℕ) → (room < 32776 → n + 8 ≤ room) → n ≤ 32768 → n + 8 ≤ room
+room-for n room g h = go (decLt room 32776)
+  where
+    go : Dec (room < 32776) → n + 8 ≤ room
+    go (yes y) = g y
+    go (no y) = omega arith
+
+pub put-finishes : (row : Parsed) (n room : ℕ) (built : List ℕ) (put : Put) → StandsIn row (n * 8) built put → (room < 32776 → n + 8 ≤ room) → Finishable put room
 unfolding closedSize
-put-finishes (items is) n room built put (p, e, h, f, w) g = rw e (omega arith, λ z. omega arith)
+put-finishes (items is) n room built put (p, e, h, f, w) g = rw e (omega arith, λ z. go (decLt room 32776) z)
+  where
+    go : Dec (room < 32776) → (p .bits + 11) / 8 ≤ 32768 → (p .bits + 11) / 8 + 7 ≤ room
+    go (yes y) z = omega (arith, g y)
+    go (no y) z = omega arith
 put-finishes (fault k q) n room built put t g = rw t tt
 
 -- ---- the call

@@ -103,13 +103,30 @@ fn shift_put(put: Put, by: i64, times: &mut [u8], out: &mut [u8], built: &mut [u
     }
 }
 
+// By way of an array that has room for a log as long as this one.
+fn shift_in(log: &[u8], by: i64, times: &mut [u8], out: &mut [u8], built: &mut [u8]) -> Answer
+    requires { ⌜ (inLimits by ≡ true) × (length (now built) < 32776 → length (now log) + 8 ≤ length (now built)) ⌝ }
+    ensures { λ r. ⌜ Shifted (shifted (now (log .entry)) (timesFrom (now (times .entry))) by (length (now (out .entry)))) r (now (out .entry)) (now (out .exit)) (now (times .entry)) (now (times .exit)) ⌝ }
+{
+    let put = put_moved(log, by, built);
+    shift_put(put, by, times, out, built)
+}
+
+// No large array is cleared for a short log.
 fn shift_moved(log: &[u8], by: i64, times: &mut [u8], out: &mut [u8]) -> Answer
     requires { ⌜ inLimits by ≡ true ⌝ }
     ensures { λ r. ⌜ Shifted (shifted (now (log .entry)) (timesFrom (now (times .entry))) by (length (now (out .entry)))) r (now (out .entry)) (now (out .exit)) (now (times .entry)) (now (times .exit)) ⌝ }
 {
+    if log.len() <= 56 {
+        let mut built = [0u8; 64];
+        return shift_in(log, by, times, out, &mut built);
+    }
+    if log.len() <= 1024 {
+        let mut built = [0u8; 1032];
+        return shift_in(log, by, times, out, &mut built);
+    }
     let mut built = [0u8; 32776];
-    let put = put_moved(log, by, &mut built);
-    shift_put(put, by, times, out, &mut built)
+    shift_in(log, by, times, out, &mut built)
 }
 
 // "Refusals: 2, 4 as in composing; 17 for a shift out of limits (place 0)", then as above.

@@ -272,7 +272,7 @@ module _ (bits bs rest : List ℕ) (low : All (λ b. b < 2) bits) (small : Bytes
   packed-size : length (packed marked) ≡ length bs
   packed-size = omega (arith, pk-long, pk .few, size)
 
-  packed-is : bs ≡ packed marked
+  pub packed-is : bs ≡ packed marked
   packed-is =
       let a : length bs * 8 ≡ length (bytesBits bs) = sym (length-bytes bs) in
       let b : length bs * 8 ≡ length bits + (4 + pk .more) = ap (λ (n : ℕ). n * 8) (sym packed-size) ∙ pk-long in

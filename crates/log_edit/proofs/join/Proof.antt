@@ -1,49 +1,52 @@
+use Rattle.log_edit.proofs.Joining.{bad, good, join-first}
+use Rattle.format.specs.Laws.Word.Bytes.{all-bytes}
 use native.Mathlib.Omega.{arith}
 use borrow.Author.Needs.{needs}
 use Rattle.log_edit.proofs.join.Statement.{statement}
 use Rattle.log_edit.proofs.join.Tie as tie
 use Rattle.log_edit.proofs.join.Reads as reads
 use Rattle.log_edit.proofs.join.Lts as lts
-use Rattle.log_edit.proofs.is_short.Reads as is-short-reads
-use Rattle.log_edit.proofs.join_in.Reads as join-in-reads
+use Rattle.log_close.proofs.refusal.Reads as refusal-reads
+use Rattle.log_edit.proofs.join_second.Reads as join-second-reads
+use Rattle.log_pass.proofs.pass.Reads as pass-reads
 
-is-short-requires : tie.Need-is-short-requires
-is-short-requires c κs = search needs
+pass-requires : tie.Need-pass-requires
+pass-requires c κs = search needs
 
-slice-aggregate-join-in : tie.Need-slice-aggregate-join-in
-slice-aggregate-join-in c = search needs
+enum-known-one : tie.Need-enum-known-one
+enum-known-one c = search needs
 
-join-in-requires : tie.Need-join-in-requires
-join-in-requires c κs = λ h. omega (arith, c .before .before .before .is-short .ensures (c .before .before .if1 .taken))
+join-second-requires : tie.Need-join-second-requires
+join-second-requires c κs = let log = c .before .before .before .before .before .before .before .before .args .first .now in
+    good log _ _ (all-bytes log (λ i. omega (arith, c .before .before .before .before .before .before .before .shared-slice-known .given i)))
+    (c .before .before .before .before .pass .ensures) (c .before .before .one .given .1)
+
+enum-known-number : tie.Need-enum-known-number
+enum-known-number c = search needs
+
+refusal-requires : tie.Need-refusal-requires
+refusal-requires c κs = search needs
 
 same-length : tie.Need-same-length
 same-length c = search needs
 
 returns : tie.Need-returns
-returns c = search needs
-
-slice-aggregate-join-in-2 : tie.Need-slice-aggregate-join-in-2
-slice-aggregate-join-in-2 c = search needs
-
-join-in-requires-2 : tie.Need-join-in-requires-2
-join-in-requires-2 c κs = search needs
-
-same-length-2 : tie.Need-same-length-2
-same-length-2 c = search needs
+returns c = c .before .before .join-second .ensures
 
 returns-2 : tie.Need-returns-2
-returns-2 c = search needs
+returns-2 c = let a = c .before .before .before .before .before .before .before .before .args in
+    join-first (a .first .now) (a .second .now) _ _ _ (a .out .now) (bad (a .first .now) _ _ _ (c .before .before .before .before .pass .ensures)
+    (c .before .before .number .given .1)) (c .refusal .ensures)
 
 pub join-spec : {M : Type 1} → statement M
 join-spec =
     tie.close
     (tie.spec
-    is-short-requires
-    slice-aggregate-join-in
-    join-in-requires
+    pass-requires
+    enum-known-one
+    join-second-requires
+    enum-known-number
+    refusal-requires
     same-length
     returns
-    slice-aggregate-join-in-2
-    join-in-requires-2
-    same-length-2
     returns-2)

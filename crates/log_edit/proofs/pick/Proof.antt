@@ -27,6 +27,18 @@ same-length-2 c = search needs
 returns-2 : tie.Need-returns-2
 returns-2 c = c .before .before .before .pick-in2 .ensures
 
+slice-aggregate-pick-in-3 : tie.Need-slice-aggregate-pick-in-3
+slice-aggregate-pick-in-3 c = search needs
+
+pick-in-requires-3 : tie.Need-pick-in-requires-3
+pick-in-requires-3 c κs = λ h. omega arith
+
+same-length-3 : tie.Need-same-length-3
+same-length-3 c = search needs
+
+returns-3 : tie.Need-returns-3
+returns-3 c = c .before .before .before .pick-in3 .ensures
+
 pub pick-spec : {M : Type 1} → statement M
 pick-spec =
     tie.close
@@ -38,4 +50,8 @@ pick-spec =
     slice-aggregate-pick-in-2
     pick-in-requires-2
     same-length-2
-    returns-2)
+    returns-2
+    slice-aggregate-pick-in-3
+    pick-in-requires-3
+    same-length-3
+    returns-3)

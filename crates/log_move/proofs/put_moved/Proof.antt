@@ -1,14 +1,15 @@
 use mir.Facts.{toZ-ofZ}
-use Rattle.log_move.proofs.Moving.{can-move, cannot-move, moved-fits, moved-is, moved-size, Moving, moving-fails, moving-late, moving-more, moving-over, moving-start, moving-wrong, next-fits, time-number-low}
+use Rattle.log_move.proofs.Moving.{can-move, cannot-move, moved-is, moved-size, Moving, moving-fails, moving-more, moving-over, moving-room, moving-start}
 use Rattle.log_walk.proofs.Items.{ends-there, holds, wrong-there}
-use Rattle.log_put.proofs.Putting.{holds-fits, not-false, not-true}
-use Rattle.log_rules.specs.Laws.Checking.{walk-long}
+use Rattle.log_put.proofs.Putting.{holds-fits}
+use Rattle.log_pass.proofs.Walking.{next-fits, not-false, not-true, walk-late}
+use Rattle.log_rules.specs.Laws.Checking.{walk-long, walk-wrong}
 use Rattle.format.specs.Log.{onNoPlan}
 use mir.Val.{toZ}
 use mir.Syntax.{w64}
 use lib.ListN.{length}
 use mathlib.Core.Path.{_≡_, refl, sym, _∙_}
-use Prim.Native.Nat.{_*_, _-_, _≤_}
+use Prim.Native.Nat.{_+_, _*_, _-_, _≤_}
 use native.Mathlib.Omega.{arith}
 use borrow.Author.Needs.{needs}
 use Rattle.log_move.proofs.put_moved.Statement.{statement}
@@ -24,7 +25,8 @@ use Rattle.log_walk.proofs.piece_at.Reads as piece-at-reads
 use Rattle.log_write.proofs.Pen.start.Reads as start-reads
 
 abbrev Inv-loop : tie.InvT-loop
-Inv-loop log by built₀ at₀ to₀ built at to = (length log ≤ 32768) × (length built ≡ length built₀) × Moving log (toZ w64 by) built at to
+Inv-loop log by built₀ at₀ to₀ built at to =
+    (length log ≤ 32768) × (length built ≡ length built₀) × Moving log (toZ w64 by) built at to × (length log + 8 ≤ length built₀)
 
 abbrev μ-loop : tie.MeasureT-loop
 μ-loop log by built₀ at₀ to₀ built at to = length log * 8 - at
@@ -36,7 +38,13 @@ start-requires : tie.Need-start-requires Inv-loop μ-loop
 start-requires c κs = search needs
 
 loop-holds : tie.Need-loop-holds Inv-loop μ-loop
-loop-holds c = (c .before .if1 .left, refl, moving-start (c .before .before .before .before .args .log .now) _ _ _ (c .before .if1 .left) (c .start .ensures))
+loop-holds c = (
+  c .before .if1 .left,
+  refl,
+  moving-start (c .before .before .before .before .args .log .now) _ _ _ (c .before .if1 .left)
+      (c .start .ensures),
+  c .before .before .before .before .pre .1 (c .before .if1 .left),
+)
 
 piece-at-requires : tie.Need-piece-at-requires Inv-loop μ-loop
 piece-at-requires c κs = let o = c .loop .inv in (o .2 .walk .fits, omega (arith, o .0))
@@ -54,15 +62,20 @@ returns-2 : tie.Need-returns-2 Inv-loop μ-loop
 returns-2 c =
     let o = c .before .before .before .before .before .before .loop in
     let i = c .before .before .before .item .given in
-    let h = holds (c .before .before .before .before .before .before .before .before .before .before .before .args .log .now) (o .at) (c .before .before .before .before .before .piece-at .result) (i .0 .0) (c .before .before .before .before .before .piece-at .ensures) (i .1) in
-    rw (moving-late (o .inv .2) h (sym (c .before .in-time .ensures) ∙ not-true _ (c .if2 .taken))) refl
+    let h = holds (c .before .before .before .before .before .before .before .before .before .before .before .args .log .now) (o .at)
+    (c .before .before .before .before .before .piece-at .result) (i .0 .0) (c .before .before .before .before .before .piece-at .ensures) (i .1) in
+    rw (walk-late (o .inv .2 .walk) h (sym (c .before .in-time .ensures) ∙ not-true _ (c .if2 .taken))) refl
 
 moved-tag-requires : tie.Need-moved-tag-requires Inv-loop μ-loop
 moved-tag-requires c κs =
     let o = c .before .before .before .before .before .before .loop in
     let i = c .before .before .before .item .given in
-    let h = holds (c .before .before .before .before .before .before .before .before .before .before .before .args .log .now) (o .at) (c .before .before .before .before .before .piece-at .result) (i .0 .0) (c .before .before .before .before .before .piece-at .ensures) (i .1) in
-    (rw (toZ-ofZ (c .before .before .before .before .before .before .before .before .before .before .before .fits .by)) (c .before .before .before .before .before .before .before .before .before .before .before .pre), holds-fits h)
+    let h = holds (c .before .before .before .before .before .before .before .before .before .before .before .args .log .now) (o .at)
+    (c .before .before .before .before .before .piece-at .result) (i .0 .0) (c .before .before .before .before .before .piece-at .ensures) (i .1) in (
+      rw (toZ-ofZ (c .before .before .before .before .before .before .before .before .before .before .before .fits .by))
+          (c .before .before .before .before .before .before .before .before .before .before .before .pre .0),
+      holds-fits h,
+    )
 
 judged-requires : tie.Need-judged-requires Inv-loop μ-loop
 judged-requires c κs = search needs
@@ -74,10 +87,13 @@ returns-3 : tie.Need-returns-3 Inv-loop μ-loop
 returns-3 c =
     let o = c .before .before .before .before .before .before .before .before .before .loop in
     let i = c .before .before .before .before .before .before .item .given in
-    let h = holds (c .before .before .before .before .before .before .before .before .before .before .before .before .before .before .args .log .now) (o .at) (c .before .before .before .before .before .before .before .before .piece-at .result) (i .0 .0) (c .before .before .before .before .before .before .before .before .piece-at .ensures) (i .1) in
+    let h = holds (c .before .before .before .before .before .before .before .before .before .before .before .before .before .before .args .log .now) (o .at)
+    (c .before .before .before .before .before .before .before .before .piece-at .result) (i .0 .0)
+    (c .before .before .before .before .before .before .before .before .piece-at .ensures) (i .1) in
     let t = sym (c .before .before .before .before .in-time .ensures) ∙ not-false _ (c .before .before .before .if2 .left) in
     let f = cannot-move _ h _ (c .before .before .moved-tag .ensures) (c .before .if3 .taken) in
-    rw (c .judged .ensures) (rw (toZ-ofZ (c .before .before .before .before .before .before .before .before .before .before .before .before .before .before .fits .by)) at (moving-fails (o .inv .2) h t (o .built) f))
+    rw (c .judged .ensures) (rw (toZ-ofZ (c .before .before .before .before .before .before .before .before .before .before .before .before .before .before .fits
+    .by)) at (moving-fails (o .inv .2) h t (o .built) f))
 
 with-time-requires : tie.Need-with-time-requires Inv-loop μ-loop
 with-time-requires c κs = omega (arith, c .before .if3 .left)
@@ -86,8 +102,10 @@ put-packed-requires : tie.Need-put-packed-requires Inv-loop μ-loop
 put-packed-requires c κs =
     let o = c .before .before .before .before .before .before .before .before .before .before .loop in
     let i = c .before .before .before .before .before .before .before .item .given in
-    let h = holds (c .before .before .before .before .before .before .before .before .before .before .before .before .before .before .before .args .log .now) (o .at) (c .before .before .before .before .before .before .before .before .before .piece-at .result) (i .0 .0) (c .before .before .before .before .before .before .before .before .before .piece-at .ensures) (i .1) in
-    (omega (arith, o .inv .0, o .inv .2 .few, o .inv .2 .walk .fits), rw (c .with-time .ensures) (moved-fits (i .0 .0) _ (holds-fits h) (time-number-low _ (c .before .before .if3 .left))))
+    let h = holds (c .before .before .before .before .before .before .before .before .before .before .before .before .before .before .before .args .log .now)
+    (o .at) (c .before .before .before .before .before .before .before .before .before .piece-at .result) (i .0 .0)
+    (c .before .before .before .before .before .before .before .before .before .piece-at .ensures) (i .1) in
+    moving-room (o .inv .2) h _ _ _ (c .with-time .ensures) (c .before .before .if3 .left) (omega (arith, o .inv .1, o .inv .3))
 
 add-at : tie.Need-add-at Inv-loop μ-loop
 add-at c =
@@ -106,7 +124,7 @@ add-at-2 c =
     let i = c .before .before .before .before .before .before .before .before .before .before .before .item .given in
     let a = c .before .before .before .before .before .before .before .before .before .before .before .before .before in
     let h = holds (a .before .before .before .before .before .before .args .log .now) (o .at) (a .piece-at .result) (i .0 .0) (a .piece-at .ensures) (i .1) in
-    omega (arith, o .inv .0, next-fits (o .inv .2) h)
+    omega (arith, o .inv .0, next-fits (o .inv .2 .walk) h)
 
 loop-less : tie.Need-loop-less Inv-loop μ-loop
 loop-less c =
@@ -114,7 +132,7 @@ loop-less c =
     let i = c .before .before .before .before .before .before .before .before .before .before .before .item .given in
     let a = c .before .before .before .before .before .before .before .before .before .before .before .before .before in
     let h = holds (a .before .before .before .before .before .before .args .log .now) (o .at) (a .piece-at .result) (i .0 .0) (a .piece-at .ensures) (i .1) in
-    omega (arith, h .many, next-fits (o .inv .2) h)
+    omega (arith, h .many, next-fits (o .inv .2 .walk) h)
 
 loop-again : tie.Need-loop-again Inv-loop μ-loop
 loop-again c =
@@ -122,12 +140,13 @@ loop-again c =
     let i = c .before .before .before .before .before .before .before .before .before .before .before .item .given in
     let a = c .before .before .before .before .before .before .before .before .before .before .before .before .before in
     let h = holds (a .before .before .before .before .before .before .args .log .now) (o .at) (a .piece-at .result) (i .0 .0) (a .piece-at .ensures) (i .1) in
-    let t = sym (c .before .before .before .before .before .before .before .before .before .in-time .ensures) ∙ not-false _ (c .before .before .before .before .before .before .before .before .if2 .left) in
+    let t = sym (c .before .before .before .before .before .before .before .before .before .in-time .ensures) ∙ not-false _
+    (c .before .before .before .before .before .before .before .before .if2 .left) in
     let x = c .before .before .before .put-packed .ensures in
     let e = c .before .before .before .before .before .before .before .moved-tag .ensures in
     let m = moved-is _ h _ e _ (c .before .before .before .before .before .before .if3 .left) (c .before .before .before .before .with-time .ensures) in
     let l = moved-size _ (i .0 .0) _ (c .before .before .before .before .with-time .ensures) in
-    (o .inv .0, x .long ∙ o .inv .1, moving-more (o .inv .2) h t _ (can-move _ h _ e (c .before .before .before .before .before .before .if3 .left)) m l x)
+    (o .inv .0, x .long ∙ o .inv .1, moving-more (o .inv .2) h t _ (can-move _ h _ e (c .before .before .before .before .before .before .if3 .left)) m l x, o .inv .3)
 
 enum-told : tie.Need-enum-told Inv-loop μ-loop
 enum-told c = search needs
@@ -136,7 +155,8 @@ same-length-3 : tie.Need-same-length-3 Inv-loop μ-loop
 same-length-3 c = c .before .before .before .loop .inv .1
 
 returns-4 : tie.Need-returns-4 Inv-loop μ-loop
-returns-4 c = rw (toZ-ofZ (c .before .before .before .before .before .before .before .before .fits .by)) at (moving-over (c .before .before .before .loop .inv .2) (ends-there _ (sym (c .before .before .piece-at .ensures) ∙ c .enum-told .given .1)))
+returns-4 c = rw (toZ-ofZ (c .before .before .before .before .before .before .before .before .fits .by)) at (moving-over (c .before .before .before .loop .inv .2)
+    (ends-there _ (sym (c .before .before .piece-at .ensures) ∙ c .enum-told .given .1)))
 
 enum-told-2 : tie.Need-enum-told-2 Inv-loop μ-loop
 enum-told-2 c = search needs
@@ -145,7 +165,7 @@ same-length-4 : tie.Need-same-length-4 Inv-loop μ-loop
 same-length-4 c = c .before .before .before .loop .inv .1
 
 returns-5 : tie.Need-returns-5 Inv-loop μ-loop
-returns-5 c = rw (moving-wrong (c .before .before .before .loop .inv .2) (wrong-there _ (sym (c .before .before .piece-at .ensures) ∙ c .enum-told2 .given .1))) refl
+returns-5 c = rw (walk-wrong onNoPlan _ (c .before .before .before .loop .inv .2 .walk) (wrong-there _ (sym (c .before .before .piece-at .ensures) ∙ c .enum-told2 .given .1))) refl
 
 pub put-moved-spec : {M : Type 1} → statement M
 put-moved-spec =
