@@ -35,7 +35,7 @@ use Rattle.log_write.specs.declared.Pen.{Pen}
 use Rattle.log_write.specs.Packed.{packedOf}
 use Rattle.log_write.proofs.Packing.{Says, packed-says}
 use Rattle.log_write.proofs.Writing.{wrote-none}
-use Rattle.log_move.specs.Moved.{judged, movedPacked, movedRow, tagNumber, timeNumber}
+use Rattle.log_move.specs.Moved.{judged, Moving, movedPacked, movedRow, tagNumber, timeNumber}
 use Rattle.log_move.proofs.Tags.{tag-moves, tag-moved}
 
 -- ---- the first item that fails
@@ -74,14 +74,6 @@ map-more f (j ∷ past) i = ap (λ (l : List Item). f j ∷ l) (map-more f past 
 
 -- ---- the loop
 
-pub record Moving (log : List ℕ) (by : ℤ) (built : List ℕ) (place : ℕ) (p : Pen) : Type 0 where
-  pub past : List Item
-  pub walk : Walk onNoPlan log past place
-  pub clear : firstFailing (itemMoves by) 17 0 past ≡ none
-  pub wrote : Wrote (flatMap itemBits (map (movedItem by) past)) built p
-  pub few : p .bits ≤ place
-  pub short : length log ≤ 32768
-
 pub moving-start : (log : List ℕ) (by : ℤ) (built : List ℕ) (p : Pen) → length log ≤ 32768 → p ≡ start → Moving log by built 0 p
 unfolding firstFailing flatMap
 moving-start log by built p h e = rw e record { past = []; walk = walk-start onNoPlan log h; clear = refl; wrote = wrote-none built; few = omega arith; short = h }
@@ -106,7 +98,8 @@ module _ {log : List ℕ} {by : ℤ} {built : List ℕ} {place : ℕ} {p : Pen} 
               ap (firstFailing (itemMoves by) 17 0) y ∙ fails-at (itemMoves by) 17 0 (w .past) (h .item) rest (w .clear) f ∙ ap (found 17) (zero-add _ ∙ sym (w .walk .at)) in
               rw x refl
 
-      pub moving-more : {built′ : List ℕ} {p′ : Pen} (m : Packed) → itemMoves by (h .item) ≡ true → m ≡ packedOf (movedItem by (h .item)) → m .«first_bits» + m .«behind_bits» ≡ k .«first_bits» + k .«behind_bits»
+      pub moving-more : {built′ : List ℕ} {p′ : Pen} (m : Packed) → itemMoves by (h .item) ≡ true → m ≡ packedOf (movedItem by
+          (h .item)) → m .«first_bits» + m .«behind_bits» ≡ k .«first_bits» + k .«behind_bits»
           → PutsPacked m built p built′ p′ → Moving log by built′ (place + (k .«first_bits» + k .«behind_bits»)) p′
       unfolding flatMap
       moving-more {built′} {p′} m f g s x =
@@ -208,3 +201,14 @@ module _ (by : ℤ) {log : List ℕ} {place : ℕ} {k : Packed} (h : Holds log p
   moved-is m l g =
       g ∙ ap (λ (t : ℕ). movedPacked t k) (e ∙ ap (tagNumber by) (h .is)) ∙ ap (movedPacked (tagNumber by (packedOf (h .item)))) (h .is)
       ∙ sym (tag-moved by (h .item) (h .narrow) (can-move l))
+
+-- a data word has no tag: it stays as it is
+module _ {by : ℤ} {log : List ℕ} {built : List ℕ} {place : ℕ} {p : Pen} (w : Moving log by built place p) {k : Packed} (h : Holds log place k) where
+  pub moving-data : {built′ : List ℕ} {p′ : Pen} → k .«first_bits» ≡ 25 → k .behind ≡ 0 → k .«behind_bits» ≡ 0 → PutsPacked k built p built′ p′ → Moving log by built′ (place + 25) p′
+  moving-data f b g x =
+      let t : timesIn k ≡ true = rw b refl in
+      let e : 0 ≡ tagNumber by k = rw g refl in
+      let m : k ≡ movedPacked 0 k = rw g refl in
+      let n : 0 < timeEnd = omega arith in
+      let s : k .«first_bits» + k .«behind_bits» ≡ 25 = omega (arith, f, g) in
+      rw s at (moving-more w h t k (can-move by h 0 e n) (moved-is by h 0 e k n m) refl x)

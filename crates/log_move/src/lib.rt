@@ -10,14 +10,17 @@ ghost use Rattle.format.specs.Time.{timeEnd};
 ghost use Rattle.log_close.specs.Made.{StandsIn};
 ghost use Rattle.log_put.specs.Put.{Fits};
 ghost use Rattle.log_rules.specs.Shift.{inLimits};
-ghost use Rattle.log_move.specs.Moved.{judged, movedNumber, movedPacked, movedRow, numberOf, tagNumber, timeNumber};
+ghost use Rattle.log_move.specs.Moved.{judged, MovesOn, movedNumber, movedPacked, movedRow, numberOf, tagNumber, timeNumber};
 use log_put::Put;
+use log_put::Spot;
 use log_put::put_packed;
 use log_read::Tally;
 use log_read::parse;
 use log_walk::Piece;
+use log_walk::data_in;
 use log_walk::in_time;
 use log_walk::piece_at;
+use log_walk::window_in;
 use log_write::Packed;
 use log_write::Pen;
 use word::time_parts;
@@ -110,6 +113,25 @@ pub fn judged(log: &[u8], place: usize) -> Put
     }
 }
 
+// From a spot on the data words that stand far from the log's end: they have no tag, and come in runs.
+fn put_data(log: &[u8], from: Spot, built: &mut [u8]) -> Spot
+    requires { ⌜ (length (now log) ≤ 32768) × (length (now log) + 8 ≤ length (now built)) × (from .pen .bits ≤ from .at) × (from .at ≤ length (now log) * 8) ⌝ }
+    ensures { λ r. ⌜ MovesOn (now (log .entry)) (now (built .entry)) from (now (built .exit)) r ⌝ }
+{
+    let mut at = from.at;
+    let mut to = from.pen;
+    let stop = log.len() * 8;
+    while at + 128 <= stop {
+        let w = window_in(log, at);
+        if w >> 60 != 3 {
+            break;
+        }
+        to = put_packed(to, built, data_in(log, at, w));
+        at += 25;
+    }
+    Spot { at, pen: to }
+}
+
 // All items of a log with their tags moved, put; or its first fault, or 17 for the first tag that cannot be moved.
 pub fn put_moved(log: &[u8], by: i64, built: &mut [u8]) -> Put
     requires { ⌜ (inLimits by ≡ true) × (length (now log) ≤ 32768 → length (now log) + 8 ≤ length (now built)) ⌝ }
@@ -138,6 +160,9 @@ pub fn put_moved(log: &[u8], by: i64, built: &mut [u8]) -> Put
                 }
                 to = put_packed(to, built, with_time(item, time));
                 at += (item.first_bits + item.behind_bits) as usize;
+                let here = put_data(log, Spot { at, pen: to }, built);
+                at = here.at;
+                to = here.pen;
             }
             Piece::End => return Put::All(to),
             Piece::Wrong => return Put::Fault {

@@ -1,5 +1,8 @@
+use mir.Val.{ofZ}
+use Rattle.log_walk.proofs.Items.{Holds}
+use Rattle.log_move.specs.Moved.{Moving}
 use mir.Facts.{toZ-ofZ}
-use Rattle.log_move.proofs.Moving.{can-move, cannot-move, moved-is, moved-size, Moving, moving-fails, moving-more, moving-over, moving-room, moving-start}
+use Rattle.log_move.proofs.Moving.{can-move, cannot-move, moved-is, moved-size, moving-fails, moving-more, moving-over, moving-room, moving-start}
 use Rattle.log_walk.proofs.Items.{ends-there, holds, wrong-there}
 use Rattle.log_put.proofs.Putting.{holds-fits}
 use Rattle.log_pass.proofs.Walking.{next-fits, not-false, not-true, walk-late}
@@ -126,27 +129,51 @@ add-at-2 c =
     let h = holds (a .before .before .before .before .before .before .args .log .now) (o .at) (a .piece-at .result) (i .0 .0) (a .piece-at .ensures) (i .1) in
     omega (arith, o .inv .0, next-fits (o .inv .2 .walk) h)
 
+-- the item that was found, and what is put with it
+item-here : (c : tie.After-put-data-arg Inv-loop μ-loop) → Holds
+    (c .before .before .before .before .before .before .before .before .before .before .before .before .before .before .before .before .before .before .before
+    .before .args .log .now) (c .before .before .before .before .before .before .before .before .before .before .before .before .before .before .before .loop .at)
+    (c .before .before .before .before .before .before .before .before .before .before .before .before .item .given .0 .0)
+item-here c = holds _ _ _ (c .before .before .before .before .before .before .before .before .before .before .before .before .item .given .0 .0)
+    (c .before .before .before .before .before .before .before .before .before .before .before .before .before .before .piece-at .ensures)
+    (c .before .before .before .before .before .before .before .before .before .before .before .before .item .given .1)
+
+moved-here : (c : tie.After-put-data-arg Inv-loop μ-loop)
+    → Moving (c .before .before .before .before .before .before .before .before .before .before .before .before .before .before .before .before .before .before
+    .before .before .args .log .now) (toZ w64 (ofZ w64
+    (c .before .before .before .before .before .before .before .before .before .before .before .before .before .before .before .before .before .before .before
+    .before .args .by))) (c .before .before .before .before .put-packed .last .1 .0)
+    (c .before .before .before .before .before .before .before .before .before .before .before .before .before .before .before .loop .at +
+    (c .before .before .before .before .before .before .before .before .before .before .before .before .item .given .0 .0 .«first_bits» + c .before .before
+    .before .before .before .before .before .before .before .before .before .before .item .given .0 .0 .«behind_bits»))
+    (c .before .before .before .before .put-packed .result)
+moved-here c =
+    let h = item-here c in
+    let t = sym (c .before .before .before .before .before .before .before .before .before .before .in-time .ensures) ∙ not-false _
+    (c .before .before .before .before .before .before .before .before .before .if2 .left) in
+    let e = c .before .before .before .before .before .before .before .before .moved-tag .ensures in
+    let m = moved-is _ h _ e _ (c .before .before .before .before .before .before .before .if3 .left) (c .before .before .before .before .before .with-time .ensures) in
+    let l = moved-size _ (c .before .before .before .before .before .before .before .before .before .before .before .before .item .given .0 .0) _
+    (c .before .before .before .before .before .with-time .ensures) in
+    moving-more (c .before .before .before .before .before .before .before .before .before .before .before .before .before .before .before .loop .inv .2) h t _
+    (can-move _ h _ e (c .before .before .before .before .before .before .before .if3 .left)) m l (c .before .before .before .before .put-packed .ensures)
+
+put-data-requires : tie.Need-put-data-requires Inv-loop μ-loop
+put-data-requires c κs = let o = c .before .before .before .before .before .before .before .before .before .before .before .before .before .before .before .loop .inv in
+    let m = moved-here c in
+    (o .0, omega (arith, o .1, o .3, c .before .before .before .before .put-packed .ensures .long), m .few, m .walk .fits)
+
 loop-less : tie.Need-loop-less Inv-loop μ-loop
-loop-less c =
-    let o = c .before .before .before .before .before .before .before .before .before .before .before .before .before .before .loop in
-    let i = c .before .before .before .before .before .before .before .before .before .before .before .item .given in
-    let a = c .before .before .before .before .before .before .before .before .before .before .before .before .before in
-    let h = holds (a .before .before .before .before .before .before .args .log .now) (o .at) (a .piece-at .result) (i .0 .0) (a .piece-at .ensures) (i .1) in
-    omega (arith, h .many, next-fits (o .inv .2 .walk) h)
+loop-less c = let d = c .before .before .before .put-data .ensures in omega (arith, d .on, d .within, item-here (c .before .before .before .before) .many)
 
 loop-again : tie.Need-loop-again Inv-loop μ-loop
-loop-again c =
-    let o = c .before .before .before .before .before .before .before .before .before .before .before .before .before .before .loop in
-    let i = c .before .before .before .before .before .before .before .before .before .before .before .item .given in
-    let a = c .before .before .before .before .before .before .before .before .before .before .before .before .before in
-    let h = holds (a .before .before .before .before .before .before .args .log .now) (o .at) (a .piece-at .result) (i .0 .0) (a .piece-at .ensures) (i .1) in
-    let t = sym (c .before .before .before .before .before .before .before .before .before .in-time .ensures) ∙ not-false _
-    (c .before .before .before .before .before .before .before .before .if2 .left) in
-    let x = c .before .before .before .put-packed .ensures in
-    let e = c .before .before .before .before .before .before .before .moved-tag .ensures in
-    let m = moved-is _ h _ e _ (c .before .before .before .before .before .before .if3 .left) (c .before .before .before .before .with-time .ensures) in
-    let l = moved-size _ (i .0 .0) _ (c .before .before .before .before .with-time .ensures) in
-    (o .inv .0, x .long ∙ o .inv .1, moving-more (o .inv .2) h t _ (can-move _ h _ e (c .before .before .before .before .before .before .if3 .left)) m l x, o .inv .3)
+loop-again c = let o = c .before .before .before .before .before .before .before .before .before .before .before .before .before .before .before .before .before .before .before .loop .inv in (
+  o .0,
+  c .before .before .built2 .given ∙ c .before .before .before .before .before .before .before .before .put-packed .ensures .long ∙ o .1,
+  c .before .before
+      .before .put-data .ensures .moves _ (moved-here (c .before .before .before .before)),
+  o .3,
+)
 
 enum-told : tie.Need-enum-told Inv-loop μ-loop
 enum-told c = search needs
@@ -190,6 +217,7 @@ put-moved-spec =
     add-at
     cast-at
     add-at-2
+    put-data-requires
     loop-less
     loop-again
     enum-told
