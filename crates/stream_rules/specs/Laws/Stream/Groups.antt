@@ -16,7 +16,8 @@ use Rattle.format.specs.Lists.{list}
 use Rattle.format.specs.Reader.{Ran, badAt, ran, run}
 use Rattle.format.specs.Group.{Fault, none, found, groupFault, groupTime}
 use Rattle.format.specs.Read.{Got, got, stopped, finish}
-use Rattle.stream_rules.specs.Stream.{wholeBytes, restBits, storedOf, slotsOf, slotsAt, movedFault, Watch, watch, earliest, Carry, Brought, brings, stops, watched, soundly, takeGroup, unlessWaits, closingItems, closing, closingAt, start, groupSize, groupBytes, Tale, ending, further, told, streamGroups, taleLog, taleTimes, Streamed, handed, streamed, Working, State, closed, failed, working, countOf, Flow, still, flowed, taken, keeps, feedByte, feedBytes, Call, closedWith, closeOn}
+use Rattle.stream_rules.specs.Stream.{wholeBytes, restBits, storedOf, slotsOf, slotsAt, movedFault, Watch, watch, earliest, Carry, Brought, brings, stops, watched, soundly, takeGroup, unlessWaits, closingItems, closing, closingAt, start, groupSize, groupBytes, Tale}
+use Rattle.stream_rules.specs.Stream.{ending, further, told, streamGroups, taleLog, taleTimes, Streamed, handed, streamed, Working, State, closed, failed, working, countOf, Flow, still, flowed, taken, keeps, feedByte, feedBytes, Call, closedWith, closeOn}
 use Rattle.format.specs.Laws.Lists.{flatMap-append}
 use Rattle.format.specs.Laws.Legal.{Legal, legal-is}
 use Rattle.format.specs.Laws.Limits.{long, room}

@@ -15,7 +15,8 @@ use Rattle.format.specs.Item.{itemBits, itemFields, Field}
 use Rattle.format.specs.Lists.{All, nil, cons}
 use Rattle.format.specs.Lawful.{Lawful}
 use Rattle.format.specs.Read.{Got, got, stopped}
-use Rattle.stream_rules.specs.Stream.{restBits, Carry, Brought, brings, stops, takeGroup, start, groupSize, mostBytes, numberFits, waitsFit, areBits, carryFits, secondFits, fits, State, closed, failed, working, Working, countOf, opened, fresh, Flow, still, flowed, taken, keeps, feedByte, feedBytes, Call, refusedBy, answered, numberOf, entriesFor, isOpenState, feedable, fedOn, fedBy, closedWith, closeOn, closedBy, closingAt}
+use Rattle.stream_rules.specs.Stream.{restBits, Carry, Brought, brings, stops, takeGroup, start, groupSize, mostBytes, numberFits, waitsFit, areBits, carryFits, secondFits, fits, State, closed, failed, working, Working, countOf}
+use Rattle.stream_rules.specs.Stream.{opened, fresh, Flow, still, flowed, taken, keeps, feedByte, feedBytes, Call, refusedBy, answered, numberOf, entriesFor, isOpenState, feedable, fedOn, fedBy, closedWith, closeOn, closedBy, closingAt}
 use Rattle.format.specs.Laws.Tests.{clash, and-true}
 use Rattle.format.specs.Laws.Lists.{all-append, all-flat}
 use Rattle.format.specs.Laws.Legal.{Legal, legal-is}

@@ -16,7 +16,8 @@ use Rattle.format.specs.Item.{itemBits, itemFields, lowLabel, channelOf}
 use Rattle.format.specs.Reader.{Slot, Fed, bad, fed, alone, holds, after, feed, starts, isHigh, isPair, baseBus, withTag, Ran, badAt, ran, run, begun, join, more, since}
 use Rattle.format.specs.Group.{Fault, none, found, groupFault, groupTime}
 use Rattle.format.specs.Read.{Got, got, stopped, finish}
-use Rattle.stream_rules.specs.Stream.{wholeBytes, restBits, storedOf, slotsOf, slotsAt, movedFault, Watch, watch, earliest, Carry, Brought, brings, stops, watched, soundly, takeGroup, unlessWaits, closing, closingItems, closingAt, groupSize, mostBytes, fits, State, closed, failed, working, Working, countOf, Flow, still, flowed, taken, keeps, feedByte, feedBytes, Call, refusedBy, answered, entriesFor, isOpenState, feedable, fedOn, fedBy, closedWith, closeOn, closedBy}
+use Rattle.stream_rules.specs.Stream.{wholeBytes, restBits, storedOf, slotsOf, slotsAt, movedFault, Watch, watch, earliest, Carry, Brought, brings, stops, watched, soundly, takeGroup, unlessWaits, closing, closingItems, closingAt, groupSize, mostBytes, fits}
+use Rattle.stream_rules.specs.Stream.{State, closed, failed, working, Working, countOf, Flow, still, flowed, taken, keeps, feedByte, feedBytes, Call, refusedBy, answered, entriesFor, isOpenState, feedable, fedOn, fedBy, closedWith, closeOn, closedBy}
 use Rattle.format.specs.Laws.Tests.{and-true}
 use Rattle.format.specs.Laws.Lists.{flatMap-append, length-list}
 use Rattle.format.specs.Laws.Legal.{Legal, legal-is}

@@ -13,7 +13,8 @@ use Rattle.format.specs.Reader.{Ran, badAt, ran, run}
 use Rattle.format.specs.Read.{Got, got, stopped, finish}
 use Rattle.format.specs.Laws.Tests.{and-true}
 use Rattle.format.specs.Laws.Second.{Only13, GotOnly, finish-only}
-use Rattle.stream_rules.specs.Stream.{slotsOf, slotsAt, storedOf, movedFault, Watch, watch, earliest, Carry, Brought, brings, stops, watched, soundly, takeGroup, unlessWaits, closingItems, closing, closingAt, start, groupSize, groupBytes, mostBytes, Tale, ending, further, told, streamGroups, streamed, secondFits, fits, State, closed, failed, working, Working, countOf, numberOf, secondIn, feedBytes, answered, refusedBy, Call, feedable, fedOn, fedBy, closedWith, closeOn, closedBy, isOpenState}
+use Rattle.stream_rules.specs.Stream.{slotsOf, slotsAt, storedOf, movedFault, Watch, watch, earliest, Carry, Brought, brings, stops, watched, soundly, takeGroup, unlessWaits, closingItems, closing, closingAt, start, groupSize, groupBytes, mostBytes, Tale, ending}
+use Rattle.stream_rules.specs.Stream.{further, told, streamGroups, streamed, secondFits, fits, State, closed, failed, working, Working, countOf, numberOf, secondIn, feedBytes, answered, refusedBy, Call, feedable, fedOn, fedBy, closedWith, closeOn, closedBy, isOpenState}
 use Rattle.stream_rules.specs.Laws.Stream.Kept.{feed-fits}
 use Rattle.format.specs.declared.Kind.{Kind}
 use Rattle.format.specs.declared.Item.{Item}
