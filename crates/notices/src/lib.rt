@@ -124,13 +124,12 @@ fn over_row(
 
 // Whether nothing waits: a look without branches.
 fn is_clear(table: &[u64]) -> bool
-    requires { ⌜ length (now table) < 2 ^ 31 ⌝ }
     ensures { λ r. ⌜ r ≡ allZero (now (table .entry)) ⌝ }
 {
-    let mut waiting: u32 = 0;
+    let mut waiting: u64 = 0;
     let mut i: usize = 0;
     while i < table.len() {
-        waiting += (table[i] != 0) as u32;
+        waiting = waiting | table[i];
         i += 1;
     }
     waiting == 0

@@ -4,7 +4,7 @@ use native.Mathlib.Omega.{arith}
 use mathlib.Core.Bool.{Bool, true, false, _&&_}
 use mathlib.Core.Path.{_≡_, refl, sym, ap, _∙_}
 use mathlib.Core.List.{List, [], _∷_}
-use lib.Bits.{bitOr, bitAnd, or-add-and, or-zero-l, and-le-r}
+use lib.Bits.{bitOr}
 use lib.Dec.{eqb}
 use lib.ListN.{length, take, drop, getD, length-drop}
 use lib.Seq.{drop-cons, drop-drop, take-all}
@@ -12,6 +12,7 @@ use native.Mathlib.Numerals.{add-one}
 use borrow.Author.Tests.{eq-eqb, ne-eqb, le-leb, lt-leb}
 use Rattle.format.specs.Lists.{list}
 use Rattle.from_c.specs.Numbers.{areKinds}
+use Rattle.notices.specs.Laws.Rows.{or-zero}
 use Rattle.stream_state.specs.Parts.{areZeros}
 
 -- what is still to be looked at
@@ -35,12 +36,6 @@ module _ (f : ℕ → ℕ) (index end : ℕ) where
   zero-bad h z = rw (one-more index end h, ne-eqb (f index) 0 z) refl
 
 -- ---- all bytes at once
-
-pub or-zero : (a b : ℕ) → eqb (bitOr a b) 0 ≡ (eqb a 0 && eqb b 0)
-or-zero zero b = rw (or-zero-l b) refl
-or-zero (suc a) b =
-    ne-eqb (bitOr (suc a) b) 0 (λ e. absurd (omega (arith, e, or-add-and (suc a) b, and-le-r (suc a) b)))
-    ∙ rw (ne-eqb (suc a) 0 (λ e. absurd (omega (arith, e)))) refl
 
 pub and-assoc : (a b c : Bool) → (a && (b && c)) ≡ ((a && b) && c)
 and-assoc true b c = refl

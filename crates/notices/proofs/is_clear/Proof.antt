@@ -1,10 +1,10 @@
 use borrow.Author.Tests.{eq-eqb}
 use Rattle.notices.specs.Laws.Rows.{zero-next, zero-end}
-use Rattle.notices.proofs.Counts.{count-low, none-count}
+use Rattle.notices.proofs.Counts.{none-either}
 use Prim.Native.Nat.{_+_, _*_, _-_, _≤_}
 use mathlib.Core.Path.{_≡_, refl, ap, sym, _∙_}
 use native.Mathlib.Omega.{arith}
-use mathlib.Core.Bool.{Bool, true, false, cond, not}
+use mathlib.Core.Bool.{Bool, true, false, cond}
 use lib.ListN.{drop, getD, length}
 use lib.Dec.{eqb}
 use Rattle.notices.specs.Table.{allZero}
@@ -15,27 +15,19 @@ use Rattle.notices.proofs.is_clear.Reads as reads
 use Rattle.notices.proofs.is_clear.Lts as lts
 
 abbrev Inv-loop : tie.InvT-loop
-Inv-loop table waiting₀ i₀ waiting i = (i ≤ length table) × (waiting ≤ i) × (allZero table ≡ cond (eqb waiting 0) (allZero (drop i table)) false)
+Inv-loop table waiting₀ i₀ waiting i = (i ≤ length table) × (allZero table ≡ cond (eqb waiting 0) (allZero (drop i table)) false)
 
 abbrev μ-loop : tie.MeasureT-loop
 μ-loop table waiting₀ i₀ waiting i = length table - i
 
 loop-holds : tie.Need-loop-holds Inv-loop μ-loop
-loop-holds c = (omega arith, omega arith, refl)
+loop-holds c = (omega arith, refl)
 
 mul-waiting : tie.Need-mul-waiting Inv-loop μ-loop
 mul-waiting c = search needs
 
 shared-slice-read-waiting : tie.Need-shared-slice-read-waiting Inv-loop μ-loop
 shared-slice-read-waiting c = search needs
-
-cast-waiting : tie.Need-cast-waiting Inv-loop μ-loop
-cast-waiting c = search needs
-
-add-waiting : tie.Need-add-waiting Inv-loop μ-loop
-add-waiting c =
-    let t = c .before .before .before .args .table .now in
-    omega (arith, count-low (not (eqb (getD t (c .before .before .loop .i) 0) 0)) (c .before .before .loop .waiting) (c .before .before .loop .i) (c .before .before .loop .inv .1))
 
 add-i : tie.Need-add-i Inv-loop μ-loop
 add-i c = search needs
@@ -48,16 +40,15 @@ loop-again c =
     let o = c .before .before .loop in
     let t = c .before .before .before .args .table .now in (
       omega arith,
-      count-low (not (eqb (getD t (o .i) 0) 0)) (o .waiting) (o .i) (o .inv .1),
-      o .inv .2 ∙ ap (λ z. cond (eqb (o .waiting) 0) z false) (zero-next t (o .i) (omega arith))
-          ∙ none-count (o .waiting) (eqb (getD t (o .i) 0) 0) (allZero (drop (o .i + 1) t)),
+      o .inv .1 ∙ ap (λ z. cond (eqb (o .waiting) 0) z false) (zero-next t (o .i) (omega arith))
+          ∙ none-either (o .waiting) (getD t (o .i) 0) (allZero (drop (o .i + 1) t)),
     )
 
 returns : tie.Need-returns Inv-loop μ-loop
 returns c =
     let o = c .before .loop in
     let t = c .before .before .args .table .now in
-    sym (o .inv .2 ∙ ap (λ z. cond (eqb (o .waiting) 0) z false) (zero-end t (o .i) (omega arith)) ∙ whole (eqb (o .waiting) 0))
+    sym (o .inv .1 ∙ ap (λ z. cond (eqb (o .waiting) 0) z false) (zero-end t (o .i) (omega arith)) ∙ whole (eqb (o .waiting) 0))
   where
     whole : (b : Bool) → cond b true false ≡ b
     whole true = refl
@@ -72,8 +63,6 @@ is-clear-spec =
     loop-holds
     mul-waiting
     shared-slice-read-waiting
-    cast-waiting
-    add-waiting
     add-i
     loop-less
     loop-again

@@ -6,8 +6,9 @@ use mathlib.Core.Path.{_≡_, refl, ap, sym, _∙_}
 use mathlib.Core.List.{List, [], _∷_, _++_, map}
 use lib.ListN.{length, getD, set, drop, replicate}
 use lib.Seq.{drop-cons, drop-length}
+use lib.Bits.{bitOr, bitAnd, or-add-and, or-zero-l, and-le-r}
 use lib.Dec.{eqb}
-use borrow.Author.Tests.{eqb-true}
+use borrow.Author.Tests.{eqb-true, ne-eqb}
 use Rattle.format.specs.Lists.{All, nil, cons}
 use Rattle.format.specs.Plan.{kindOn}
 use Rattle.format.specs.Word.{part, partOf, busOf, labelOf, infoOf}
@@ -56,6 +57,13 @@ zero-next t i l = rw (drop-next i t l)
 pub zero-end : (t : List ℕ) (i : ℕ) → length t ≤ i → allZero (drop i t) ≡ true
 unfolding allZero
 zero-end t i l = rw (drop-none i t l)
+
+-- two numbers looked at as one
+pub or-zero : (a b : ℕ) → eqb (bitOr a b) 0 ≡ (eqb a 0 && eqb b 0)
+or-zero zero b = rw (or-zero-l b) refl
+or-zero (suc a) b =
+    ne-eqb (bitOr (suc a) b) 0 (λ e. absurd (omega (arith, e, or-add-and (suc a) b, and-le-r (suc a) b)))
+    ∙ rw (ne-eqb (suc a) 0 (λ e. absurd (omega (arith, e)))) refl
 
 kinds-next : (i : ℕ) (ks : List Kind) → i < length ks → drop i ks ≡ getD ks i Unused ∷ drop (i + 1) ks
 kinds-next i ks h =
