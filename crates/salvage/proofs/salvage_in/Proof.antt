@@ -152,16 +152,26 @@ same-length-7 c = search needs
 
 returns-4 : tie.Need-returns-4
 returns-4 c =
-    let q = c .before .before .before .before .before .before .before .before .before .before .before .before .before .before .before .before .before in
+    let wrote = c .before .before .before .before .before in
+    let times′ = wrote .salvage-groups2 .last .1 .1 .1 .1 .1 .1 .0 in
+    let report′ = wrote .salvage-groups2 .last .1 .1 .1 .1 .1 .1 .1 .0 in
+    let copied = wrote .before .before .before .before .before .before in
+    let log′ = copied .copy .last .0 in
+    let third = copied .before .before .before in
+    let second = third .before in
+    let first = second .before in
+    let q = first .before in
+    let walked = q .before .before .before .before .before in
+    let counted = walked .before .before .before .before .before in
+    let t = walked .salvage-groups .result in
     let a = start q .args in
-    let j = judged q .enough (c .before .before .before .before .before .before .before .before .before .before .before .before .before .before .before .before .if1 .left) (c .before .before .before .before .before .before .before .before .before .before .before .before .before .before .before .if2 .left) (c .before .before .before .before .before .before .before .before .before .before .before .before .before .before .if3 .left) in
-    let z = judged q .all (c .before .before .before .before .before .before .before .before .before .before .before .before .before .before .before .before .if1 .left) (c .before .before .before .before .before .before .before .before .before .before .before .before .before .before .before .if2 .left) (c .before .before .before .before .before .before .before .before .before .before .before .before .before .before .if3 .left) in
-    let t = c .before .before .before .before .before .before .before .before .before .before .before .before .before .before .before .before .before .before .before .before .before .before .salvage-groups .result in
+    let j = judged q .enough (first .if1 .left) (second .if2 .left) (third .if3 .left) in
+    let z = judged q .all (first .if1 .left) (second .if2 .left) (third .if3 .left) in
     subst (λ (n : ℕ). Saves (savedOf (a .plan) (a .kinds) (a .capture .now) n (length (a .log .now)) (length (a .times .now)) (length (a .report .now)))
-    (record { number = 0; place = 0; second = 0; bytes = t .bytes; times = t .times; entries = t .entries }) (a .log .now) (c .before .before .before .before .before .before .before .before .before .before .before .copy .last .0) (a .times .now)
-    (c .before .before .before .before .before .salvage-groups2 .last .1 .1 .1 .1 .1 .1 .0) (a .report .now) (c .before .before .before .before .before .salvage-groups2 .last .1 .1 .1 .1 .1 .1 .1 .0)) (c .before .before .before .before .before .before .before .before .before .before .before .before .before .before .before .before .before .before .before .before .before .before .before .before .before .before .before .groups-in .ensures)
-    (hands-over (a .plan) (a .kinds) (a .capture .now) (groups q) (a .log .now) (c .before .before .before .before .before .before .before .before .before .before .before .copy .last .0) (a .times .now) (c .before .before .before .before .before .salvage-groups2 .last .1 .1 .1 .1 .1 .1 .0) (a .report .now)
-    (c .before .before .before .before .before .salvage-groups2 .last .1 .1 .1 .1 .1 .1 .1 .0) t (c .before .before .before .before .before .before .before .before .before .before .before .before .before .before .before .before .before .before .before .before .before .before .salvage-groups .ensures) (c .before .before .before .before .before .salvage-groups2 .ensures) j (in-built q j) (c .before .before .before .before .before .before .before .before .before .before .before .copy .ensures) z)
+    (record { number = 0; place = 0; second = 0; bytes = t .bytes; times = t .times; entries = t .entries })
+    (a .log .now) log′ (a .times .now) times′ (a .report .now) report′) (counted .groups-in .ensures)
+    (hands-over (a .plan) (a .kinds) (a .capture .now) (groups q) (a .log .now) log′ (a .times .now) times′ (a .report .now)
+    report′ t (walked .salvage-groups .ensures) (wrote .salvage-groups2 .ensures) j (in-built q j) (copied .copy .ensures) z)
 
 pub salvage-in-spec : {M : Type 1} → statement M
 salvage-in-spec =
