@@ -11,7 +11,7 @@ _vin_options() { # COMMAND
     list) echo "--json --csv --decode -o" ;;
     items | pack | info | pick | join) echo "-o" ;;
     shift) echo "--by -o --times --times-out" ;;
-    replay) echo "--capacity --least --events --every --slots --plan -o" ;;
+    replay) echo "--capacity --least --events --every --slots --plan -o --strict" ;;
     esac
 }
 

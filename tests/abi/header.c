@@ -259,28 +259,6 @@ static void streamed(void)
     CHECK(vin_plan_stream_open(&plan, state, sizeof state).number == VIN_PLAN && state[7] == 0);
 }
 
-/* The limits of a frame's length, for each number of tracks: both are legal in all three functions, one less and one more in none. */
-static void lengths(void)
-{
-    static const uint32_t words[4] = {127, 128, 512, 513};
-    static const uint8_t log[] = {0x32, 0x5F, 0x77, 0x80};
-    static uint8_t capture[VIN_GROUP_BYTES(513, 4)], back[4];
-    for (uint32_t tracks = 1; tracks <= 4; tracks++)
-        for (int n = 0; n < 4; n++) {
-            vin_plan plan = VIN_PLAN_INIT(words[n], tracks);
-            int legal = n == 1 || n == 2;
-            size_t bytes = VIN_GROUP_BYTES(words[n], tracks);
-            vin_answer a;
-            plan.kinds[2] = VIN_KIND_1553;
-            a = vin_plan_compose(&plan, log, sizeof log, NULL, 0, capture, bytes);
-            CHECK(legal ? a.number == VIN_DONE && a.bytes == bytes : a.number == VIN_PLAN && a.place == 0);
-            a = vin_plan_read(&plan, capture, bytes, back, sizeof back, NULL, 0);
-            CHECK(legal ? a.number == VIN_DONE && a.bytes == sizeof log : a.number == VIN_PLAN && a.place == 0);
-            a = vin_plan_read_closed(&plan, capture, bytes, back, sizeof back, NULL, 0);
-            CHECK(legal ? a.number == VIN_DONE && a.bytes == sizeof log : a.number == VIN_PLAN && a.place == 0);
-        }
-}
-
 /* The most groups that a capture can have: all their times are given where there is room, and 7 says how many are needed. */
 static void most_groups(void)
 {
@@ -359,7 +337,6 @@ int main(void)
     on_logs();
     shifted();
     replaying();
-    lengths();
     halves();
     salvaged();
     streamed();

@@ -78,7 +78,7 @@ wrong "refused 2 at 0" "unknown kind; the kinds are cmd, sta, dat, err, arn, are
 wrong "end" "the last line is: end NUMBER"
 wrong "end one" "the last line is: end NUMBER"
 printf 'dat 2 A 0001\nend 2\n' >t
-misuse "vin: t:2: end says 2 items, and there are 1" pack t -o new
+misuse "vin: t:2: end says 2 items, and there are 1; a listing that was edited goes without this line" pack t -o new
 printf 'dat 2 A 0001\nend 1\n\n# well\ndat 2 A 0002\n' >t
 misuse 'vin: t:5: "dat 2 A 0002": nothing follows the line end' pack t -o new
 printf 'dat 2 A 0001\nend 1\n\n# well\n' >t

@@ -35,6 +35,11 @@ end 1" l --capacity 8 --events e --slots 1
 : >e
 gives "l: 0 items arrived: none lost; words sent: 0, held: 0; did not arrive: 7 items" "end 0" l --capacity 8 --events e --slots 1
 noted "vin: l: 7 items arrived: 5 stored, 2 lost (2 marks tell of 2); words sent: 10, held: 3" replay l --capacity 8 --every 3 --slots 5 -o new
+# With --strict a loss is status 1, and the log is written all the same.
+cp new want
+refused "vin: l: 7 items arrived: 5 stored, 2 lost (2 marks tell of 2); words sent: 10, held: 3" replay l --capacity 8 --every 3 --slots 5 --strict -o new
+same "vin replay --strict: stored" want new
+noted "vin: l: 7 items arrived: none lost; words sent: 12, held: 5" replay l --capacity 16 --every 2 --slots 4 --strict -o new
 # The least capacity: with it nothing is lost, with one word less something is.
 for every in 1 7 20 100 403; do
     for slots in "--slots 1" "--slots 24" "--plan four-track.plan"; do

@@ -25,7 +25,8 @@ static bool take_end(const lines *at, const item *i, packing *p)
     p->ended = true;
     if (i->time == p->items)
         return true;
-    complain_line(at, "end says %llu items, and there are %zu", (unsigned long long)i->time, p->items);
+    complain_line(at, "end says %llu items, and there are %zu; a listing that was edited goes without this line",
+                  (unsigned long long)i->time, p->items);
     return false;
 }
 

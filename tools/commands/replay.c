@@ -146,8 +146,9 @@ static int say_summary(const replaying *r, const vin_replayed *a, const run *sto
     return DONE;
 }
 
-static int write_replayed(const replaying *r, uint8_t *out, const char *to)
+static int write_replayed(const replaying *r, uint8_t *out, const arguments *given)
 {
+    const char *to = given->values[OPT_OUT];
     vin_replayed a = replay_by(r, r->capacity, out);
     run stored = {out, a.bytes};
     if (a.number != VIN_DONE) {
@@ -155,7 +156,9 @@ static int write_replayed(const replaying *r, uint8_t *out, const char *to)
         return REFUSED;
     }
     int status = write_one(to ? to : "-", &stored);
-    return status == DONE ? say_summary(r, &a, &stored) : status;
+    if (status == DONE)
+        status = say_summary(r, &a, &stored);
+    return status == DONE && given->values[OPT_STRICT] && a.lost > 0 ? REFUSED : status;
 }
 
 /* A buffer that loses nothing holds at every moment what each larger one does, which then loses nothing
@@ -239,8 +242,7 @@ static int replay_log(const arguments *given, replaying *r)
     uint8_t *out = malloc(VIN_LOG_MAX);
     status = MISUSE;
     if (!out_of_memory(out) && take_events(given, r))
-        status =
-            given->values[OPT_LEAST] ? print_least(r, out) : write_replayed(r, out, given->values[OPT_OUT]);
+        status = given->values[OPT_LEAST] ? print_least(r, out) : write_replayed(r, out, given);
     drop_events(&r->events);
     free(out);
     return status;
@@ -277,12 +279,14 @@ static const option_row options[] = {
     {OPT_PLAN, INPUT, "PLAN", "a group takes as many as a group of this plan has slots for data"},
     {OPT_OUT, OUTPUT, "LOG",
      "the log of what was stored; left out, standard output, unless that is a terminal"},
+    {OPT_STRICT, FLAG, NULL, "status 1 if an item was lost"},
     {OPTIONS, FLAG, NULL, NULL},
 };
 
 const command replay_command = {
     .name = "replay",
-    .usage = "[LOG] (--capacity N | --least) (--events FILE | --every K) (--slots S | --plan PLAN) [-o LOG]",
+    .usage = "[LOG] (--capacity N | --least) (--events FILE | --every K) (--slots S | --plan PLAN) [-o LOG] "
+             "[--strict]",
     .about = "say whether a front-end buffer is large enough, and what it loses",
     .more = "\nLOG, by default standard input, arrives item by item, and groups leave. An item that does not "
             "fit\n"
