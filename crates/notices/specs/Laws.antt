@@ -8,3 +8,4 @@ pub mod Capture
 pub mod Groups
 pub mod Log
 pub mod Watch
+pub mod Quiet

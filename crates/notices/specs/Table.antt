@@ -1,7 +1,7 @@
 -- Notices that wait for their word, kept from the first word to the last: a table of 64 numbers, one for each bus and channel, each
 -- the number of its notice, one up; 0 where none waits. Beside it stands the earliest notice that a second one has shown open.
 use Prim.Native.Nat.{ℕ, _+_}
-use mathlib.Core.Bool.{Bool, true, false, cond, _||_, not}
+use mathlib.Core.Bool.{Bool, true, false, cond, _||_}
 use mathlib.Core.List.{List, [], _∷_}
 use lib.ListN.{getD, set, replicate}
 use lib.Dec.{eqb, leb}
@@ -48,10 +48,6 @@ allZero (t ∷ ts) = cond (eqb t 0) (allZero ts) false
 unfoldable pub anyNotice : List ℕ → Bool
 anyNotice [] = false
 anyNotice (w ∷ ws) = eqb (labelOf w) 4 || anyNotice ws
-
--- a row leaves the table as it is
-abbrev pub isQuiet : List ℕ → List ℕ → Bool
-isQuiet row table = cond (allZero table) (not (anyNotice row)) false
 
 abbrev pub isArinc : Kind → Bool
 isArinc Unused = false

@@ -4,11 +4,12 @@
 ghost use mathlib.Core.Path.{_≡_};
 ghost use mathlib.Core.Bool.{false};
 ghost use Prim.Native.Nat.{_+_, _<_, _^_};
-ghost use lib.ListN.{length};
+ghost use lib.ListN.{length, getD, drop};
 ghost use Rattle.format.specs.Reader.{counted};
 ghost use Rattle.format.specs.Word.{part};
 ghost use Rattle.notices.specs.Roles.{Words, isSyllable, openRow, rolesIn, roleOn};
-ghost use Rattle.notices.specs.Table.{RowNoted, RowWatched, allZero, anyNotice, earlier, earliestOf, hasArinc, isArinc, isQuiet, noted, orFirst};
+ghost use Rattle.notices.specs.Table.{RowNoted, RowWatched, allZero, anyNotice, earlier, earliestOf, hasArinc, isArinc, noted, orFirst};
+ghost use Rattle.notices.specs.Quiet.{answerIn, awaited, quietPart, quietWords};
 use format::Kind;
 
 fn is_arinc(kind: Kind) -> bool
@@ -149,15 +150,74 @@ fn any_notice(row: &[u32]) -> bool
     count != 0
 }
 
-// Whether a row leaves the table as it is, and shows nothing: nothing waits and no notice comes.
-fn is_quiet(row: &[u32], table: &[u64]) -> bool
-    requires { ⌜ (length (now row) < 2 ^ 31) × (length (now table) < 2 ^ 31) ⌝ }
-    ensures { λ r. ⌜ r ≡ isQuiet (now (row .entry)) (now (table .entry)) ⌝ }
+// The bus and label, as bus x 16 + label, of the word that answers a notice.
+fn awaited_by(parity: bool, notice: u32) -> u32
+    requires { ⌜ notice < 2 ^ 24 ⌝ }
+    ensures { λ r. ⌜ r ≡ awaited parity notice ⌝ }
+{
+    word::bus_of(parity, notice) * 16 + 9 + word::information_of(notice) / 8192 % 4 * 2
+}
+
+// How many words behind the notice at `i` its word stands, if it is one of the next eight and no word before it has the label of a notice,
+// whatever its bus; else 0.
+fn answer_after(parity: bool, row: &[u32], i: usize) -> usize
+    requires { ⌜ Words (now row) × (length (now row) < 2 ^ 31) × (i < length (now row)) ⌝ }
+    ensures { λ r. ⌜ r ≡ answerIn parity (awaited parity (getD (now (row .entry)) i 0)) 8 (drop (i + 1) (now (row .entry))) ⌝ }
+{
+    let awaited = awaited_by(parity, row[i]);
+    let mut d: usize = 1;
+    while i + d < row.len() {
+        if d == 9 {
+            return 0;
+        }
+        let next = row[i + d];
+        let next_label = word::label_of(next);
+        if next_label == 4 {
+            return 0;
+        }
+        if word::bus_of(parity, next) * 16 + next_label == awaited {
+            return d;
+        }
+        d += 1;
+    }
+    0
+}
+
+// How many words of a row, from its start, leave a table in which nothing waits as it is and show nothing: words that are no notice,
+// and notices with all up to their word, where that stands close behind.
+fn quiet_part(kinds: [Kind; 16], parity: bool, row: &[u32]) -> usize
+    requires { ⌜ Words (now row) × (length (now row) < 2 ^ 31) ⌝ }
+    ensures { λ r. ⌜ r ≡ quietPart kinds parity 0 (now (row .entry)) ⌝ }
+{
+    let mut i: usize = 0;
+    while i < row.len() {
+        let word = row[i];
+        if word::label_of(word) == 4 {
+            if is_arinc(kinds[word::bus_of(parity, word) as usize]) {
+                let further = answer_after(parity, row, i);
+                if further == 0 {
+                    return i;
+                }
+                i += further;
+            }
+        }
+        i += 1;
+    }
+    i
+}
+
+// How many words of a row, from its start, leave this table as it is and show nothing.
+fn quiet_words(kinds: [Kind; 16], parity: bool, row: &[u32], table: &[u64]) -> usize
+    requires { ⌜ Words (now row) × (length (now row) < 2 ^ 31) × (length (now table) < 2 ^ 31) ⌝ }
+    ensures { λ r. ⌜ r ≡ quietWords kinds parity (now (row .entry)) (now (table .entry)) ⌝ }
 {
     if is_clear(table) {
-        return !any_notice(row);
+        if any_notice(row) {
+            return quiet_part(kinds, parity, row);
+        }
+        return row.len();
     }
-    false
+    0
 }
 
 // A row of words, the first of them the number `from`: the table goes on, and the earliest that was shown open is handed back.
@@ -174,10 +234,9 @@ pub fn note_row(
     ensures { λ r. ⌜ RowNoted kinds parity from (now (row .entry)) found (now (table .entry)) r (now (table .exit)) ⌝ }
 {
     if arinc {
-        if is_quiet(row, table) {
-            return found;
-        }
-        return over_row(kinds, parity, row, from, table, found);
+        let quiet = quiet_words(kinds, parity, row, table);
+        let rest = from + quiet as u64;
+        return over_row(kinds, parity, &row[quiet..], rest, table, found);
     }
     found
 }
@@ -221,10 +280,8 @@ pub fn watch_row(
     ensures { λ r. ⌜ RowWatched kinds parity from (now (row .entry)) (now (table .entry)) r (now (table .exit)) ⌝ }
 {
     if arinc {
-        if is_quiet(row, table) {
-            return 0;
-        }
-        return first_shown(kinds, parity, row, from, table);
+        let quiet = quiet_words(kinds, parity, row, table);
+        return first_shown(kinds, parity, &row[quiet..], from + quiet as u64, table);
     }
     0
 }
@@ -263,8 +320,12 @@ pub fn first_open(kinds: [Kind; 16], parity: bool, words: &[u32]) -> u64
 {
     if has_arinc(kinds) {
         if any_notice(words) {
+            let quiet = quiet_part(kinds, parity, words);
+            if quiet == words.len() {
+                return 0;
+            }
             let mut table = [0u64; 64];
-            let found = over_row(kinds, parity, words, 0, &mut table, 0);
+            let found = over_row(kinds, parity, &words[quiet..], quiet as u64, &mut table, 0);
             return least_of(&table, found);
         }
     }

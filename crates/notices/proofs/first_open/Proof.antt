@@ -1,7 +1,9 @@
-use Rattle.notices.specs.Laws.Rows.{table-open}
-use mathlib.Core.Path.{_≡_, refl, ap, sym, _∙_}
-use Rattle.notices.specs.Laws.Rows.{no-arinc-open, no-notice-open, roles-low, roles-rise}
-use Rattle.notices.specs.Laws.Table.{notes-open}
+use Prim.Native.Nat.{_≤_}
+use native.Mathlib.Omega.{arith}
+use mathlib.Core.Path.{refl, sym, _∙_}
+use lib.ListN.{length}
+use Rattle.notices.specs.Laws.Quiet.{all-quiet-open, quiet-low, rest-open}
+use Rattle.notices.specs.Laws.Rows.{no-arinc-open, no-notice-open, part-length, part-rest, part-words}
 use borrow.Author.Needs.{needs}
 use Rattle.notices.proofs.first_open.Statement.{statement}
 use Rattle.notices.proofs.first_open.Tie as tie
@@ -11,6 +13,7 @@ use Rattle.notices.proofs.any_notice.Reads as any-notice-reads
 use Rattle.notices.proofs.has_arinc.Reads as has-arinc-reads
 use Rattle.notices.proofs.least_of.Reads as least-of-reads
 use Rattle.notices.proofs.over_row.Reads as over-row-reads
+use Rattle.notices.proofs.quiet_part.Reads as quiet-part-reads
 
 has-arinc-requires : tie.Need-has-arinc-requires
 has-arinc-requires c κs = search needs
@@ -18,11 +21,41 @@ has-arinc-requires c κs = search needs
 any-notice-requires : tie.Need-any-notice-requires
 any-notice-requires c κs = search needs
 
+quiet-part-requires : tie.Need-quiet-part-requires
+quiet-part-requires c κs = search needs
+
+abbrev entry : tie.After-quiet-part → tie.Start
+entry c = c .before .before .before .before .before .before
+
+here : (c : tie.After-quiet-part) → c .quiet-part .result ≤ length (entry c .args .words .now)
+here c = omega (arith, c .quiet-part .ensures, quiet-low (entry c .args .kinds) (entry c .args .parity) 0 (entry c .args .words .now))
+
+returns : tie.Need-returns
+returns c =
+    let s = entry (c .before) in
+    let q = c .before .quiet-part in
+    sym (all-quiet-open (s .args .kinds) (s .args .parity) (s .args .words .now) (s .pre .0) (q .result) (q .ensures) (c .if3 .taken))
+
+mul-over-row : tie.Need-mul-over-row
+mul-over-row c = omega (arith, here (c .before), entry (c .before) .pre .1)
+
+sub-over-row : tie.Need-sub-over-row
+sub-over-row c = here (c .before)
+
+part-over-row-start : tie.Need-part-over-row-start
+part-over-row-start c = here (c .before)
+
+part-over-row-end : tie.Need-part-over-row-end
+part-over-row-end c = search needs
+
 slice-aggregate-over-row : tie.Need-slice-aggregate-over-row
 slice-aggregate-over-row c = search needs
 
 over-row-requires : tie.Need-over-row-requires
-over-row-requires c κs = search needs
+over-row-requires c κs =
+    let s = entry (c .before .before .before) in
+    let q = c .before .before .before .quiet-part .result in
+    (part-words q (s .args .words .now) (s .pre .0), omega (arith, part-length q (s .args .words .now) (here (c .before .before .before)), s .pre .1), refl)
 
 slice-aggregate-least-of : tie.Need-slice-aggregate-least-of
 slice-aggregate-least-of c = search needs
@@ -30,16 +63,21 @@ slice-aggregate-least-of c = search needs
 least-of-requires : tie.Need-least-of-requires
 least-of-requires c κs = search needs
 
-returns : tie.Need-returns
-returns c =
-    let s = c .before .before .before .before .before .before .before .before .before .before in
-    c .least-of .ensures ∙ table-open (s .args .kinds) (s .args .parity) (s .args .words .now) (s .pre .0) _ _ (c .before .before .before .over-row .ensures)
-
 returns-2 : tie.Need-returns-2
-returns-2 c = sym (no-notice-open (c .before .before .before .before .before .args .kinds) (c .before .before .before .before .before .args .parity) 0 _ (sym (c .before .any-notice .ensures) ∙ c .if2 .left))
+returns-2 c =
+    let s = entry (c .before .before .before .before .before .before .before) in
+    let q = c .before .before .before .before .before .before .before .quiet-part in
+    let o = c .before .before .before .over-row in
+    c .least-of .ensures
+    ∙ rest-open (s .args .kinds) (s .args .parity) (s .args .words .now) (s .pre .0) (q .result) (q .ensures) _ _ (rw (part-rest (q .result) (s .args .words .now)) at (o .ensures))
 
 returns-3 : tie.Need-returns-3
-returns-3 c = sym (no-arinc-open (c .before .before .before .args .kinds) (c .before .before .before .args .parity) (sym (c .before .has-arinc .ensures) ∙ c .if1 .left) _)
+returns-3 c =
+    let a = c .before .before .before .before .before .args in
+    sym (no-notice-open (a .kinds) (a .parity) 0 (a .words .now) (sym (c .before .any-notice .ensures) ∙ c .if2 .left))
+
+returns-4 : tie.Need-returns-4
+returns-4 c = sym (no-arinc-open (c .before .before .before .args .kinds) (c .before .before .before .args .parity) (sym (c .before .has-arinc .ensures) ∙ c .if1 .left) _)
 
 pub first-open-spec : {M : Type 1} → statement M
 first-open-spec =
@@ -47,10 +85,16 @@ first-open-spec =
     (tie.spec
     has-arinc-requires
     any-notice-requires
+    quiet-part-requires
+    returns
+    mul-over-row
+    sub-over-row
+    part-over-row-start
+    part-over-row-end
     slice-aggregate-over-row
     over-row-requires
     slice-aggregate-least-of
     least-of-requires
-    returns
     returns-2
-    returns-3)
+    returns-3
+    returns-4)

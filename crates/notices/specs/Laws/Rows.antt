@@ -1,11 +1,11 @@
 -- Rows word by word, and rows that change nothing.
-use Prim.Native.Nat.{ℕ, zero, suc, _+_, _*_, _/_, _%_, _^_, _<_, _≤_}
+use Prim.Native.Nat.{ℕ, zero, suc, _+_, _*_, _/_, _%_, _^_, _-_, _<_, _≤_}
 use native.Mathlib.Omega.{arith}
 use mathlib.Core.Bool.{Bool, true, false, cond, _&&_, _||_, not}
 use mathlib.Core.Path.{_≡_, refl, ap, sym, _∙_}
 use mathlib.Core.List.{List, [], _∷_, _++_, map}
-use lib.ListN.{length, getD, set, drop, replicate}
-use lib.Seq.{drop-cons, drop-length}
+use lib.ListN.{length, getD, set, take, drop, replicate, length-drop}
+use lib.Seq.{drop-cons, drop-length, getD-drop, take-all}
 use lib.Bits.{bitOr, bitAnd, or-add-and, or-zero-l, and-le-r}
 use lib.Dec.{eqb}
 use borrow.Author.Tests.{eqb-true, ne-eqb}
@@ -18,7 +18,7 @@ use Rattle.format.specs.Laws.Reader.Counted.{drop-next, drop-none, counted-next
 use Rattle.format.specs.declared.Kind.{Kind}
 use Rattle.format.specs.declared.Kind.the-variants.{Unused, Mil1553, Arinc429}
 use Rattle.notices.specs.Roles.{Role, neither, notice, word, Row, Words, isSyllable, roleOn, roleIn, rolesIn, lacked, openRow}
-use Rattle.notices.specs.Table.{Notes, noted, notesOf, earlier, earliestOf, allZero, anyNotice, isQuiet, isArinc, hasArinc, RowNoted}
+use Rattle.notices.specs.Table.{Notes, noted, notesOf, earlier, earliestOf, allZero, anyNotice, isArinc, hasArinc, RowNoted}
 use Rattle.notices.specs.Laws.Table.{Rising, InTable, Tabled, notes-open}
 
 -- ---- one element further
@@ -33,6 +33,16 @@ module _ (ks : List Kind) (parity : Bool) (ws : List ℕ) where
   pub notes-end : (n i : ℕ) → length ws ≤ i → (s : Notes) → notesOf (rolesIn ks parity (counted n (drop i ws))) s ≡ s
   unfolding rolesIn notesOf
   notes-end n i l s = rw (counted-none n i ws l)
+
+-- the words up to the word q, and then the others
+pub notes-split : (ks : List Kind) (parity : Bool) (n q : ℕ) (ws : List ℕ) (s : Notes)
+    → notesOf (rolesIn ks parity (counted n ws)) s ≡ notesOf (rolesIn ks parity (counted (n + q) (drop q ws))) (notesOf (rolesIn ks parity (counted n (take q ws))) s)
+unfolding rolesIn notesOf counted
+notes-split ks parity n zero ws s = let z : n + 0 ≡ n = omega arith in rw z
+notes-split ks parity n (suc q) [] s = refl
+notes-split ks parity n (suc q) (w ∷ ws) s =
+    let z : n + 1 + q ≡ n + suc q = omega arith in
+    rw z at (notes-split ks parity (n + 1) q ws (noted n (roleIn ks (partOf parity w)) s))
 
 pub earliest-next : (f : ℕ) (t : List ℕ) (i : ℕ) → i < length t → earliestOf f (drop i t) ≡ earliestOf (earlier f (getD t i 0)) (drop (i + 1) t)
 unfolding earliestOf
@@ -103,12 +113,12 @@ no-arinc-open ks parity e [] = refl
 no-arinc-open ks parity e (x ∷ ss) = rw (role-none (kindOn ks (busOf parity (x .1))) parity (x .1) (not-arinc ks e (busOf parity (x .1)))) (no-arinc-open ks parity e ss)
 
 -- a word without the label of a notice is none
-abbrev NoNotice : Role → Type 0
+abbrev pub NoNotice : Role → Type 0
 NoNotice neither = Unit {0}
 NoNotice (notice j) = ⊥
 NoNotice (word j) = Unit {0}
 
-other-label : (k : Kind) (parity : Bool) (w : ℕ) → eqb (labelOf w) 4 ≡ false → NoNotice (roleOn k (partOf parity w))
+pub other-label : (k : Kind) (parity : Bool) (w : ℕ) → eqb (labelOf w) 4 ≡ false → NoNotice (roleOn k (partOf parity w))
 other-label Unused parity w e = tt
 other-label Mil1553 parity w e = tt
 other-label Arinc429 parity w e = rw e (go (isSyllable (labelOf w)))
@@ -129,7 +139,7 @@ no-notice-open ks parity n (w ∷ ws) e =
     go (word j) h ih = ih
 
 -- nothing waits
-set-zero : (t : List ℕ) (j : ℕ) → allZero t ≡ true → set t j 0 ≡ t
+pub set-zero : (t : List ℕ) (j : ℕ) → allZero t ≡ true → set t j 0 ≡ t
 unfolding allZero
 set-zero [] j z = refl
 set-zero (x ∷ t) j z = go (eqb x 0) refl z j (set-zero t)
@@ -139,19 +149,7 @@ set-zero (x ∷ t) j z = go (eqb x 0) refl z j (set-zero t)
     go true e z (suc j) ih = ap (λ (l : List ℕ). x ∷ l) (ih j z)
     go false e z j ih = clash z
 
-pub quiet-same : (ks : List Kind) (parity : Bool) (n : ℕ) (ws : List ℕ) (f : ℕ) (t : List ℕ) → allZero t ≡ true → anyNotice ws ≡ false
-    → notesOf (rolesIn ks parity (counted n ws)) (f, t) ≡ (f, t)
-unfolding rolesIn notesOf counted anyNotice
-quiet-same ks parity n [] f t z e = refl
-quiet-same ks parity n (w ∷ ws) f t z e =
-    go (roleIn ks (partOf parity w)) (other-label (kindOn ks (busOf parity w)) parity w (or-false (eqb (labelOf w) 4) (anyNotice ws) e .0)) (quiet-same ks parity (n + 1) ws f t z (or-false (eqb (labelOf w) 4) (anyNotice ws) e .1))
-  where
-    go : (x : Role) → NoNotice x → notesOf (rolesIn ks parity (counted (n + 1) ws)) (f, t) ≡ (f, t) → notesOf (rolesIn ks parity (counted (n + 1) ws)) (noted n x (f, t)) ≡ (f, t)
-    go neither h ih = ih
-    go (notice j) h ih = absurd h
-    go (word j) h ih = rw (set-zero t j z) ih
-
-earlier-none : (f : ℕ) → earlier f 0 ≡ f
+pub earlier-none : (f : ℕ) → earlier f 0 ≡ f
 unfolding earlier
 earlier-none f = go (eqb f 0) refl
   where
@@ -196,15 +194,6 @@ unfolding rolesIn counted
 roles-rise ks parity n [] = tt
 roles-rise ks parity n (w ∷ ws) = (omega arith, roles-rise ks parity (n + 1) ws)
 
--- nothing waits and no notice comes
-pub quiet-both : (ws t : List ℕ) → isQuiet ws t ≡ true → (allZero t ≡ true) × (anyNotice ws ≡ false)
-quiet-both ws t q = go (allZero t) (anyNotice ws) refl refl q
-  where
-    go : (a b : Bool) → allZero t ≡ a → anyNotice ws ≡ b → cond a (not b) false ≡ true → (allZero t ≡ true) × (anyNotice ws ≡ false)
-    go true true z e q = clash q
-    go true false z e q = (z, e)
-    go false b z e q = clash q
-
 -- ---- a word by its parts
 
 pub word-noted : (ks : List Kind) (parity : Bool) (w bus label info n : ℕ) (s s′ : Notes) → bus ≡ busOf parity w → label ≡ labelOf w → info ≡ infoOf w
@@ -224,6 +213,20 @@ pub all-words : (ws : List ℕ) → All (λ w. w < 2 ^ 24) ws → Words ws
 all-words [] nil i l = absurd (omega arith)
 all-words (w ∷ ws) (cons h t) zero l = h
 all-words (w ∷ ws) (cons h t) (suc i) l = all-words ws t i (omega arith)
+
+-- the words from the word q on, as a part of the row
+module _ (q : ℕ) (ws : List ℕ) where
+  pub part-rest : take (length ws - q) (drop q ws) ≡ drop q ws
+  part-rest = take-all (length ws - q) (drop q ws) (omega (arith, length-drop q ws))
+
+  pub part-words : Words ws → Words (take (length ws - q) (drop q ws))
+  part-words h = rw part-rest from
+    where
+      from : Words (drop q ws)
+      from i l = let n : q + i < length ws = omega (arith, length-drop q ws, l) in rw (getD-drop q ws i 0) (h (q + i) n)
+
+  pub part-length : q ≤ length ws → q + length (take (length ws - q) (drop q ws)) ≡ length ws
+  part-length l = rw part-rest (omega (arith, length-drop q ws))
 
 -- its number is one of the words'
 pub open-most : (ks : List Kind) (parity : Bool) (n : ℕ) (ws : List ℕ) → openRow (rolesIn ks parity (counted n ws)) ≤ n + length ws

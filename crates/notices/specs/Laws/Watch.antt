@@ -1,9 +1,10 @@
 -- Rows of which the first that is shown is kept.
-use Prim.Native.Nat.{ℕ, _+_, _≤_, _<_}
+use Prim.Native.Nat.{ℕ, zero, suc, _+_, _≤_, _<_}
+use native.Mathlib.Omega.{arith}
 use mathlib.Core.Bool.{Bool, true, false, cond}
 use mathlib.Core.Path.{_≡_, refl, ap, sym, _∙_}
 use mathlib.Core.List.{List, [], _∷_}
-use lib.ListN.{length, drop, getD}
+use lib.ListN.{length, take, drop, getD}
 use lib.Dec.{eqb, leb}
 use borrow.Author.Tests.{eqb-true, eqb-false}
 use Rattle.format.specs.Word.{partOf}
@@ -25,6 +26,16 @@ module _ (ks : List Kind) (parity : Bool) (ws : List ℕ) where
   pub watched-end : (n i : ℕ) → length ws ≤ i → (s : Notes) → watchedOf (rolesIn ks parity (counted n (drop i ws))) s ≡ s
   unfolding rolesIn watchedOf
   watched-end n i l s = rw (counted-none n i ws l)
+
+-- the words up to the word q, and then the others
+pub watched-split : (ks : List Kind) (parity : Bool) (n q : ℕ) (ws : List ℕ) (s : Notes)
+    → watchedOf (rolesIn ks parity (counted n ws)) s ≡ watchedOf (rolesIn ks parity (counted (n + q) (drop q ws))) (watchedOf (rolesIn ks parity (counted n (take q ws))) s)
+unfolding rolesIn watchedOf counted
+watched-split ks parity n zero ws s = let z : n + 0 ≡ n = omega arith in rw z
+watched-split ks parity n (suc q) [] s = refl
+watched-split ks parity n (suc q) (w ∷ ws) s =
+    let z : n + 1 + q ≡ n + suc q = omega arith in
+    rw z at (watched-split ks parity (n + 1) q ws (watched n (roleIn ks (partOf parity w)) s))
 
 -- ---- where none is shown, it is as if the earliest were kept
 

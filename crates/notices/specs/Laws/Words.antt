@@ -91,7 +91,7 @@ pub record Tells (ks : List Kind) (i : Item) : Type 0 where
 mil : (k : Kind) (x : Part) → k ≡ Mil1553 → roleOn k x ≡ neither
 mil k x e = rw e
 
-high-role : (k : Kind) (bus c w : ℕ) → k ≡ Arinc429 → c < 4 → roleOn k (part bus (highLabel c) w) ≡ word (bus * 4 + c)
+pub high-role : (k : Kind) (bus c w : ℕ) → k ≡ Arinc429 → c < 4 → roleOn k (part bus (highLabel c) w) ≡ word (bus * 4 + c)
 high-role k bus zero w e h = rw e
 high-role k bus (suc zero) w e h = rw e
 high-role k bus (suc (suc zero)) w e h = rw e
