@@ -1,4 +1,1 @@
-pub mod Opening
-pub mod Refused
-pub mod Groups
-pub mod Closing
+mod Opening

@@ -12,7 +12,7 @@ use Rattle.format.specs.declared.Kind.{Kind}
 use Rattle.format.specs.declared.Plan.{Plan}
 use Rattle.stream_rules.specs.Stream.{closed, fresh, working}
 use Rattle.stream_state.specs.Layout.{stateBytes}
-use Rattle.stream.specs.Calls.{Opens, opening}
+use Rattle.stream_calls.specs.Calls.{Opens, opening}
 
 module _ (p : Plan) (ks : List Kind) (b : List ℕ) {r : Answer} where
   pub opens-unread : (length b ≡ 7168 → ⊥) → r ≡ refusal 16 0 0 → Opens p ks b r b

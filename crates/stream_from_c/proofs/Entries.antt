@@ -19,7 +19,7 @@ use Rattle.stream_rules.specs.Stream.{Call, State, Working, answered, closed, c
 use Rattle.stream_rules.specs.Laws.Stream.Kept.{Fit, fits-is}
 use Rattle.stream_rules.specs.Laws.Stream.Room.{entries-enough}
 use Rattle.stream_state.specs.Layout.{isState, stateAt}
-use Rattle.stream.specs.Calls.{Feeds, Leaves, Outcome, feeding, outcomeOf, unread}
+use Rattle.stream_calls.specs.Calls.{Feeds, Leaves, Outcome, feeding, outcomeOf, unread}
 use Rattle.stream_from_c.specs.Streaming.{FeedsBytes, LeavesBytes}
 
 -- ---- at most eleven

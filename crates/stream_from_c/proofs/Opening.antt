@@ -10,7 +10,7 @@ use Rattle.format.specs.declared.Answer.{Answer}
 use Rattle.format.specs.declared.Kind.{Kind}
 use Rattle.format.specs.declared.Plan.{Plan}
 use Rattle.from_c.specs.Numbers.{kindOf, named, planFrom}
-use Rattle.stream.specs.Calls.{Opens, Outcome, opening}
+use Rattle.stream_calls.specs.Calls.{Opens, Outcome, opening}
 use Rattle.stream_from_c.specs.Streaming.{OpensFrom, notNamed, openingFrom}
 
 module _ (words tracks time crc parity label code : ℕ) (kinds b : List ℕ) where

@@ -10,7 +10,7 @@ use Rattle.format.specs.declared.Answer.{Answer}
 use Rattle.from_c.specs.Numbers.{kindOf, named, planFrom, timeBytes}
 use Rattle.stream_rules.specs.Stream.{closed}
 use Rattle.stream_state.specs.Layout.{stateBytes}
-use Rattle.stream.specs.Calls.{Outcome, Same, feeding, opening, unread}
+use Rattle.stream_calls.specs.Calls.{Outcome, Same, feeding, opening, unread}
 
 -- "A plan number that names no choice or kind is 1": "the state is then closed"
 abbrev pub notNamed : List ℕ → Outcome

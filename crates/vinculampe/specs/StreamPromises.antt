@@ -24,7 +24,7 @@ use Rattle.stream_rules.specs.Stream.{Call, Flow, State, Streamed, Working, clo
 use Rattle.stream_rules.specs.Laws.Stream.Pieces.{Cut, NoneRefused, captureOf, feedAll, fedWith, whole}
 use Rattle.stream_state.specs.Layout.{isState, stateAt, stateBytes}
 use Rattle.stream_state.specs.Laws.Bytes.{bytes-state-back, passed, state-bytes-back, state-bytes-pass}
-use Rattle.stream.specs.Calls.{Outcome, closing, feeding, opening, outcomeOf, unread}
+use Rattle.stream_calls.specs.Calls.{Outcome, closing, feeding, opening, outcomeOf, unread}
 use Rattle.stream_from_c.specs.Streaming.{notNamed, openingFrom}
 
 -- ---- calls of one program

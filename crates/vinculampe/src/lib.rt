@@ -40,9 +40,9 @@ use read_from_c::read_from;
 pub use salvage::salvage;
 pub use split_items::read_items;
 pub use split_words::read_words;
-pub use stream::close;
 pub use stream::feed;
 pub use stream::open;
+pub use stream_close::close;
 
 // What a plan without its last two lines means: the functions without `full` take no label and no code.
 const CRC_LABEL: u32 = 3;

@@ -1,9 +1,9 @@
 // The entry points from C of a capture as it arrives (document 02, K4): an opening, a feeding and a closing call on 7,168 lent bytes.
 
-ghost use Rattle.stream.specs.Calls.{Closes};
+ghost use Rattle.stream_calls.specs.Calls.{Closes};
 ghost use Rattle.stream_from_c.specs.Streaming.{FeedsBytes, OpensFrom};
 use format::Answer;
-use stream::close;
+use stream_close::close;
 use stream_from_c::feed_from;
 use stream_from_c::open_from;
 

@@ -7,17 +7,11 @@ use Rattle.stream_state.specs.AtWork.{AtWork}
 use Rattle.stream_state.specs.Stand.{loadedOf}
 use Rattle.stream_state.specs.declared.Loaded.{Loaded}
 use Rattle.stream_state.proofs.AtWork.{loaded-work}
-use Rattle.stream.specs.Calls.{within}
-use Rattle.stream.proofs.Refused.{limits, not-within, repeated, unread-leaves}
+use Rattle.stream_calls.specs.Calls.{within}
+use Rattle.stream_calls.proofs.Refused.{limits, not-within, repeated, unread-leaves}
 use borrow.Author.Needs.{needs}
 use Rattle.stream.proofs.feed.Statement.{statement}
 use Rattle.stream.proofs.feed.Tie as tie
-use Rattle.stream.proofs.feed.Reads as reads
-use Rattle.stream.proofs.feed.Lts as lts
-use Rattle.capture_parts.proofs.refusal.Reads as refusal-reads
-use Rattle.stream.proofs.feed_working.Reads as feed-working-reads
-use Rattle.stream.proofs.within.Reads as within-reads
-use Rattle.stream_state.proofs.load.Reads as load-reads
 
 -- ---- the places
 

@@ -5,18 +5,10 @@ use lib.ListN.{length}
 use Rattle.format.specs.Plan.{timesNeeded}
 use Rattle.format.specs.Laws.Limits.{group-most}
 use Rattle.stream_rules.specs.Stream.{groupSize, mostBytes}
-use Rattle.stream.proofs.Refused.{crossed, fed-bytes, piece-kept, piece-waits, short-entries, unread-leaves}
+use Rattle.stream_calls.proofs.Refused.{crossed, fed-bytes, piece-kept, piece-waits, short-entries, unread-leaves}
 use borrow.Author.Needs.{needs}
 use Rattle.stream.proofs.feed_working.Statement.{statement}
 use Rattle.stream.proofs.feed_working.Tie as tie
-use Rattle.stream.proofs.feed_working.Reads as reads
-use Rattle.stream.proofs.feed_working.Lts as lts
-use Rattle.capture_parts.proofs.groups_in.Reads as groups-in-reads
-use Rattle.capture_parts.proofs.refusal.Reads as refusal-reads
-use Rattle.capture_parts.proofs.times_of.Reads as times-of-reads
-use Rattle.plan.proofs.group_words.Reads as group-words-reads
-use Rattle.stream.proofs.feed_groups.Reads as feed-groups-reads
-use Rattle.stream_state.proofs.keep.Reads as keep-reads
 
 -- ---- the places
 

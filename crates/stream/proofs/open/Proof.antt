@@ -5,12 +5,6 @@ use Rattle.stream.proofs.Opening.{opens-closed, opens-unread, opens-wor
 use borrow.Author.Needs.{needs}
 use Rattle.stream.proofs.open.Statement.{statement}
 use Rattle.stream.proofs.open.Tie as tie
-use Rattle.stream.proofs.open.Reads as reads
-use Rattle.stream.proofs.open.Lts as lts
-use Rattle.capture_parts.proofs.refusal.Reads as refusal-reads
-use Rattle.plan.proofs.legal.Reads as legal-reads
-use Rattle.stream_state.proofs.store_closed.Reads as store-closed-reads
-use Rattle.stream_state.proofs.store_open.Reads as store-open-reads
 
 refusal-requires : tie.Need-refusal-requires
 refusal-requires c κs = search needs

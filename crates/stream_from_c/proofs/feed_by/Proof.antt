@@ -6,7 +6,7 @@ use lib.ListN.{length, drop, length-append, take}
 use lib.Seq.{length-take-le}
 use Rattle.format.specs.declared.Answer.{Answer}
 use Rattle.read_from_c.proofs.Rooms.{least-both}
-use Rattle.stream.specs.Calls.{Outcome, feeding}
+use Rattle.stream_calls.specs.Calls.{Outcome, feeding}
 use Rattle.stream_from_c.proofs.Entries.{least-same, leaves-bytes, times-few, told-times}
 use borrow.Author.Needs.{needs}
 use Rattle.stream_from_c.proofs.feed_by.Statement.{statement}
