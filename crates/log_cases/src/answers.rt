@@ -2,7 +2,7 @@
 
 use crate::digest::digest_of;
 use crate::fields::number;
-use crate::runs::part;
+use crate::runs::no_bytes;
 use crate::runs::run;
 use format::Answer;
 
@@ -56,9 +56,8 @@ pub(crate) fn begins(out: &[u8], made: &[u8]) -> bool {
 
 // Whether so many bytes were written, and these.
 pub(crate) fn is_made(bytes: u64, out: &[u8], asked: &[u8]) -> bool {
-    let mut made = [0; 40000];
-    let size = run(asked, 3, &mut made);
-    let end = part(&made, size);
+    let mut made = no_bytes();
+    let end = run(asked, 3, &mut made);
     bytes == end as u64 && begins(out, &made[..end])
 }
 

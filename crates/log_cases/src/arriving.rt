@@ -10,7 +10,9 @@ use crate::digest::digest_of;
 use crate::fields::number;
 use crate::fields::size;
 use crate::plans::numbers;
+use crate::runs::no_bytes;
 use crate::runs::part;
+use crate::runs::room;
 use crate::runs::run;
 use crate::words::say_times;
 use format::Answer;
@@ -45,8 +47,7 @@ fn both(first: u64, second: u64) -> u64 {
 
 fn open_line(line: &[u8], state: &mut [u8]) -> Answer {
     let mut kinds = [0; 32];
-    let kinds_size = run(line, 8, &mut kinds);
-    let kinds_end = part(&kinds, kinds_size);
+    let kinds_end = run(line, 8, &mut kinds);
     let p = numbers(line);
     vinculampe::vin_stream_open(
         p.words,
@@ -195,12 +196,11 @@ fn cut_run(
 }
 
 pub(crate) fn cut_line(line: &[u8], asked: &[u8]) {
-    let mut capture = [0; 40000];
-    let mut log = [0xA5u8; 40000];
+    let mut capture = no_bytes();
+    let mut log = room();
     let mut times = [0xA5u8; 1024];
     let mut state = [0u8; 7168];
-    let capture_size = run(line, 9, &mut capture);
-    let capture_end = part(&capture, capture_size);
+    let capture_end = run(line, 9, &mut capture);
     cut_run(
         line,
         asked,
@@ -225,12 +225,10 @@ fn add_run(asked: &[u8], state: &mut [u8], piece: &[u8], log: &mut [u8], times: 
 pub(crate) fn add_line(line: &[u8], asked: &[u8]) {
     let mut state = [0; 8000];
     let mut piece = [0; 8000];
-    let mut log = [0xA5u8; 40000];
+    let mut log = room();
     let mut times = [0xA5u8; 1024];
-    let state_size = run(line, 1, &mut state);
-    let state_end = part(&state, state_size);
-    let piece_size = run(line, 2, &mut piece);
-    let piece_end = part(&piece, piece_size);
+    let state_end = run(line, 1, &mut state);
+    let piece_end = run(line, 2, &mut piece);
     let log_end = part(&log, size(line, 3));
     let times_end = part(&times, size(line, 4));
     add_run(
@@ -252,9 +250,8 @@ fn end_run(asked: &[u8], state: &mut [u8], log: &mut [u8]) {
 
 pub(crate) fn end_line(line: &[u8], asked: &[u8]) {
     let mut state = [0; 8000];
-    let mut log = [0xA5u8; 40000];
-    let state_size = run(line, 1, &mut state);
-    let state_end = part(&state, state_size);
+    let mut log = room();
+    let state_end = run(line, 1, &mut state);
     let log_end = part(&log, size(line, 2));
     end_run(asked, &mut state[..state_end], &mut log[..log_end]);
 }

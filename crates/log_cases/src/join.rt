@@ -2,7 +2,9 @@
 
 use crate::answers::say_made;
 use crate::fields::size;
+use crate::runs::no_bytes;
 use crate::runs::part;
+use crate::runs::room;
 use crate::runs::run;
 
 fn join_run(asked: &[u8], first: &[u8], second: &[u8], out: &mut [u8]) {
@@ -11,13 +13,11 @@ fn join_run(asked: &[u8], first: &[u8], second: &[u8], out: &mut [u8]) {
 }
 
 pub(crate) fn join_line(line: &[u8], asked: &[u8]) {
-    let mut first = [0; 40000];
-    let mut second = [0; 40000];
-    let mut out = [0xA5u8; 40000];
-    let first_size = run(line, 1, &mut first);
-    let second_size = run(line, 2, &mut second);
-    let first_end = part(&first, first_size);
-    let second_end = part(&second, second_size);
+    let mut first = no_bytes();
+    let mut second = no_bytes();
+    let mut out = room();
+    let first_end = run(line, 1, &mut first);
+    let second_end = run(line, 2, &mut second);
     let out_end = part(&out, size(line, 3));
     join_run(
         asked,

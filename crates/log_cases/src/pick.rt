@@ -3,7 +3,9 @@
 use crate::answers::say_made;
 use crate::fields::number;
 use crate::fields::size;
+use crate::runs::no_bytes;
 use crate::runs::part;
+use crate::runs::room;
 use crate::runs::run;
 
 fn set(line: &[u8]) -> u16 {
@@ -16,10 +18,9 @@ fn pick_run(line: &[u8], asked: &[u8], log: &[u8], out: &mut [u8]) {
 }
 
 pub(crate) fn pick_line(line: &[u8], asked: &[u8]) {
-    let mut log = [0; 40000];
-    let mut out = [0xA5u8; 40000];
-    let log_size = run(line, 2, &mut log);
-    let log_end = part(&log, log_size);
+    let mut log = no_bytes();
+    let mut out = room();
+    let log_end = run(line, 2, &mut log);
     let out_end = part(&out, size(line, 3));
     pick_run(line, asked, &log[..log_end], &mut out[..out_end]);
 }

@@ -7,7 +7,9 @@ use crate::digest::digest_of;
 use crate::fields::number;
 use crate::fields::size;
 use crate::fields::small;
+use crate::runs::no_bytes;
 use crate::runs::part;
+use crate::runs::room;
 use crate::runs::run;
 
 // "words sent, items lost, words held"
@@ -68,13 +70,11 @@ fn replay_run(line: &[u8], asked: &[u8], log: &[u8], events: &[u8], out: &mut [u
 }
 
 pub(crate) fn replay_line(line: &[u8], asked: &[u8]) {
-    let mut log = [0; 40000];
+    let mut log = no_bytes();
     let mut events = [0; 65600];
-    let mut out = [0xA5u8; 40000];
-    let log_size = run(line, 1, &mut log);
-    let events_size = run(line, 2, &mut events);
-    let log_end = part(&log, log_size);
-    let events_end = part(&events, events_size);
+    let mut out = room();
+    let log_end = run(line, 1, &mut log);
+    let events_end = run(line, 2, &mut events);
     let out_end = part(&out, size(line, 5));
     replay_run(
         line,

@@ -7,6 +7,16 @@ use crate::fields::digit;
 use crate::fields::digits;
 use crate::fields::field;
 
+// Bytes for a run of a line.
+pub(crate) fn no_bytes() -> [u8; 40000] {
+    [0; 40000]
+}
+
+// Bytes to be lent for what is made: none of them is 0.
+pub(crate) fn room() -> [u8; 40000] {
+    [0xA5; 40000]
+}
+
 // So many bytes, or all if there are fewer.
 pub(crate) fn part(bytes: &[u8], size: usize) -> usize
     ensures { λ r. ⌜ Counts r (now (bytes .entry)) ⌝ }
@@ -109,8 +119,8 @@ fn next(line: &[u8], at: usize) -> usize
     at + 1
 }
 
-// The run behind so many spaces; returns its length.
-pub(crate) fn run(line: &[u8], spaces: usize, room: &mut [u8]) -> usize {
+// The run behind so many spaces; returns its length, also where the room is shorter.
+fn run_length(line: &[u8], spaces: usize, room: &mut [u8]) -> usize {
     let mut at = field(line, spaces);
     let mut half = 0;
     let mut first = 0;
@@ -125,4 +135,12 @@ pub(crate) fn run(line: &[u8], spaces: usize, room: &mut [u8]) -> usize {
         at = next(line, at);
     }
     half / 2
+}
+
+// The run behind so many spaces; returns how many of its bytes the room has.
+pub(crate) fn run(line: &[u8], spaces: usize, room: &mut [u8]) -> usize
+    ensures { λ r. ⌜ Counts r (now (room .exit)) ⌝ }
+{
+    let length = run_length(line, spaces, room);
+    part(room, length)
 }

@@ -10,7 +10,9 @@ use crate::digest::digest_of;
 use crate::fields::number;
 use crate::fields::size;
 use crate::plans::numbers;
+use crate::runs::no_bytes;
 use crate::runs::part;
+use crate::runs::room;
 use crate::runs::run;
 use crate::words::put_four;
 use crate::words::say_row;
@@ -84,8 +86,7 @@ fn salvage_run(
     report: &mut [u64],
 ) {
     let mut kinds = [0; 32];
-    let kinds_size = run(line, 8, &mut kinds);
-    let kinds_end = part(&kinds, kinds_size);
+    let kinds_end = run(line, 8, &mut kinds);
     let p = numbers(line);
     let s = vinculampe::vin_salvage(
         p.words,
@@ -109,12 +110,11 @@ fn salvage_run(
 }
 
 pub(crate) fn salvage_line(line: &[u8], asked: &[u8]) {
-    let mut capture = [0; 40000];
-    let mut log = [0xA5u8; 40000];
+    let mut capture = no_bytes();
+    let mut log = room();
     let mut times = [0xA5u8; 1024];
     let mut report = [0xA5A5A5A5A5A5A5A5u64; 128];
-    let capture_size = run(line, 9, &mut capture);
-    let capture_end = part(&capture, capture_size);
+    let capture_end = run(line, 9, &mut capture);
     let log_end = part(&log, size(line, 10));
     let times_end = part(&times, size(line, 11));
     let report_end = entries_part(&report, size(line, 12));

@@ -9,7 +9,9 @@ use crate::fields::digits;
 use crate::fields::field;
 use crate::fields::number;
 use crate::fields::size;
+use crate::runs::no_bytes;
 use crate::runs::part;
+use crate::runs::room;
 use crate::runs::run;
 
 fn forward(value: u64) -> i64 {
@@ -39,8 +41,7 @@ fn signed_at(line: &[u8], at: usize) -> i64 {
 // Whether the row holds what is asked for, and no byte more.
 fn is_row(times: &[u8], asked: &[u8]) -> bool {
     let mut row = [0; 1024];
-    let size = run(asked, 5, &mut row);
-    let end = part(&row, size);
+    let end = run(asked, 5, &mut row);
     times.len() == end && begins(times, &row[..end])
 }
 
@@ -58,13 +59,11 @@ fn shift_run(line: &[u8], asked: &[u8], log: &[u8], times: &mut [u8], out: &mut 
 }
 
 pub(crate) fn shift_line(line: &[u8], asked: &[u8]) {
-    let mut log = [0; 40000];
+    let mut log = no_bytes();
     let mut times = [0; 1024];
-    let mut out = [0xA5u8; 40000];
-    let log_size = run(line, 2, &mut log);
-    let times_size = run(line, 3, &mut times);
-    let log_end = part(&log, log_size);
-    let times_end = part(&times, times_size);
+    let mut out = room();
+    let log_end = run(line, 2, &mut log);
+    let times_end = run(line, 3, &mut times);
     let out_end = part(&out, size(line, 4));
     shift_run(
         line,

@@ -3,6 +3,7 @@
 use crate::answers::say_found;
 use crate::fields::size;
 use crate::plans::numbers;
+use crate::runs::no_bytes;
 use crate::runs::part;
 use crate::runs::run;
 use crate::words::say_times;
@@ -11,7 +12,7 @@ use crate::words::words_part;
 use format::Answer;
 
 fn slots_words(asked: &[u8], a: Answer, words: &[u32]) {
-    let mut bytes = [0; 40000];
+    let mut bytes = no_bytes();
     let end = spread(words, &mut bytes);
     let made = part(&bytes, end);
     say_found(b"slots", a, a.bytes % 65536 * 4, &bytes[..made], asked);
@@ -19,8 +20,7 @@ fn slots_words(asked: &[u8], a: Answer, words: &[u32]) {
 
 fn slots_run(line: &[u8], asked: &[u8], capture: &[u8], words: &mut [u32], times: &mut [u8]) {
     let mut kinds = [0; 32];
-    let kinds_size = run(line, 8, &mut kinds);
-    let kinds_end = part(&kinds, kinds_size);
+    let kinds_end = run(line, 8, &mut kinds);
     let p = numbers(line);
     let a = vinculampe::vin_read_words(
         p.words,
@@ -41,11 +41,10 @@ fn slots_run(line: &[u8], asked: &[u8], capture: &[u8], words: &mut [u32], times
 }
 
 pub(crate) fn slots_line(line: &[u8], asked: &[u8]) {
-    let mut capture = [0; 40000];
+    let mut capture = no_bytes();
     let mut words = [0xA5A5A5A5u32; 10000];
     let mut times = [0xA5u8; 1024];
-    let capture_size = run(line, 9, &mut capture);
-    let capture_end = part(&capture, capture_size);
+    let capture_end = run(line, 9, &mut capture);
     let words_end = words_part(&words, size(line, 10));
     let times_end = part(&times, size(line, 11));
     slots_run(

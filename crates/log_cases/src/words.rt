@@ -7,7 +7,6 @@ use crate::answers::say_number;
 use crate::answers::say_unless;
 use crate::digest::digest_of;
 use crate::fields::number;
-use crate::runs::part;
 use crate::runs::run;
 
 // So many words, or all if there are fewer.
@@ -78,8 +77,7 @@ pub(crate) fn say_row(entries: u64, row: &[u8], asked: &[u8], field: usize)
     requires { ⌜ field ≤ 7 ⌝ }
 {
     let mut wanted = [0; 1024];
-    let size = run(asked, field + 1, &mut wanted);
-    let end = part(&wanted, size);
+    let end = run(asked, field + 1, &mut wanted);
     say_number(digest_of(row));
     say_unless(entries == number(asked, field) && begins(row, &wanted[..end]));
 }

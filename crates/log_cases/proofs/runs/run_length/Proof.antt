@@ -2,8 +2,8 @@ use mathlib.Core.Path.{_≡_}
 use Prim.Native.Nat.{_-_}
 use lib.ListN.{length}
 use borrow.Author.Needs.{needs}
-use Rattle.log_cases.proofs.runs.run.Statement.{statement}
-use Rattle.log_cases.proofs.runs.run.Tie as tie
+use Rattle.log_cases.proofs.runs.run_length.Statement.{statement}
+use Rattle.log_cases.proofs.runs.run_length.Tie as tie
 
 abbrev Inv-loop : tie.InvT-loop
 Inv-loop line spaces room₀ at₀ half₀ first₀ room at half first = length room ≡ length room₀
@@ -47,8 +47,8 @@ same-length-2 c = search needs
 returns-2 : tie.Need-returns-2 Inv-loop μ-loop
 returns-2 c = search needs
 
-pub run-spec : {M : Type 1} → statement M
-run-spec =
+pub run-length-spec : {M : Type 1} → statement M
+run-length-spec =
     tie.close
     (tie.spec
     Inv-loop
