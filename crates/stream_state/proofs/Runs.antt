@@ -6,13 +6,13 @@ use mathlib.Core.Path.{_≡_, refl, sym, ap, _∙_}
 use mathlib.Core.List.{List, [], _∷_}
 use lib.Bits.{bitOr}
 use lib.Dec.{eqb}
-use lib.ListN.{length, take, drop, getD, length-drop}
-use lib.Seq.{drop-cons, drop-drop, take-all}
+use lib.ListN.{length, take, drop, getD}
+use lib.Seq.{drop-cons, drop-drop}
 use native.Mathlib.Numerals.{add-one}
 use borrow.Author.Tests.{eq-eqb, ne-eqb, le-leb, lt-leb}
 use Rattle.format.specs.Lists.{list}
 use Rattle.from_c.specs.Numbers.{areKinds}
-use Rattle.notices.specs.Laws.Rows.{or-zero}
+use Rattle.notices.specs.Laws.Rows.{or-zero, part-rest}
 use Rattle.stream_state.specs.Parts.{areZeros}
 
 -- what is still to be looked at
@@ -79,10 +79,6 @@ seen-four {s} {t} {u} {v} {a} {b} {c} {d} {i} x y z w h k m n =
     or-zero (bitOr a b) (bitOr c d)
     ∙ rw (or-zero a b, or-zero c d, seen-all x h, seen-all y (omega (arith, h, k)), seen-all z (omega (arith, h, m)), seen-all w (omega (arith, h, n))) refl
 
--- the part from n on
-pub from-on : (n : ℕ) (s : List ℕ) → take (length s - n) (drop n s) ≡ drop n s
-from-on n s = take-all (length s - n) (drop n s) (rw (length-drop n s) (omega arith))
-
 -- ---- in parts
 
 zeros-cut : (n : ℕ) (l : List ℕ) → areZeros l ≡ (areZeros (take n l) && areZeros (drop n l))
@@ -127,7 +123,7 @@ module _ (n : ℕ) (l : List ℕ) where
       let b : 2 * n - n ≡ n = omega arith in
       let c : 3 * n - 2 * n ≡ n = omega arith in
       let d : 4 * n - 3 * n ≡ n = omega arith in
-      rw (a, b, c, d, from-on (4 * n) l) (zeros-parted n l)
+      rw (a, b, c, d, part-rest (4 * n) l) (zeros-parted n l)
 
   pub rest-not : areZeros (take (length l - 4 * n) (drop (4 * n) l)) ≡ false → false ≡ areZeros l
   rest-not e = sym (lent-parts ∙ rw e (and-none four))
@@ -140,4 +136,4 @@ pub front-not : (n : ℕ) (l : List ℕ) → areZeros (take (n - 0) l) ≡ false
 front-not n l e = let a : n - 0 ≡ n = omega arith in sym (zeros-cut n l ∙ rw (rw a at e) refl)
 
 pub front-zero : (n : ℕ) (l : List ℕ) → areZeros (take (n - 0) l) ≡ true → areZeros (take (length l - n) (drop n l)) ≡ areZeros l
-front-zero n l e = let a : n - 0 ≡ n = omega arith in ap areZeros (from-on n l) ∙ sym (zeros-cut n l ∙ rw (rw a at e) refl)
+front-zero n l e = let a : n - 0 ≡ n = omega arith in ap areZeros (part-rest n l) ∙ sym (zeros-cut n l ∙ rw (rw a at e) refl)

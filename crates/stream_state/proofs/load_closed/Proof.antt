@@ -1,6 +1,6 @@
 use mathlib.Core.Path.{_≡_, refl, sym, ap, _∙_}
 use mathlib.Core.Bool.{true}
-use Rattle.stream_state.proofs.Runs.{from-on}
+use Rattle.notices.specs.Laws.Rows.{part-rest}
 use Rattle.stream_rules.specs.Stream.{closed}
 use Rattle.stream_state.specs.Laws.Ended.{Bare, bare-is, is-bare, state-closed}
 use Rattle.stream_state.specs.Layout.{isState}
@@ -57,7 +57,7 @@ ended-requires-2 c κs = search needs
 returns-2 : tie.Need-returns-2
 returns-2 c = let s = c .before .before .before .before .before .before .before in let b = s .args .state .now in
     c .ended2 .ensures
-    ∙ sym (misfits b (areZeros (drop 808 b)) (λ e. bare s e .rest) (ap areZeros (sym (from-on 808 b)) ∙ sym (c .before .before .bytes-zero .ensures) ∙ not-true _ (c .before .if2 .taken)))
+    ∙ sym (misfits b (areZeros (drop 808 b)) (λ e. bare s e .rest) (ap areZeros (sym (part-rest 808 b)) ∙ sym (c .before .before .bytes-zero .ensures) ∙ not-true _ (c .before .if2 .taken)))
 
 ended-requires-3 : tie.Need-ended-requires-3
 ended-requires-3 c κs = search needs
@@ -68,7 +68,7 @@ returns-3 c = let s = c .before .before .before .before .before .before .before 
     ∙ sym (loads b closed
     (bare-is b (all-bytes b (λ i. omega (arith, c .before .before .before .before .before .before .shared-slice-known .given i))) (s .pre .0) (s .pre .1) (s .pre .2) (record {
       front = sym (c .before .before .before .before .before .numbers-zero .ensures) ∙ not-false _ (c .before .before .before .before .if1 .left);
-      rest = ap areZeros (sym (from-on 808 b)) ∙ sym (c .before .before .bytes-zero .ensures) ∙ not-false _ (c .before .if2 .left);
+      rest = ap areZeros (sym (part-rest 808 b)) ∙ sym (c .before .before .bytes-zero .ensures) ∙ not-false _ (c .before .if2 .left);
     })) (state-closed b (s .pre .1) (s .pre .2)))
 
 pub load-closed-spec : {M : Type 1} → statement M

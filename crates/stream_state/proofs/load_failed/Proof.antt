@@ -14,7 +14,7 @@ use Rattle.stream_state.specs.Parts.{areZeros}
 use Rattle.stream_state.specs.Layout.{isState, numberAt}
 use Rattle.stream_state.proofs.Loads.{loads, misfits, same-stopped}
 use Rattle.stream_state.proofs.Fault.{same-fault}
-use Rattle.stream_state.proofs.Runs.{from-on}
+use Rattle.notices.specs.Laws.Rows.{part-rest}
 use borrow.Author.Needs.{needs}
 use Rattle.stream_state.proofs.load_failed.Statement.{statement}
 use Rattle.stream_state.proofs.load_failed.Tie as tie
@@ -96,7 +96,7 @@ ended-requires-4 c κs = search needs
 returns-4 : tie.Need-returns-4
 returns-4 c = let s = c .before .before .before .before .before .before .before .before .before .before .before .before .before .before in let b = s .args .state .now in
     c .ended4 .ensures
-    ∙ sym (misfits b (areZeros (drop 808 b)) (λ e. faulty s e .rest) (ap areZeros (sym (from-on 808 b)) ∙ sym (c .before .before .bytes-zero .ensures) ∙ not-true _ (c .before .if4 .taken)))
+    ∙ sym (misfits b (areZeros (drop 808 b)) (λ e. faulty s e .rest) (ap areZeros (sym (part-rest 808 b)) ∙ sym (c .before .before .bytes-zero .ensures) ∙ not-true _ (c .before .if4 .taken)))
 
 cast-ended : tie.Need-cast-ended
 cast-ended c = let t = c .before .before .before .before .before .before .before in
@@ -121,7 +121,7 @@ returns-5 c = let third = c .before .before .before .before in
       fit = sym (tested t) ∙ not-false _ (first .if1 .left);
       before = sym (second .before .numbers-zero .ensures) ∙ not-false _ (second .if2 .left);
       after = sym (third .before .numbers-zero2 .ensures) ∙ not-false _ (third .if3 .left);
-      rest = ap areZeros (sym (from-on 808 b)) ∙ sym (c .before .before .bytes-zero .ensures) ∙ not-false _ (c .before .if4 .left);
+      rest = ap areZeros (sym (part-rest 808 b)) ∙ sym (c .before .before .bytes-zero .ensures) ∙ not-false _ (c .before .if4 .left);
     })) (state-failed b (s .pre .1)))
 
 pub load-failed-spec : {M : Type 1} → statement M

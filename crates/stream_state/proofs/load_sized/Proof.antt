@@ -12,7 +12,7 @@ use Rattle.stream_rules.specs.Stream.{placeFits, waitsFit}
 use Rattle.stream_state.specs.Layout.{numberAt}
 use Rattle.stream_state.specs.Parts.{areZeros, bitsFit, kindsAt}
 use Rattle.stream_state.proofs.Sizes.{bits-few, sized-few}
-use Rattle.stream_state.proofs.Runs.{from-on}
+use Rattle.notices.specs.Laws.Rows.{part-rest}
 use Rattle.stream_state.proofs.Parts.{all-good, bad-bits, bad-fault, bad-gap, bad-held, bad-since, bad-tail, bad-waits}
 use borrow.Author.Needs.{needs}
 use Rattle.stream_state.proofs.load_sized.Statement.{statement}
@@ -98,7 +98,7 @@ gap-good c = sym (c .before .bytes-zero .ensures) ∙ not-false _ (c .if6 .left)
 -- the bytes from there on, as they were lent
 tail-is : (c : tie.After-bytes-zero2) → let a = start (seventh (c .before .before)) .args in c .bytes-zero2 .result ≡ areZeros (drop (1024 + a .waiting) (a .state .now))
 tail-is c = let a = start (seventh (c .before .before)) .args in
-    c .bytes-zero2 .ensures ∙ ap areZeros (from-on (1024 + a .waiting) (a .state .now))
+    c .bytes-zero2 .ensures ∙ ap areZeros (part-rest (1024 + a .waiting) (a .state .now))
 
 time-at-requires : tie.Need-time-at-requires
 time-at-requires c κs = search needs
