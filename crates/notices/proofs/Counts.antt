@@ -3,7 +3,7 @@ use Prim.Native.Nat.{ℕ, zero, suc, _+_, _≤_}
 use native.Mathlib.Omega.{arith}
 use mathlib.Core.Bool.{Bool, true, false, cond, _&&_, _||_, not}
 use mathlib.Core.Path.{_≡_, refl, ap, sym, _∙_}
-use lib.Bits.{bitOr}
+use lib.Bits.{bitAnd, bitOr}
 use lib.Dec.{eqb}
 use mir.Val.{boolByte}
 use borrow.Author.Tests.{ne-eqb}
@@ -12,6 +12,12 @@ use Rattle.notices.specs.Laws.Rows.{or-zero}
 pub count-low : (t : Bool) (n i : ℕ) → n ≤ i → n + boolByte t ≤ i + 1
 count-low true n i h = omega arith
 count-low false n i h = omega arith
+
+-- two tests at once
+pub both-hold : (t u : Bool) → bitAnd (boolByte t) (boolByte u) ≡ boolByte (t && u)
+both-hold true true = refl
+both-hold true false = refl
+both-hold false u = refl
 
 past : (m : ℕ) → (m ≡ 0 → ⊥) → (r : Bool) → (not (eqb m 0) || r) ≡ true
 past m d r = rw (ne-eqb m 0 d)

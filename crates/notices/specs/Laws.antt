@@ -4,8 +4,10 @@ pub mod Table
 pub mod Rows
 pub mod Items
 pub mod Words
+pub mod Bits
 pub mod Capture
 pub mod Groups
 pub mod Log
 pub mod Watch
 pub mod Quiet
+pub mod Marks

@@ -2,4 +2,5 @@
 pub mod Roles
 pub mod Table
 pub mod Quiet
+pub mod Marks
 pub mod Laws

@@ -3,13 +3,15 @@
 // count words in dealt order, so the least is the earliest.
 ghost use mathlib.Core.Path.{_≡_};
 ghost use mathlib.Core.Bool.{false};
-ghost use Prim.Native.Nat.{_+_, _<_, _^_};
+ghost use Prim.Native.Nat.{_+_, _%_, _<_, _^_};
 ghost use lib.ListN.{length, getD, drop};
 ghost use Rattle.format.specs.Reader.{counted};
+ghost use Rattle.format.specs.Lawful.{buses};
 ghost use Rattle.format.specs.Word.{part};
 ghost use Rattle.notices.specs.Roles.{Words, isSyllable, openRow, rolesIn, roleOn};
 ghost use Rattle.notices.specs.Table.{RowNoted, RowWatched, allZero, anyNotice, earlier, earliestOf, hasArinc, isArinc, noted, orFirst};
 ghost use Rattle.notices.specs.Quiet.{answerIn, awaited, quietPart, quietWords};
+ghost use Rattle.notices.specs.Marks.{Marks, changed, codeBits, noticeMask, noticeValue, shared, sharedWith, side, unanswered};
 use format::Kind;
 
 fn is_arinc(kind: Kind) -> bool
@@ -206,6 +208,104 @@ fn quiet_part(kinds: [Kind; 16], parity: bool, row: &[u32]) -> usize
     i
 }
 
+// A bus's number, or the bits that it lacks.
+fn side(ones: bool, bus: u32) -> u32
+    requires { ⌜ bus < 16 ⌝ }
+    ensures { λ r. ⌜ (r ≡ side ones bus) × (r < 16) ⌝ }
+{
+    if ones { bus } else { 15 - bus }
+}
+
+// Of bits that the buses before share those that this one has, too; only ARINC buses count.
+fn with_bus(kind: Kind, ones: bool, bits: u32, bus: u32) -> u32
+    requires { ⌜ (bits < 16) × (bus < 16) ⌝ }
+    ensures { λ r. ⌜ (r ≡ sharedWith kind ones bits bus) × (r < 16) ⌝ }
+{
+    if is_arinc(kind) {
+        return bits & side(ones, bus);
+    }
+    bits
+}
+
+// The bits that are 1 in the numbers of all ARINC buses; with `false`, those that are 0 in them.
+fn shared_bits(kinds: [Kind; 16], ones: bool) -> u32
+    ensures { λ r. ⌜ (r ≡ shared ones 15 0 kinds) × (r < 16) ⌝ }
+{
+    let mut bits: u32 = 15;
+    let mut number: usize = 0;
+    while number < 16 {
+        bits = with_bus(kinds[number], ones, bits, number as u32);
+        number += 1;
+    }
+    bits
+}
+
+// Of bits of a bus's number those that a word has.
+fn in_code(parity: bool, bits: u32) -> u32
+    ensures { λ r. ⌜ (r ≡ bits % buses parity) × (r < 16) ⌝ }
+{
+    if parity { bits % 8 } else { bits % 16 }
+}
+
+// The bits of bus code and label.
+fn code_bits(parity: bool) -> u32
+    ensures { λ r. ⌜ r ≡ codeBits parity ⌝ }
+{
+    if parity { 0x7F0000 } else { 0xFF0000 }
+}
+
+// A notice with the label of the word that it waits for.
+fn changed(notice: u32) -> u32
+    requires { ⌜ notice < 2 ^ 24 ⌝ }
+    ensures { λ r. ⌜ r ≡ changed notice ⌝ }
+{
+    notice + 0x50000 + notice / 0x2000 % 4 * 0x20000
+}
+
+// Whether of the words that are so marked one is not answered at once: a look without branches.
+fn unanswered(mask: u32, value: u32, parity: bool, row: &[u32]) -> bool
+    requires { ⌜ Words (now row) × (0 < length (now row)) × (length (now row) < 2 ^ 31) × Marks mask value ⌝ }
+    ensures { λ r. ⌜ r ≡ unanswered mask value parity (now (row .entry)) ⌝ }
+{
+    let codes = code_bits(parity);
+    let mut count: u32 = 0;
+    let mut i: usize = 0;
+    while i + 1 < row.len() {
+        let word = row[i];
+        let notice = word & mask == value;
+        let other = (row[i + 1] ^ changed(word)) & codes != 0;
+        count += notice as u32 & other as u32;
+        i += 1;
+    }
+    if row[i] & mask == value {
+        return true;
+    }
+    count != 0
+}
+
+// Whether a notice of a row is not answered at once, as far as a look tells.
+fn any_unanswered(kinds: [Kind; 16], parity: bool, row: &[u32]) -> bool
+    requires { ⌜ Words (now row) × (0 < length (now row)) × (length (now row) < 2 ^ 31) ⌝ }
+    ensures { λ r. ⌜ r ≡ unanswered (noticeMask kinds parity) (noticeValue kinds parity) parity (now (row .entry)) ⌝ }
+{
+    let ones = shared_bits(kinds, true);
+    let bits = ones | shared_bits(kinds, false);
+    let mask = word::join(in_code(parity, bits), 15, 0);
+    let value = word::join(in_code(parity, ones), 4, 0);
+    unanswered(mask, value, parity, row)
+}
+
+// The quiet part of a row that may have notices: all of it, where a look tells so.
+fn quiet_noticed(kinds: [Kind; 16], parity: bool, row: &[u32]) -> usize
+    requires { ⌜ Words (now row) × (0 < length (now row)) × (length (now row) < 2 ^ 31) ⌝ }
+    ensures { λ r. ⌜ r ≡ quietPart kinds parity 0 (now (row .entry)) ⌝ }
+{
+    if any_unanswered(kinds, parity, row) {
+        return quiet_part(kinds, parity, row);
+    }
+    row.len()
+}
+
 // How many words of a row, from its start, leave this table as it is and show nothing.
 fn quiet_words(kinds: [Kind; 16], parity: bool, row: &[u32], table: &[u64]) -> usize
     requires { ⌜ Words (now row) × (length (now row) < 2 ^ 31) × (length (now table) < 2 ^ 31) ⌝ }
@@ -213,7 +313,7 @@ fn quiet_words(kinds: [Kind; 16], parity: bool, row: &[u32], table: &[u64]) -> u
 {
     if is_clear(table) {
         if any_notice(row) {
-            return quiet_part(kinds, parity, row);
+            return quiet_noticed(kinds, parity, row);
         }
         return row.len();
     }
@@ -320,7 +420,7 @@ pub fn first_open(kinds: [Kind; 16], parity: bool, words: &[u32]) -> u64
 {
     if has_arinc(kinds) {
         if any_notice(words) {
-            let quiet = quiet_part(kinds, parity, words);
+            let quiet = quiet_noticed(kinds, parity, words);
             if quiet == words.len() {
                 return 0;
             }

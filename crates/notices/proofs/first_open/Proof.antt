@@ -2,6 +2,7 @@ use Prim.Native.Nat.{_≤_}
 use native.Mathlib.Omega.{arith}
 use mathlib.Core.Path.{refl, sym, _∙_}
 use lib.ListN.{length}
+use Rattle.notices.specs.Laws.Marks.{any-some}
 use Rattle.notices.specs.Laws.Quiet.{all-quiet-open, quiet-low, rest-open}
 use Rattle.notices.specs.Laws.Rows.{no-arinc-open, no-notice-open, part-length, part-rest, part-words}
 use borrow.Author.Needs.{needs}
@@ -13,7 +14,7 @@ use Rattle.notices.proofs.any_notice.Reads as any-notice-reads
 use Rattle.notices.proofs.has_arinc.Reads as has-arinc-reads
 use Rattle.notices.proofs.least_of.Reads as least-of-reads
 use Rattle.notices.proofs.over_row.Reads as over-row-reads
-use Rattle.notices.proofs.quiet_part.Reads as quiet-part-reads
+use Rattle.notices.proofs.quiet_noticed.Reads as quiet-noticed-reads
 
 has-arinc-requires : tie.Need-has-arinc-requires
 has-arinc-requires c κs = search needs
@@ -21,19 +22,21 @@ has-arinc-requires c κs = search needs
 any-notice-requires : tie.Need-any-notice-requires
 any-notice-requires c κs = search needs
 
-quiet-part-requires : tie.Need-quiet-part-requires
-quiet-part-requires c κs = search needs
+quiet-noticed-requires : tie.Need-quiet-noticed-requires
+quiet-noticed-requires c κs =
+    let s = c .before .before .before .before .before in
+    (s .pre .0, any-some (s .args .words .now) (sym (c .before .any-notice .ensures) ∙ c .if2 .taken), s .pre .1)
 
-abbrev entry : tie.After-quiet-part → tie.Start
+abbrev entry : tie.After-quiet-noticed → tie.Start
 entry c = c .before .before .before .before .before .before
 
-here : (c : tie.After-quiet-part) → c .quiet-part .result ≤ length (entry c .args .words .now)
-here c = omega (arith, c .quiet-part .ensures, quiet-low (entry c .args .kinds) (entry c .args .parity) 0 (entry c .args .words .now))
+here : (c : tie.After-quiet-noticed) → c .quiet-noticed .result ≤ length (entry c .args .words .now)
+here c = omega (arith, c .quiet-noticed .ensures, quiet-low (entry c .args .kinds) (entry c .args .parity) 0 (entry c .args .words .now))
 
 returns : tie.Need-returns
 returns c =
     let s = entry (c .before) in
-    let q = c .before .quiet-part in
+    let q = c .before .quiet-noticed in
     sym (all-quiet-open (s .args .kinds) (s .args .parity) (s .args .words .now) (s .pre .0) (q .result) (q .ensures) (c .if3 .taken))
 
 mul-over-row : tie.Need-mul-over-row
@@ -54,7 +57,7 @@ slice-aggregate-over-row c = search needs
 over-row-requires : tie.Need-over-row-requires
 over-row-requires c κs =
     let s = entry (c .before .before .before) in
-    let q = c .before .before .before .quiet-part .result in
+    let q = c .before .before .before .quiet-noticed .result in
     (part-words q (s .args .words .now) (s .pre .0), omega (arith, part-length q (s .args .words .now) (here (c .before .before .before)), s .pre .1), refl)
 
 slice-aggregate-least-of : tie.Need-slice-aggregate-least-of
@@ -66,7 +69,7 @@ least-of-requires c κs = search needs
 returns-2 : tie.Need-returns-2
 returns-2 c =
     let s = entry (c .before .before .before .before .before .before .before) in
-    let q = c .before .before .before .before .before .before .before .quiet-part in
+    let q = c .before .before .before .before .before .before .before .quiet-noticed in
     let o = c .before .before .before .over-row in
     c .least-of .ensures
     ∙ rest-open (s .args .kinds) (s .args .parity) (s .args .words .now) (s .pre .0) (q .result) (q .ensures) _ _ (rw (part-rest (q .result) (s .args .words .now)) at (o .ensures))
@@ -85,7 +88,7 @@ first-open-spec =
     (tie.spec
     has-arinc-requires
     any-notice-requires
-    quiet-part-requires
+    quiet-noticed-requires
     returns
     mul-over-row
     sub-over-row

@@ -1,4 +1,5 @@
 use mathlib.Core.Path.{sym, _∙_}
+use Rattle.notices.specs.Laws.Marks.{any-some}
 use Rattle.notices.specs.Laws.Quiet.{quiet-all}
 use borrow.Author.Needs.{needs}
 use Rattle.notices.proofs.quiet_words.Statement.{statement}
@@ -7,7 +8,7 @@ use Rattle.notices.proofs.quiet_words.Reads as reads
 use Rattle.notices.proofs.quiet_words.Lts as lts
 use Rattle.notices.proofs.any_notice.Reads as any-notice-reads
 use Rattle.notices.proofs.is_clear.Reads as is-clear-reads
-use Rattle.notices.proofs.quiet_part.Reads as quiet-part-reads
+use Rattle.notices.proofs.quiet_noticed.Reads as quiet-noticed-reads
 
 is-clear-requires : tie.Need-is-clear-requires
 is-clear-requires c κs = search needs
@@ -15,11 +16,13 @@ is-clear-requires c κs = search needs
 any-notice-requires : tie.Need-any-notice-requires
 any-notice-requires c κs = search needs
 
-quiet-part-requires : tie.Need-quiet-part-requires
-quiet-part-requires c κs = search needs
+quiet-noticed-requires : tie.Need-quiet-noticed-requires
+quiet-noticed-requires c κs =
+    let s = c .before .before .before .before .before .before in
+    (s .pre .0, any-some (s .args .row .now) (sym (c .before .any-notice .ensures) ∙ c .if2 .taken), s .pre .1)
 
 returns : tie.Need-returns
-returns c = rw (← (c .before .before .before .before .is-clear .ensures), c .before .before .before .if1 .taken) (c .quiet-part .ensures)
+returns c = rw (← (c .before .before .before .before .is-clear .ensures), c .before .before .before .if1 .taken) (c .quiet-noticed .ensures)
 
 returns-2 : tie.Need-returns-2
 returns-2 c =
@@ -36,7 +39,7 @@ quiet-words-spec =
     (tie.spec
     is-clear-requires
     any-notice-requires
-    quiet-part-requires
+    quiet-noticed-requires
     returns
     returns-2
     returns-3)

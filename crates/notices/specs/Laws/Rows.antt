@@ -75,7 +75,7 @@ or-zero (suc a) b =
     ne-eqb (bitOr (suc a) b) 0 (λ e. absurd (omega (arith, e, or-add-and (suc a) b, and-le-r (suc a) b)))
     ∙ rw (ne-eqb (suc a) 0 (λ e. absurd (omega (arith, e)))) refl
 
-kinds-next : (i : ℕ) (ks : List Kind) → i < length ks → drop i ks ≡ getD ks i Unused ∷ drop (i + 1) ks
+pub kinds-next : (i : ℕ) (ks : List Kind) → i < length ks → drop i ks ≡ getD ks i Unused ∷ drop (i + 1) ks
 kinds-next i ks h =
     let e : suc i ≡ i + 1 = omega arith in
     drop-cons ks i Unused h ∙ ap (λ (k : ℕ). getD ks i Unused ∷ drop k ks) e
