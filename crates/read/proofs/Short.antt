@@ -75,9 +75,9 @@ module _ (p : Plan) (c : List ℕ) (bytes : (i : ℕ) → getD c i 0 < 256) wher
       omega
       (arith, sym (length-map (slotsFrom p c n g) (λ (s : Slot). s .1)) ∙ slots-count p c n g, mul-le-mul-left n (slots-few p s))
 
-  -- 628 words and their end mark fit 2,048 bytes
-  pub small-enough : (ks : List Kind) (room : ℕ) → Shape p → length c % (3 * groupWords p) ≡ 0 → length c ≤ 1884 → Enough p ks c 2056 room
-  small-enough ks room s z h = record {
+  -- in twelfths of a byte: 26 bits for each three bytes; the end mark, and the seven bytes that are asked behind the log
+  pub small-enough : (ks : List Kind) (built room : ℕ) → Shape p → length c % (3 * groupWords p) ≡ 0 → 13 * length c + 89 ≤ 12 * built → Enough p ks c built room
+  small-enough ks built room s z h = record {
     room = λ is e a b.
         let n : ℕ = length c / (3 * groupWords p) in
         let k = accepted-parts p ks c n is e (data-all (slotsFrom p c n 0) (slots-low p c (all-bytes c bytes) n 0)) in
@@ -86,6 +86,6 @@ module _ (p : Plan) (c : List ℕ) (bytes : (i : ℕ) → getD c i 0 < 256) wher
         omega (arith, d, items-short is, log-short is, data-few (slotsFrom p c n 0), slots-fewer s n 0, whole-groups p (length c) z);
   }
 
--- and so does every log that a small room holds
+-- 2,056 bytes also have room for every log that a small room holds
 pub room-enough : (p : Plan) (ks : List Kind) (c : List ℕ) (room : ℕ) → room ≤ 2048 → Enough p ks c 2056 room
 room-enough p ks c room h = record { room = λ is e a b. omega arith }

@@ -120,7 +120,22 @@ fn read_by(
     give(plan, capture, n, built, end.bytes, log, times)
 }
 
-// No large array is cleared for a small capture, or for a small room.
+fn read_tiny(
+    closed: bool,
+    plan: Plan,
+    kinds: [Kind; 16],
+    capture: &[u8],
+    log: &mut [u8],
+    times: &mut [u64],
+) -> Answer
+    requires { ⌜ Shape plan × (length (now capture) ≤ 1048576) × (length (now capture) % (3 * groupWords plan) ≡ 0) ⌝ }
+    requires { ⌜ Enough plan kinds (now capture) 552 (length (now log)) ⌝ }
+    ensures { λ r. ⌜ Given (settled plan (now (capture .entry)) (length (now (capture .entry)) / (3 * groupWords plan)) (length (now (log .entry))) (length (now (times .entry))) closed (readGroups plan kinds (now (capture .entry)) (length (now (capture .entry)) / (3 * groupWords plan)) 0 Nothing 0)) r (now (log .entry)) (now (log .exit)) (now (times .entry)) (now (times .exit)) ⌝ }
+{
+    let mut built = [0u8; 552];
+    read_by(closed, plan, kinds, capture, &mut built, log, times)
+}
+
 fn read_small(
     closed: bool,
     plan: Plan,
@@ -134,6 +149,22 @@ fn read_small(
     ensures { λ r. ⌜ Given (settled plan (now (capture .entry)) (length (now (capture .entry)) / (3 * groupWords plan)) (length (now (log .entry))) (length (now (times .entry))) closed (readGroups plan kinds (now (capture .entry)) (length (now (capture .entry)) / (3 * groupWords plan)) 0 Nothing 0)) r (now (log .entry)) (now (log .exit)) (now (times .entry)) (now (times .exit)) ⌝ }
 {
     let mut built = [0u8; 2056];
+    read_by(closed, plan, kinds, capture, &mut built, log, times)
+}
+
+fn read_middle(
+    closed: bool,
+    plan: Plan,
+    kinds: [Kind; 16],
+    capture: &[u8],
+    log: &mut [u8],
+    times: &mut [u64],
+) -> Answer
+    requires { ⌜ Shape plan × (length (now capture) ≤ 1048576) × (length (now capture) % (3 * groupWords plan) ≡ 0) ⌝ }
+    requires { ⌜ Enough plan kinds (now capture) 8200 (length (now log)) ⌝ }
+    ensures { λ r. ⌜ Given (settled plan (now (capture .entry)) (length (now (capture .entry)) / (3 * groupWords plan)) (length (now (log .entry))) (length (now (times .entry))) closed (readGroups plan kinds (now (capture .entry)) (length (now (capture .entry)) / (3 * groupWords plan)) 0 Nothing 0)) r (now (log .entry)) (now (log .exit)) (now (times .entry)) (now (times .exit)) ⌝ }
+{
+    let mut built = [0u8; 8200];
     read_by(closed, plan, kinds, capture, &mut built, log, times)
 }
 
@@ -173,11 +204,18 @@ fn read_either(
     if !is_whole(plan, length) {
         return refusal(8, length as u64, 0);
     }
+    // No large array is cleared for a small capture, or for a small room.
+    if length <= 501 {
+        return read_tiny(closed, plan, kinds, capture, log, times);
+    }
     if length <= 1884 {
         return read_small(closed, plan, kinds, capture, log, times);
     }
     if log.len() <= 2048 {
         return read_small(closed, plan, kinds, capture, log, times);
+    }
+    if length <= 7560 {
+        return read_middle(closed, plan, kinds, capture, log, times);
     }
     read_large(closed, plan, kinds, capture, log, times)
 }

@@ -1,4 +1,4 @@
-use Prim.Native.Nat.{ℕ, _*_, _/_, _%_, _≤_}
+use Prim.Native.Nat.{ℕ, _+_, _*_, _/_, _%_, _≤_}
 use native.Mathlib.Omega.{arith}
 use borrow.Author.Needs.{needs}
 use borrow.Author.Tests.{not-true, not-false, eqb-true}
@@ -10,6 +10,7 @@ use Rattle.format.specs.Plan.{groupWords, legal}
 use Rattle.format.specs.Read.{reading, readGroups, settled}
 use Rattle.format.specs.declared.Held.the-variants.{Nothing}
 use Rattle.format.specs.Laws.Limits.{Shape}
+use Rattle.read.specs.Room.{Enough}
 use Rattle.read.proofs.Short.{small-enough, room-enough}
 use Rattle.read.proofs.Given.{shape-of, illegal-refused, long-refused, ragged-refused, read-on}
 use Rattle.read.proofs.read_either.Statement.{statement}
@@ -48,10 +49,17 @@ is-judged c = c .before .before .before .before
 whole : (c : Whole) → length (capture (is-judged c)) % (3 * groupWords (start (is-judged c) .args .plan)) ≡ 0
 whole c = eqb-true _ _ (sym (c .before .is-whole .ensures) ∙ not-false _ (c .if3 .left))
 
--- what a reading of one of the two sizes asks
+-- what a reading of one of the sizes asks
 asked : (c : Whole) → Shape (start (is-judged c) .args .plan) × (length (capture (is-judged c)) ≤ 1048576)
     × (length (capture (is-judged c)) % (3 * groupWords (start (is-judged c) .args .plan)) ≡ 0)
 asked c = (shape (c .before .before .before), c .before .before .if2 .left, whole c)
+
+-- and the array has room for the capture's log
+enough : (c : Whole) (built : ℕ) → 13 * length (capture (is-judged c)) + 89 ≤ 12 * built
+    → Enough (start (is-judged c) .args .plan) (start (is-judged c) .args .kinds) (capture (is-judged c)) built (length (start (is-judged c) .args .log .now))
+enough c built h =
+    let j = is-judged c in
+    small-enough _ (capture j) (λ i. omega (arith, j .before .before .before .shared-slice-known .given i)) _ built _ (shape (c .before .before .before)) (whole c) h
 
 -- ---- the needs
 
@@ -111,15 +119,8 @@ read-is c =
     read-on (s .args .closed) (s .args .plan) (s .args .kinds) (capture j) (length (s .args .log .now)) (length (s .args .times .now)) (is-legal l) (c .before .before .if2 .left)
     (whole c)
 
-read-small-requires : tie.Need-read-small-requires
-read-small-requires c κs =
-    let w = c .before .before .before in
-    let j = is-judged w in
-    let s = start j in (
-      asked w,
-      small-enough (s .args .plan) (capture j) (λ i. omega (arith, j .before .before .before .shared-slice-known .given i)) (s .args .kinds) (length (s .args .log .now))
-          (shape (w .before .before .before)) (whole w) (c .before .before .if4 .taken),
-    )
+read-tiny-requires : tie.Need-read-tiny-requires
+read-tiny-requires c κs = let w = c .before .before .before in (asked w, enough w 552 (omega (arith, c .before .before .if4 .taken)))
 
 same-length : tie.Need-same-length
 same-length c = search needs
@@ -128,10 +129,10 @@ same-length-2 : tie.Need-same-length-2
 same-length-2 c = search needs
 
 returns-4 : tie.Need-returns-4
-returns-4 c = let r = c .before .before .before .before in rw (read-is (r .before .before .before .before)) (r .read-small .ensures)
+returns-4 c = let r = c .before .before .before .before in rw (read-is (r .before .before .before .before)) (r .read-tiny .ensures)
 
-read-small-requires-2 : tie.Need-read-small-requires-2
-read-small-requires-2 c κs = (asked (c .before .before .before .before), room-enough _ _ _ _ (c .before .before .if5 .taken))
+read-small-requires : tie.Need-read-small-requires
+read-small-requires c κs = let w = c .before .before .before .before in (asked w, enough w 2056 (omega (arith, c .before .before .if5 .taken)))
 
 same-length-3 : tie.Need-same-length-3
 same-length-3 c = search needs
@@ -140,10 +141,10 @@ same-length-4 : tie.Need-same-length-4
 same-length-4 c = search needs
 
 returns-5 : tie.Need-returns-5
-returns-5 c = let r = c .before .before .before .before in rw (read-is (r .before .before .before .before .before)) (r .read-small2 .ensures)
+returns-5 c = let r = c .before .before .before .before in rw (read-is (r .before .before .before .before .before)) (r .read-small .ensures)
 
-read-large-requires : tie.Need-read-large-requires
-read-large-requires c κs = asked (c .before .before .before .before)
+read-small-requires-2 : tie.Need-read-small-requires-2
+read-small-requires-2 c κs = (asked (c .before .before .before .before .before), room-enough _ _ _ _ (c .before .before .if6 .taken))
 
 same-length-5 : tie.Need-same-length-5
 same-length-5 c = search needs
@@ -152,7 +153,31 @@ same-length-6 : tie.Need-same-length-6
 same-length-6 c = search needs
 
 returns-6 : tie.Need-returns-6
-returns-6 c = let r = c .before .before .before .before in rw (read-is (r .before .before .before .before .before)) (r .read-large .ensures)
+returns-6 c = let r = c .before .before .before .before in rw (read-is (r .before .before .before .before .before .before)) (r .read-small2 .ensures)
+
+read-middle-requires : tie.Need-read-middle-requires
+read-middle-requires c κs = let w = c .before .before .before .before .before .before in (asked w, enough w 8200 (omega (arith, c .before .before .if7 .taken)))
+
+same-length-7 : tie.Need-same-length-7
+same-length-7 c = search needs
+
+same-length-8 : tie.Need-same-length-8
+same-length-8 c = search needs
+
+returns-7 : tie.Need-returns-7
+returns-7 c = let r = c .before .before .before .before in rw (read-is (r .before .before .before .before .before .before .before)) (r .read-middle .ensures)
+
+read-large-requires : tie.Need-read-large-requires
+read-large-requires c κs = asked (c .before .before .before .before .before .before)
+
+same-length-9 : tie.Need-same-length-9
+same-length-9 c = search needs
+
+same-length-10 : tie.Need-same-length-10
+same-length-10 c = search needs
+
+returns-8 : tie.Need-returns-8
+returns-8 c = let r = c .before .before .before .before in rw (read-is (r .before .before .before .before .before .before .before)) (r .read-large .ensures)
 
 pub read-either-spec : {M : Type 1} → statement M
 read-either-spec =
@@ -166,15 +191,23 @@ read-either-spec =
     is-whole-requires
     refusal-requires-3
     returns-3
-    read-small-requires
+    read-tiny-requires
     same-length
     same-length-2
     returns-4
-    read-small-requires-2
+    read-small-requires
     same-length-3
     same-length-4
     returns-5
-    read-large-requires
+    read-small-requires-2
     same-length-5
     same-length-6
-    returns-6)
+    returns-6
+    read-middle-requires
+    same-length-7
+    same-length-8
+    returns-7
+    read-large-requires
+    same-length-9
+    same-length-10
+    returns-8)
