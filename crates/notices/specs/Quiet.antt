@@ -8,7 +8,7 @@ use Rattle.format.specs.Plan.{kindOn}
 use Rattle.format.specs.Word.{busOf, labelOf, infoOf}
 use Rattle.format.specs.Item.{highLabel}
 use Rattle.format.specs.declared.Kind.{Kind}
-use Rattle.notices.specs.Table.{allZero, isArinc}
+use Rattle.notices.specs.Table.{isArinc}
 
 -- the bus and label, as bus x 16 + label, of the word that answers a notice
 unfoldable pub awaited : Bool → ℕ → ℕ
@@ -44,5 +44,5 @@ quietPart ks parity zero (w ∷ ws) =
     cond (isNotice ks parity w) (ifAnswered d (quietPart ks parity d ws)) (suc (quietPart ks parity 0 ws))
 
 -- nothing is quiet where a notice waits already
-abbrev pub quietWords : List Kind → Bool → List ℕ → List ℕ → ℕ
-quietWords ks parity row table = cond (allZero table) (quietPart ks parity 0 row) 0
+abbrev pub quietWords : List Kind → Bool → List ℕ → Bool → ℕ
+quietWords ks parity row clear = cond clear (quietPart ks parity 0 row) 0

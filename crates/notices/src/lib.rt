@@ -126,7 +126,7 @@ fn over_row(
 }
 
 // Whether nothing waits: a look without branches.
-fn is_clear(table: &[u64]) -> bool
+pub fn is_clear(table: &[u64]) -> bool
     ensures { λ r. ⌜ r ≡ allZero (now (table .entry)) ⌝ }
 {
     let mut waiting: u64 = 0;
@@ -306,18 +306,24 @@ fn quiet_noticed(kinds: [Kind; 16], parity: bool, row: &[u32]) -> usize
     row.len()
 }
 
-// How many words of a row, from its start, leave this table as it is and show nothing.
-fn quiet_words(kinds: [Kind; 16], parity: bool, row: &[u32], table: &[u64]) -> usize
-    requires { ⌜ Words (now row) × (length (now row) < 2 ^ 31) × (length (now table) < 2 ^ 31) ⌝ }
-    ensures { λ r. ⌜ r ≡ quietWords kinds parity (now (row .entry)) (now (table .entry)) ⌝ }
+// How many words of a row, from its start, leave the table as it is and show nothing, where nothing waits in it, or where a notice does.
+fn quiet_words(kinds: [Kind; 16], parity: bool, row: &[u32], clear: bool) -> usize
+    requires { ⌜ Words (now row) × (length (now row) < 2 ^ 31) ⌝ }
+    ensures { λ r. ⌜ r ≡ quietWords kinds parity (now (row .entry)) clear ⌝ }
 {
-    if is_clear(table) {
+    if clear {
         if any_notice(row) {
             return quiet_noticed(kinds, parity, row);
         }
         return row.len();
     }
     0
+}
+
+// What was noted so far, beside the table: the earliest notice that was shown open, one up or 0, and whether nothing waits.
+pub struct Noted {
+    pub found: u64,
+    pub clear: bool,
 }
 
 // A row of words, the first of them the number `from`: the table goes on, and the earliest that was shown open is handed back.
@@ -328,17 +334,21 @@ pub fn note_row(
     row: &[u32],
     from: u64,
     table: &mut [u64],
-    found: u64,
-) -> u64
-    requires { ⌜ (arinc ≡ hasArinc kinds) × Words (now row) × (length (now row) < 2 ^ 31) × (from + length (now row) < 2 ^ 63) × (length (now table) ≡ 64) ⌝ }
-    ensures { λ r. ⌜ RowNoted kinds parity from (now (row .entry)) found (now (table .entry)) r (now (table .exit)) ⌝ }
+    noted: Noted,
+) -> Noted
+    requires { ⌜ (arinc ≡ hasArinc kinds) × Words (now row) × (length (now row) < 2 ^ 31) × (from + length (now row) < 2 ^ 63) × (length (now table) ≡ 64) × (noted .clear ≡ allZero (now table)) ⌝ }
+    ensures { λ r. ⌜ RowNoted kinds parity from (now (row .entry)) (noted .found) (now (table .entry)) (r .found) (now (table .exit)) × (r .clear ≡ allZero (now (table .exit))) ⌝ }
 {
     if arinc {
-        let quiet = quiet_words(kinds, parity, row, table);
-        let rest = from + quiet as u64;
-        return over_row(kinds, parity, &row[quiet..], rest, table, found);
+        let quiet = quiet_words(kinds, parity, row, noted.clear);
+        if quiet < row.len() {
+            let rest = from + quiet as u64;
+            let found = over_row(kinds, parity, &row[quiet..], rest, table, noted.found);
+            let clear = is_clear(table);
+            return Noted { found, clear };
+        }
     }
-    found
+    noted
 }
 
 // The words of a row, the first of them the number `from`: the first notice that is shown open in it.
@@ -380,7 +390,7 @@ pub fn watch_row(
     ensures { λ r. ⌜ RowWatched kinds parity from (now (row .entry)) (now (table .entry)) r (now (table .exit)) ⌝ }
 {
     if arinc {
-        let quiet = quiet_words(kinds, parity, row, table);
+        let quiet = quiet_words(kinds, parity, row, is_clear(table));
         return first_shown(kinds, parity, &row[quiet..], from + quiet as u64, table);
     }
     0
@@ -400,17 +410,14 @@ fn least_of(table: &[u64], found: u64) -> u64
 }
 
 // Behind the last word: what waits is open. The number of the earliest open notice, one up, or 0.
-pub fn at_end(arinc: bool, table: &[u64], found: u64) -> u64
-    requires { ⌜ (length (now table) < 2 ^ 31) × (arinc ≡ false → earliestOf found (now table) ≡ 0) ⌝ }
+pub fn at_end(clear: bool, table: &[u64], found: u64) -> u64
+    requires { ⌜ (length (now table) < 2 ^ 31) × (clear ≡ allZero (now table)) ⌝ }
     ensures { λ r. ⌜ r ≡ earliestOf found (now (table .entry)) ⌝ }
 {
-    if arinc {
-        if is_clear(table) {
-            return found;
-        }
-        return least_of(table, found);
+    if clear {
+        return found;
     }
-    0
+    least_of(table, found)
 }
 
 // A whole row of words: the number of the earliest open notice, one up, or 0.

@@ -15,6 +15,7 @@ use data_run::on_row;
 use data_run::start_pass;
 use format::Kind;
 use format::Plan;
+use notices::Noted;
 use notices::at_end;
 use notices::has_arinc;
 
@@ -75,7 +76,10 @@ fn over_groups(
     let start = start_pass();
     let arinc = has_arinc(kinds);
     let mut table = [0u64; 64];
-    let mut found: u64 = 0;
+    let mut noted = Noted {
+        found: 0,
+        clear: true,
+    };
     let mut pass = start;
     let mut g: usize = 0;
     let mut from: u64 = 0;
@@ -105,19 +109,19 @@ fn over_groups(
         if pass.bad != 0 {
             return broken(plan, count, start, pass.bad, pass.since);
         }
-        found = notices::note_row(
+        noted = notices::note_row(
             arinc,
             kinds,
             plan.parity,
             &row[first..behind],
             from,
             &mut table,
-            found,
+            noted,
         );
         from += count as u64;
         g += 1;
     }
-    let notice = at_end(arinc, &table, found);
+    let notice = at_end(noted.clear, &table, noted.found);
     Walk {
         pass: pass,
         number: 0,

@@ -13,6 +13,7 @@ use format::Plan;
 use log_close::copy;
 use log_write::Pen;
 use notices::at_end;
+use notices::is_clear;
 use stream_group::stored_of;
 
 // "On an accepting close" the item that was held is complete: it is written behind the bits not yet a byte, then the end mark.
@@ -50,7 +51,7 @@ pub fn end_log(
     if step.bad {
         return refusal(13, since, since);
     }
-    let notice = at_end(true, table, 0);
+    let notice = at_end(is_clear(table), table, 0);
     if notice != 0 {
         return refusal(15, stored_of(plan, notice), 0);
     }

@@ -7,39 +7,27 @@ use Rattle.notices.proofs.quiet_words.Tie as tie
 use Rattle.notices.proofs.quiet_words.Reads as reads
 use Rattle.notices.proofs.quiet_words.Lts as lts
 use Rattle.notices.proofs.any_notice.Reads as any-notice-reads
-use Rattle.notices.proofs.is_clear.Reads as is-clear-reads
 use Rattle.notices.proofs.quiet_noticed.Reads as quiet-noticed-reads
-
-is-clear-requires : tie.Need-is-clear-requires
-is-clear-requires c κs = search needs
 
 any-notice-requires : tie.Need-any-notice-requires
 any-notice-requires c κs = search needs
 
 quiet-noticed-requires : tie.Need-quiet-noticed-requires
 quiet-noticed-requires c κs =
-    let s = c .before .before .before .before .before .before in
+    let s = c .before .before .before .before in
     (s .pre .0, any-some (s .args .row .now) (sym (c .before .any-notice .ensures) ∙ c .if2 .taken), s .pre .1)
 
 returns : tie.Need-returns
-returns c = rw (← (c .before .before .before .before .is-clear .ensures), c .before .before .before .if1 .taken) (c .quiet-noticed .ensures)
+returns c = rw (c .before .before .before .if1 .taken) (c .quiet-noticed .ensures)
 
 returns-2 : tie.Need-returns-2
 returns-2 c =
-    let s = c .before .before .before .before .before .before in
-    rw (← (c .before .before .before .is-clear .ensures), c .before .before .if1 .taken)
+    let s = c .before .before .before .before in
+    rw (c .before .before .if1 .taken)
     (sym (quiet-all (s .args .kinds) (s .args .parity) (s .args .row .now) (sym (c .before .any-notice .ensures) ∙ c .if2 .left)))
 
 returns-3 : tie.Need-returns-3
-returns-3 c = rw (← (c .before .is-clear .ensures), c .if1 .left)
+returns-3 c = rw (c .if1 .left)
 
 pub quiet-words-spec : {M : Type 1} → statement M
-quiet-words-spec =
-    tie.close
-    (tie.spec
-    is-clear-requires
-    any-notice-requires
-    quiet-noticed-requires
-    returns
-    returns-2
-    returns-3)
+quiet-words-spec = tie.close (tie.spec any-notice-requires quiet-noticed-requires returns returns-2 returns-3)

@@ -181,12 +181,9 @@ module _ (ks : List Kind) (parity : Bool) where
       go true (suc d) ih = omega (arith, ih (suc d))
       go false d ih = omega (arith, ih 0)
 
-  pub quiet-most : (row table : List ℕ) → quietWords ks parity row table ≤ length row
-  quiet-most row table = go (allZero table)
-    where
-      go : (b : Bool) → cond b (quietPart ks parity 0 row) 0 ≤ length row
-      go true = quiet-low 0 row
-      go false = omega arith
+  pub quiet-most : (row : List ℕ) (clear : Bool) → quietWords ks parity row clear ≤ length row
+  quiet-most row true = quiet-low 0 row
+  quiet-most row false = omega arith
 
   -- all, where no word has the label of a notice
   pub quiet-all : (ws : List ℕ) → anyNotice ws ≡ false → quietPart ks parity 0 ws ≡ length ws
@@ -204,7 +201,7 @@ module _ (ks : List Kind) (parity : Bool) where
 
 -- ---- a row that begins with what is quiet
 
-module _ (ks : List Kind) (parity : Bool) (n : ℕ) (row : List ℕ) (t : List ℕ) (q : ℕ) (is : q ≡ quietWords ks parity row t) where
+module _ (ks : List Kind) (parity : Bool) (n : ℕ) (row : List ℕ) (t : List ℕ) (q : ℕ) (is : q ≡ quietWords ks parity row (allZero t)) where
   passed : (f : ℕ) → notesOf (rolesIn ks parity (counted n (take q row))) (f, t) ≡ (f, t)
   unfolding rolesIn notesOf counted
   passed f = rw is (go (allZero t) refl)
@@ -215,6 +212,10 @@ module _ (ks : List Kind) (parity : Bool) (n : ℕ) (row : List ℕ) (t : List �
 
   pub quiet-noted : (f r : ℕ) (t′ : List ℕ) → RowNoted ks parity (n + q) (drop q row) f t r t′ → RowNoted ks parity n row f t r t′
   quiet-noted f r t′ e = e ∙ sym (notes-split ks parity n q row (f, t) ∙ ap (notesOf (rolesIn ks parity (counted (n + q) (drop q row)))) (passed f))
+
+  -- and nothing stands behind it
+  pub all-quiet-noted : (f : ℕ) → length row ≤ q → RowNoted ks parity n row f t f t
+  all-quiet-noted f l = quiet-noted f f t (sym (notes-end ks parity row (n + q) q l (f, t)))
 
   pub quiet-watched : (r : ℕ) (t′ : List ℕ) → RowWatched ks parity (n + q) (drop q row) t r t′ → RowWatched ks parity n row t r t′
   quiet-watched r t′ e =

@@ -16,20 +16,19 @@ use Rattle.group_read.proofs.Answers.{words-length, words-low}
 use Rattle.read_groups.specs.Misplaced.{numbersOf}
 use Rattle.read_groups.specs.Groups.{Over}
 use Rattle.notices.specs.Laws.Groups.{openNumber, NotedTo, noted-none, noted-more, noted-all}
-use Rattle.notices.specs.Table.{earliestOf}
-use Rattle.notices.specs.Laws.Rows.{no-arinc-open}
+use Rattle.notices.specs.Table.{allZero, earliestOf}
 use Rattle.read_groups.proofs.Groups.{over-none, over-fault, over-bad, walked-bad, over-more, over-all, told-low}
 use Rattle.read_groups.proofs.over_groups.Statement.{statement}
 use Rattle.read_groups.proofs.over_groups.Tie as tie
 use Rattle.capture_parts.proofs.Part.{dealt-all, numbers-few, group-room, part-length, dealt-none, dealt-found, dealt-low, dealt-words}
 
 abbrev Inv-loop : tie.InvT-loop
-Inv-loop kinds plan count capture groups row₀ out₀ size first behind start arinc table₀ found₀ pass₀ g₀ from₀ row out table found pass g from =
+Inv-loop kinds plan count capture groups row₀ out₀ size first behind start arinc table₀ noted₀ pass₀ g₀ from₀ row out table noted pass g from =
     (g ≤ groups) × (from ≡ g * slots plan) × (length row ≡ length row₀) × Over kinds plan capture groups out₀ g pass out
-    × (length table ≡ 64) × NotedTo kinds plan capture groups g found table
+    × (length table ≡ 64) × NotedTo kinds plan capture groups g (noted .found) table × (noted .clear ≡ allZero table)
 
 abbrev μ-loop : tie.MeasureT-loop
-μ-loop kinds plan count capture groups row₀ out₀ size first behind start arinc table₀ found₀ pass₀ g₀ from₀ row out table found pass g from = groups - g
+μ-loop kinds plan count capture groups row₀ out₀ size first behind start arinc table₀ noted₀ pass₀ g₀ from₀ row out table noted pass g from = groups - g
 
 -- ---- the places
 
@@ -182,12 +181,12 @@ noted c = c .before .before .before .before
 
 noted-next : (c : Noted-row)
     → let e = good-group (noted c) in
-    let l = group e in NotedTo (start l .args .kinds) (plan l) (capture l) (start l .args .groups) (l .loop .g + 1) (c .note-row .result) (c .note-row .last .1 .1 .1 .1 .1 .0)
+    let l = group e in NotedTo (start l .args .kinds) (plan l) (capture l) (start l .args .groups) (l .loop .g + 1) (c .note-row .result .found) (c .note-row .last .1 .1 .1 .1 .1 .0)
 noted-next c =
     let e = good-group (noted c) in
     let l = group e in
     noted-more (start l .args .kinds) (plan l) (capture l) (start l .args .groups) (l .loop .g) (in-loop (dealt e) .loop-test .taken) (l .loop .inv .5) (l .loop .from) (part e)
-    (l .loop .inv .1) (part-is e) (c .note-row .ensures)
+    (l .loop .inv .1) (part-is e) (c .note-row .ensures .0)
 
 -- all groups were passed
 abbrev Passed : Type 0
@@ -196,7 +195,7 @@ Passed = tie.After-loop Inv-loop μ-loop
 last : (c : Passed) → c .before .loop .g ≡ start (c .before) .args .groups
 last c = omega (arith, c .loop-test .left, c .before .loop .inv .0)
 
-earliest : (c : Passed) → let l = c .before in earliestOf (l .loop .found) (l .loop .table) ≡ openNumber (start l .args .kinds) (plan l) (capture l) (start l .args .groups)
+earliest : (c : Passed) → let l = c .before in earliestOf (l .loop .noted .found) (l .loop .table) ≡ openNumber (start l .args .kinds) (plan l) (capture l) (start l .args .groups)
 earliest c =
     let l = c .before in
     noted-all (start l .args .kinds) (plan l) (capture l) (start l .args .groups) (all-bytes (capture l) (bytes l)) (l .loop .g) (last c) (l .loop .inv .5)
@@ -221,7 +220,8 @@ has-arinc-requires : tie.Need-has-arinc-requires Inv-loop μ-loop
 has-arinc-requires c κs = search needs
 
 loop-holds : tie.Need-loop-holds Inv-loop μ-loop
-loop-holds c = (omega arith, omega arith, refl, over-none _ _ _ _ _ (c .before .start-pass .ensures), refl, noted-none _ _ _ _)
+unfolding allZero
+loop-holds c = (omega arith, omega arith, refl, over-none _ _ _ _ _ (c .before .start-pass .ensures), refl, noted-none _ _ _ _, refl)
 
 mul-begin : tie.Need-mul-begin Inv-loop μ-loop
 mul-begin c = omega (arith, size (c .before))
@@ -351,6 +351,7 @@ note-row-requires c κs =
       omega (arith, part-length-is e, numbers e),
       omega (arith, l .loop .inv .1, part-length-is e, numbers e),
       l .loop .inv .4,
+      l .loop .inv .6,
     )
 
 add-from : tie.Need-add-from Inv-loop μ-loop
@@ -376,17 +377,14 @@ loop-again c =
           (omega (arith, r .on-row .ensures .1 (q .if2 .left), l .loop .inv .1, part-length-is e)),
       c .table2 .given,
       noted-next (c .before),
+      c .before .note-row .ensures .1,
     )
 
 slice-aggregate-at-end : tie.Need-slice-aggregate-at-end Inv-loop μ-loop
 slice-aggregate-at-end c = search needs
 
 at-end-requires : tie.Need-at-end-requires Inv-loop μ-loop
-at-end-requires c κs =
-    let l = c .before .before in (
-      omega (arith, l .loop .inv .4),
-      λ z. earliest (c .before) ∙ no-arinc-open (start l .args .kinds) (plan l .parity) (sym (l .before .has-arinc .ensures) ∙ z) _,
-    )
+at-end-requires c κs = let l = c .before .before in (omega (arith, l .loop .inv .4), l .loop .inv .6)
 
 same-length-5 : tie.Need-same-length-5 Inv-loop μ-loop
 same-length-5 c = search needs

@@ -3,7 +3,6 @@ use mathlib.Core.Path.{_≡_, ap, subst, sym, _∙_}
 use Prim.Native.Nat.{ℕ}
 use Rattle.format.specs.Answer.{refusal}
 use Rattle.format.specs.Read.{finish}
-use Rattle.format.specs.Laws.Tests.{clash}
 use Rattle.data_word.specs.Holding.{heldOf}
 use Rattle.data_word.specs.Meaning.{Closes}
 use Rattle.data_word.proofs.Meaning.{finish-means}
@@ -18,6 +17,7 @@ use Rattle.stream_end.proofs.end_log.Lts as lts
 use Rattle.capture_parts.proofs.refusal.Reads as refusal-reads
 use Rattle.data_word.proofs.finish.Reads as finish-reads
 use Rattle.notices.proofs.at_end.Reads as at-end-reads
+use Rattle.notices.proofs.is_clear.Reads as is-clear-reads
 use Rattle.stream_end.proofs.put_end.Reads as put-end-reads
 use Rattle.stream_group.proofs.stored_of.Reads as stored-of-reads
 
@@ -40,7 +40,7 @@ abbrev Noted : Type 0
 Noted = tie.After-at-end
 
 abbrev done : Noted → Done
-done n = n .before .before
+done n = n .before .before .before
 
 abbrev from : Noted → tie.Start
 from n = start (done n)
@@ -65,8 +65,11 @@ returns c =
     let a = start f .args in
     ends-cut (a .plan) (a .held) (a .since) (a .pen) (a .table .now) (a .log .now) (f .finish .result) (closes f) (c .before .if1 .taken) (c .refusal .ensures)
 
+is-clear-requires : tie.Need-is-clear-requires
+is-clear-requires c κs = search needs
+
 at-end-requires : tie.Need-at-end-requires
-at-end-requires c κs = (omega (arith, c .before .before .before .before .pre .long), λ e. clash (sym e))
+at-end-requires c κs = (omega (arith, start (c .before .before) .pre .long), c .is-clear .ensures)
 
 stored-of-requires : tie.Need-stored-of-requires
 stored-of-requires c κs =
@@ -84,7 +87,7 @@ returns-2 c =
     let n = c .before .before .before in
     let f = done n in
     let a = start f .args in
-    ends-open (a .plan) (a .held) (a .since) (a .pen) (a .table .now) (a .log .now) (f .finish .result) (closes f) (n .before .if1 .left) (n .at-end .result) (notice n)
+    ends-open (a .plan) (a .held) (a .since) (a .pen) (a .table .now) (a .log .now) (f .finish .result) (closes f) (n .before .before .if1 .left) (n .at-end .result) (notice n)
     (c .before .before .if2 .taken)
     (c .refusal2 .ensures ∙ ap (λ (q : ℕ). refusal 15 q 0) (c .before .stored-of .ensures))
 
@@ -94,7 +97,7 @@ put-end-requires c κs =
     let f = done n in
     let s = start f in
     let a = s .args in (
-      ends-last (a .plan) (a .held) (a .since) (a .pen) (a .table .now) (a .log .now) (f .finish .result) (closes f) (n .before .if1 .left) (none n (c .before .if2 .left)) (s .pre .bits)
+      ends-last (a .plan) (a .held) (a .since) (a .pen) (a .table .now) (a .log .now) (f .finish .result) (closes f) (n .before .before .if1 .left) (none n (c .before .if2 .left)) (s .pre .bits)
           (s .pre .few),
       s .pre .room,
     )
@@ -108,7 +111,7 @@ returns-3 c =
     let n = k .before .before .before in
     let f = done n in
     let a = start f .args in
-    ends-put (a .plan) (a .held) (a .since) (a .pen) (a .table .now) (a .log .now) (f .finish .result) (closes f) (n .before .if1 .left) (none n (k .before .before .if2 .left))
+    ends-put (a .plan) (a .held) (a .since) (a .pen) (a .table .now) (a .log .now) (f .finish .result) (closes f) (n .before .before .if1 .left) (none n (k .before .before .if2 .left))
     (k .put-end .ensures)
 
 pub end-log-spec : {M : Type 1} → statement M
@@ -118,6 +121,7 @@ end-log-spec =
     finish-requires
     refusal-requires
     returns
+    is-clear-requires
     at-end-requires
     stored-of-requires
     refusal-requires-2
