@@ -43,10 +43,10 @@ unfolding text list
 response-few Untimed = omega arith
 response-few (After r) = omega (arith, decimal-few r)
 
-abbrev sided : ℕ → ℕ → ℕ → ℕ → Bool → ℕ → List ℕ
+abbrev pub sided : ℕ → ℕ → ℕ → ℕ → Bool → ℕ → List ℕ
 sided a b c bus s word = named a b c bus ++ (side s ++ (32 ∷ hex 4 word))
 
-abbrev channelled : ℕ → ℕ → ℕ → ℕ → ℕ → List ℕ
+abbrev pub channelled : ℕ → ℕ → ℕ → ℕ → ℕ → List ℕ
 channelled a b c bus n = named a b c bus ++ (decimal (n + 1) ++ (32 ∷ []))
 
 pub command-is : (bus : ℕ) (b : Bool) (t : Tag) (word : ℕ) → (sided 99 109 100 bus b word ++ tagText t) ++ (10 ∷ []) ≡ itemLine (Command bus b t word)

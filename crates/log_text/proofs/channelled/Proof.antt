@@ -1,21 +1,35 @@
-use Rattle.log_text.proofs.Pieces.{named-few, sided-few, channelled-few, tag-few, response-few}
-use Rattle.log_text.proofs.Adding.{adds-none, adds-room, adds-same, adds-then, short, short-then, short-room}
-use Rattle.log_text.specs.Text.{named}
-use Rattle.format.specs.Listing.{decimal, side, hex, tagText, responseText}
-use mathlib.Core.List.{[], _∷_, _++_, append-assoc}
-use mathlib.Core.Path.{refl, sym, ap}
-use lib.ListN.{length}
-use Prim.Native.Nat.{_+_}
-use Rattle.log_text.proofs.Digits.{decimal-few, hex-long}
 use native.Mathlib.Omega.{arith}
 use borrow.Author.Needs.{needs}
+use Prim.Native.Nat.{_+_}
+use mathlib.Core.List.{[], _∷_, _++_, append-assoc}
+use lib.ListN.{length}
+use Rattle.format.specs.Listing.{decimal}
+use Rattle.log_text.specs.Text.{named}
+use Rattle.log_text.proofs.Digits.{decimal-few}
+use Rattle.log_text.proofs.Pieces.{named-few}
+use Rattle.log_text.proofs.Adding.{Short, adds-same, adds-then, short, short-then, short-room}
 use Rattle.log_text.proofs.channelled.Statement.{statement}
 use Rattle.log_text.proofs.channelled.Tie as tie
-use Rattle.log_text.proofs.channelled.Reads as reads
-use Rattle.log_text.proofs.channelled.Lts as lts
-use Rattle.log_text.proofs.number.Reads as number-reads
-use Rattle.log_text.proofs.put.Reads as put-reads
-use Rattle.log_text.proofs.start.Reads as start-reads
+
+-- ---- the places behind the calls
+
+abbrev start : tie.After-start → tie.Start
+start c = c .before .before .before
+
+abbrev first : tie.After-number → tie.After-start
+first c = c .before .before .before .before
+
+-- ---- the text so far, behind each call
+
+so-far-1 : (c : tie.After-start) → let a = start c .args in
+    Short (named (a .a) (a .b) (a .c) (a .bus)) (a .out .now) (a .at) (c .start .last .0) (c .start .result) 25
+so-far-1 c = let a = start c .args in short 25 (c .start .ensures) (named-few (a .a) (a .b) (a .c) (a .bus))
+
+so-far-2 : (c : tie.After-number) → let a = start (first c) .args in
+    Short (named (a .a) (a .b) (a .c) (a .bus) ++ decimal (a .channel + 1)) (a .out .now) (a .at) (c .number .last .0) (c .number .result) 45
+so-far-2 c = short-then 20 (so-far-1 (first c)) (c .number .ensures) (decimal-few (start (first c) .args .channel + 1))
+
+-- ---- the needs
 
 start-requires : tie.Need-start-requires
 start-requires c κs = search needs
@@ -24,17 +38,23 @@ add-number : tie.Need-add-number
 add-number c = search needs
 
 number-requires : tie.Need-number-requires
-number-requires c κs = short-room (length (decimal ((c .before .before .before .before .before .before .args .channel) + 1))) (short 25 (c .before .before .before .start .ensures) (named-few (c .before .before .before .before .before .before .args .a) (c .before .before .before .before .before .before .args .b) (c .before .before .before .before .before .before .args .c) (c .before .before .before .before .before .before .args .bus))) (omega (arith, (decimal-few ((c .before .before .before .before .before .before .args .channel) + 1))))
+number-requires c κs =
+    let p = c .before .before .before in
+    let n = start p .args .channel + 1 in
+    short-room (length (decimal n)) (so-far-1 p) (omega (arith, decimal-few n))
 
 put-requires : tie.Need-put-requires
-put-requires c κs = omega (arith, short-room 1 (short-then 20 (short 25 (c .before .before .before .before .before .before .before .start .ensures) (named-few (c .before .before .before .before .before .before .before .before .before .before .args .a) (c .before .before .before .before .before .before .before .before .before .before .args .b) (c .before .before .before .before .before .before .before .before .before .before .args .c) (c .before .before .before .before .before .before .before .before .before .before .args .bus))) (c .before .before .before .number .ensures) (decimal-few ((c .before .before .before .before .before .before .before .before .before .before .args .channel) + 1))) (omega arith))
+put-requires c κs = omega (arith, short-room 1 (so-far-2 (c .before .before .before)) (omega arith))
 
 same-length : tie.Need-same-length
 same-length c = search needs
 
 returns : tie.Need-returns
-returns c = adds-same (adds-then (adds-then (c .before .before .before .before .before .before .before .before .before .before .start .ensures) (c .before .before .before .before .before .before .number .ensures)) (c .before .before .put .ensures)) (append-assoc (named (c .before .before .before .before .before .before .before .before .before .before .before .before .before .args .a) (c .before .before .before .before .before .before .before .before .before .before .before .before .before .args .b) (c .before .before .before .before .before .before .before .before .before .before .before .before .before .args .c) (c .before .before .before .before .before .before .before .before .before .before .before .before .before .args .bus)) (decimal ((c .before .before .before .before .before .before .before .before .before .before .before .before .before .args .channel) + 1)) (32 ∷ []))
+returns c =
+    let p = c .before .before in
+    let t = p .before .before .before .before in
+    let a = start (first t) .args in
+    adds-same (adds-then (so-far-2 t .adds) (p .put .ensures)) (append-assoc (named (a .a) (a .b) (a .c) (a .bus)) (decimal (a .channel + 1)) (32 ∷ []))
 
 pub channelled-spec : {M : Type 1} → statement M
-channelled-spec =
-    tie.close (tie.spec start-requires add-number number-requires put-requires same-length returns)
+channelled-spec = tie.close (tie.spec start-requires add-number number-requires put-requires same-length returns)

@@ -1,22 +1,32 @@
-use Rattle.log_text.proofs.Pieces.{named-few, sided-few, channelled-few, tag-few, response-few}
-use Rattle.log_text.proofs.Adding.{adds-none, adds-room, adds-same, adds-then, short, short-then, short-room}
-use Rattle.log_text.specs.Text.{named}
-use Rattle.format.specs.Listing.{decimal, side, hex, tagText, responseText}
-use mathlib.Core.List.{[], _∷_, _++_, append-assoc}
-use mathlib.Core.Path.{refl, sym, ap}
-use lib.ListN.{length}
-use Prim.Native.Nat.{_+_}
-use Rattle.log_text.proofs.Digits.{decimal-few, hex-long}
 use native.Mathlib.Omega.{arith}
 use borrow.Author.Needs.{needs}
+use mathlib.Core.List.{[], _∷_, _++_, append-assoc}
+use Rattle.format.specs.Listing.{side, hex}
+use Rattle.log_text.specs.Text.{named}
+use Rattle.log_text.proofs.Pieces.{named-few}
+use Rattle.log_text.proofs.Adding.{Short, adds-same, adds-then, short, short-then, short-room}
 use Rattle.log_text.proofs.sided.Statement.{statement}
 use Rattle.log_text.proofs.sided.Tie as tie
-use Rattle.log_text.proofs.sided.Reads as reads
-use Rattle.log_text.proofs.sided.Lts as lts
-use Rattle.log_text.proofs.hex4.Reads as hex4-reads
-use Rattle.log_text.proofs.side_letter.Reads as side-letter-reads
-use Rattle.log_text.proofs.start.Reads as start-reads
-use Rattle.log_text.proofs.two.Reads as two-reads
+
+-- ---- the places behind the calls
+
+abbrev start : tie.After-start → tie.Start
+start c = c .before .before .before
+
+abbrev first : tie.After-two → tie.After-start
+first c = c .before .before .before .before .before
+
+-- ---- the text so far, behind each call
+
+so-far-1 : (c : tie.After-start) → let a = start c .args in
+    Short (named (a .a) (a .b) (a .c) (a .bus)) (a .out .now) (a .at) (c .start .last .0) (c .start .result) 25
+so-far-1 c = let a = start c .args in short 25 (c .start .ensures) (named-few (a .a) (a .b) (a .c) (a .bus))
+
+so-far-2 : (c : tie.After-two) → let a = start (first c) .args in
+    Short (named (a .a) (a .b) (a .c) (a .bus) ++ (c .before .side-letter .result ∷ 32 ∷ [])) (a .out .now) (a .at) (c .two .last .0) (c .two .result) 27
+so-far-2 c = short-then 2 (so-far-1 (first c)) (c .two .ensures) (omega arith)
+
+-- ---- the needs
 
 start-requires : tie.Need-start-requires
 start-requires c κs = search needs
@@ -25,18 +35,21 @@ side-letter-requires : tie.Need-side-letter-requires
 side-letter-requires c κs = search needs
 
 two-requires : tie.Need-two-requires
-two-requires c κs = short-room 2 (short 25 (c .before .before .before .before .start .ensures) (named-few (c .before .before .before .before .before .before .before .args .a) (c .before .before .before .before .before .before .before .args .b) (c .before .before .before .before .before .before .before .args .c) (c .before .before .before .before .before .before .before .args .bus))) (omega arith)
+two-requires c κs = short-room 2 (so-far-1 (c .before .before .before .before)) (omega arith)
 
 hex4-requires : tie.Need-hex4-requires
-hex4-requires c κs = short-room 4 (short-then 2 (short 25 (c .before .before .before .before .before .before .before .before .start .ensures) (named-few (c .before .before .before .before .before .before .before .before .before .before .before .args .a) (c .before .before .before .before .before .before .before .before .before .before .before .args .b) (c .before .before .before .before .before .before .before .before .before .before .before .args .c) (c .before .before .before .before .before .before .before .before .before .before .before .args .bus))) (c .before .before .before .two .ensures) (omega arith)) (omega arith)
+hex4-requires c κs = short-room 4 (so-far-2 (c .before .before .before)) (omega arith)
 
 same-length : tie.Need-same-length
 same-length c = search needs
 
 returns : tie.Need-returns
-returns c = adds-same (adds-then (adds-then (c .before .before .before .before .before .before .before .before .before .before .before .start .ensures) (c .before .before .before .before .before .before .two .ensures)) (c .before .before .hex4 .ensures)) (rw (← (c .before .before .before .before .before .before .before .side-letter .ensures)) (append-assoc (named (c .before .before .before .before .before .before .before .before .before .before .before .before .before .before .args .a) (c .before .before .before .before .before .before .before .before .before .before .before .before .before .before .args .b) (c .before .before .before .before .before .before .before .before .before .before .before .before .before .before .args .c) (c .before .before .before .before .before .before .before .before .before .before .before .before .before .before .args .bus)) (_ ∷ 32 ∷ []) (hex 4 (c .before .before .before .before .before .before .before .before .before .before .before .before .before .before .args .word))))
+returns c =
+    let p = c .before .before in
+    let t = p .before .before .before .before in
+    let a = start (first t) .args in
+    adds-same (adds-then (so-far-2 t .adds) (p .hex4 .ensures))
+    (rw (← (t .before .side-letter .ensures)) (append-assoc (named (a .a) (a .b) (a .c) (a .bus)) (_ ∷ 32 ∷ []) (hex 4 (a .word))))
 
 pub sided-spec : {M : Type 1} → statement M
-sided-spec =
-    tie.close
-    (tie.spec start-requires side-letter-requires two-requires hex4-requires same-length returns)
+sided-spec = tie.close (tie.spec start-requires side-letter-requires two-requires hex4-requires same-length returns)

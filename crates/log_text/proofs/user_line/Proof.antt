@@ -1,22 +1,40 @@
-use Rattle.log_text.proofs.Pieces.{named-few, sided-few, channelled-few, tag-few, response-few, user-is}
-use Rattle.log_text.proofs.Adding.{adds-none, adds-room, adds-same, adds-then, short, short-then, short-room}
-use Rattle.format.specs.Listing.{decimal, side, hex, tagText, responseText}
-use mathlib.Core.List.{[], _∷_, _++_, append-assoc}
-use mathlib.Core.Path.{refl, sym, ap}
-use lib.ListN.{length}
-use Prim.Native.Nat.{_+_}
-use Rattle.log_text.proofs.Digits.{decimal-few, hex-long}
 use native.Mathlib.Omega.{arith}
 use borrow.Author.Needs.{needs}
+use mathlib.Core.List.{[], _∷_, _++_}
+use Rattle.format.specs.Listing.{hex}
+use Rattle.log_text.specs.Text.{named}
+use Rattle.log_text.proofs.Digits.{hex-long}
+use Rattle.log_text.proofs.Pieces.{named-few, user-is}
+use Rattle.log_text.proofs.Adding.{Short, adds-same, adds-then, short, short-then, short-room}
 use Rattle.log_text.proofs.user_line.Statement.{statement}
 use Rattle.log_text.proofs.user_line.Tie as tie
-use Rattle.log_text.proofs.user_line.Reads as reads
-use Rattle.log_text.proofs.user_line.Lts as lts
-use Rattle.log_text.proofs.hex4.Reads as hex4-reads
-use Rattle.log_text.proofs.put.Reads as put-reads
-use Rattle.log_text.proofs.start.Reads as start-reads
-use Rattle.log_text.proofs.two.Reads as two-reads
-use Rattle.log_text.proofs.user_label.Reads as user-label-reads
+
+-- ---- the places behind the calls
+
+abbrev start : tie.After-start → tie.Start
+start c = c .before .before .before
+
+abbrev first : tie.After-two → tie.After-start
+first c = c .before .before .before .before .before
+
+abbrev second : tie.After-hex4 → tie.After-two
+second c = c .before .before .before .before
+
+-- ---- the text so far, behind each call
+
+so-far-1 : (c : tie.After-start) → let a = start c .args in
+    Short (named 117 115 114 (a .bus)) (a .out .now) (a .at) (c .start .last .0) (c .start .result) 25
+so-far-1 c = short 25 (c .start .ensures) (named-few 117 115 114 (start c .args .bus))
+
+so-far-2 : (c : tie.After-two) → let a = start (first c) .args in
+    Short (named 117 115 114 (a .bus) ++ (c .before .user-label .result ∷ 32 ∷ [])) (a .out .now) (a .at) (c .two .last .0) (c .two .result) 27
+so-far-2 c = short-then 2 (so-far-1 (first c)) (c .two .ensures) (omega arith)
+
+so-far-3 : (c : tie.After-hex4) → let a = start (first (second c)) .args in
+    Short ((named 117 115 114 (a .bus) ++ (second c .before .user-label .result ∷ 32 ∷ [])) ++ hex 4 (a .word)) (a .out .now) (a .at) (c .hex4 .last .0) (c .hex4 .result) 31
+so-far-3 c = short-then 4 (so-far-2 (second c)) (c .hex4 .ensures) (omega (arith, hex-long 4 (start (first (second c)) .args .word)))
+
+-- ---- the needs
 
 start-requires : tie.Need-start-requires
 start-requires c κs = search needs
@@ -25,19 +43,23 @@ user-label-requires : tie.Need-user-label-requires
 user-label-requires c κs = search needs
 
 two-requires : tie.Need-two-requires
-two-requires c κs = short-room 2 (short 25 (c .before .before .before .before .start .ensures) (named-few 117 115 114 (c .before .before .before .before .before .before .before .args .bus))) (omega arith)
+two-requires c κs = short-room 2 (so-far-1 (c .before .before .before .before)) (omega arith)
 
 hex4-requires : tie.Need-hex4-requires
-hex4-requires c κs = short-room 4 (short-then 2 (short 25 (c .before .before .before .before .before .before .before .before .start .ensures) (named-few 117 115 114 (c .before .before .before .before .before .before .before .before .before .before .before .args .bus))) (c .before .before .before .two .ensures) (omega arith)) (omega arith)
+hex4-requires c κs = short-room 4 (so-far-2 (c .before .before .before)) (omega arith)
 
 put-requires : tie.Need-put-requires
-put-requires c κs = omega (arith, short-room 1 (short-then 4 (short-then 2 (short 25 (c .before .before .before .before .before .before .before .before .before .before .before .before .start .ensures) (named-few 117 115 114 (c .before .before .before .before .before .before .before .before .before .before .before .before .before .before .before .args .bus))) (c .before .before .before .before .before .before .before .two .ensures) (omega arith)) (c .before .before .before .hex4 .ensures) (omega (arith, hex-long 4 (c .before .before .before .before .before .before .before .before .before .before .before .before .before .before .before .args .word)))) (omega arith))
+put-requires c κs = omega (arith, short-room 1 (so-far-3 (c .before .before .before)) (omega arith))
 
 same-length : tie.Need-same-length
 same-length c = search needs
 
 returns : tie.Need-returns
-returns c = adds-same (adds-then (adds-then (adds-then (c .before .before .before .before .before .before .before .before .before .before .before .before .before .before .before .start .ensures) (c .before .before .before .before .before .before .before .before .before .before .two .ensures)) (c .before .before .before .before .before .before .hex4 .ensures)) (c .before .before .put .ensures)) (user-is (c .before .before .before .before .before .before .before .before .before .before .before .before .before .before .before .before .before .before .args .bus) (c .before .before .before .before .before .before .before .before .before .before .before .before .before .before .before .before .before .before .args .three) (c .before .before .before .before .before .before .before .before .before .before .before .before .before .before .before .before .before .before .args .word) _ (c .before .before .before .before .before .before .before .before .before .before .before .user-label .ensures))
+returns c =
+    let p = c .before .before in
+    let t = p .before .before .before .before in
+    let a = start (first (second t)) .args in
+    adds-same (adds-then (so-far-3 t .adds) (p .put .ensures)) (user-is (a .bus) (a .three) (a .word) _ (second t .before .user-label .ensures))
 
 pub user-line-spec : {M : Type 1} → statement M
 user-line-spec =
