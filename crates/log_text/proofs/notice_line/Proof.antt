@@ -1,36 +1,52 @@
-use Rattle.log_text.proofs.Pieces.{named-few, sided-few, channelled-few, tag-few, response-few, notice-is}
-use Rattle.log_text.proofs.Adding.{adds-none, adds-room, adds-same, adds-then, short, short-then, short-room}
-use Rattle.format.specs.Listing.{decimal, side, hex, tagText, responseText}
-use mathlib.Core.List.{[], _∷_, _++_, append-assoc}
-use mathlib.Core.Path.{refl, sym, ap}
-use lib.ListN.{length}
-use Prim.Native.Nat.{_+_}
-use Rattle.log_text.proofs.Digits.{decimal-few, hex-long}
 use native.Mathlib.Omega.{arith}
 use borrow.Author.Needs.{needs}
+use Prim.Native.Nat.{_+_}
+use mathlib.Core.List.{_++_}
+use Rattle.format.specs.Listing.{hex}
+use Rattle.log_text.proofs.Digits.{hex-long}
+use Rattle.log_text.proofs.Pieces.{channelled, channelled-few, notice-is}
+use Rattle.log_text.proofs.Adding.{Short, adds-same, adds-then, short, short-then, short-room}
 use Rattle.log_text.proofs.notice_line.Statement.{statement}
 use Rattle.log_text.proofs.notice_line.Tie as tie
-use Rattle.log_text.proofs.notice_line.Reads as reads
-use Rattle.log_text.proofs.notice_line.Lts as lts
-use Rattle.log_text.proofs.channelled.Reads as channelled-reads
-use Rattle.log_text.proofs.hex2.Reads as hex2-reads
-use Rattle.log_text.proofs.put.Reads as put-reads
+
+-- ---- the places behind the calls
+
+abbrev start : tie.After-channelled → tie.Start
+start c = c .before .before .before
+
+abbrev first : tie.After-hex2 → tie.After-channelled
+first c = c .before .before .before .before
+
+-- ---- the text so far, behind each call
+
+so-far-1 : (c : tie.After-channelled) → let a = start c .args in
+    Short (channelled 97 114 101 (a .bus) (a .channel)) (a .out .now) (a .at) (c .channelled .last .0) (c .channelled .result) 46
+so-far-1 c = let a = start c .args in short 46 (c .channelled .ensures) (channelled-few 97 114 101 (a .bus) (a .channel + 1))
+
+so-far-2 : (c : tie.After-hex2) → let a = start (first c) .args in
+    Short (channelled 97 114 101 (a .bus) (a .channel) ++ hex 2 (a .diagnostics)) (a .out .now) (a .at) (c .hex2 .last .0) (c .hex2 .result) 48
+so-far-2 c = short-then 2 (so-far-1 (first c)) (c .hex2 .ensures) (omega (arith, hex-long 2 (start (first c) .args .diagnostics)))
+
+-- ---- the needs
 
 channelled-requires : tie.Need-channelled-requires
 channelled-requires c κs = search needs
 
 hex2-requires : tie.Need-hex2-requires
-hex2-requires c κs = short-room 2 (short 46 (c .before .before .before .channelled .ensures) (channelled-few 97 114 101 (c .before .before .before .before .before .before .args .bus) ((c .before .before .before .before .before .before .args .channel) + 1))) (omega arith)
+hex2-requires c κs = short-room 2 (so-far-1 (c .before .before .before)) (omega arith)
 
 put-requires : tie.Need-put-requires
-put-requires c κs = omega (arith, short-room 1 (short-then 2 (short 46 (c .before .before .before .before .before .before .before .channelled .ensures) (channelled-few 97 114 101 (c .before .before .before .before .before .before .before .before .before .before .args .bus) ((c .before .before .before .before .before .before .before .before .before .before .args .channel) + 1))) (c .before .before .before .hex2 .ensures) (omega (arith, hex-long 2 (c .before .before .before .before .before .before .before .before .before .before .args .diagnostics)))) (omega arith))
+put-requires c κs = omega (arith, short-room 1 (so-far-2 (c .before .before .before)) (omega arith))
 
 same-length : tie.Need-same-length
 same-length c = search needs
 
 returns : tie.Need-returns
-returns c = adds-same (adds-then (adds-then (c .before .before .before .before .before .before .before .before .before .before .channelled .ensures) (c .before .before .before .before .before .before .hex2 .ensures)) (c .before .before .put .ensures)) (notice-is (c .before .before .before .before .before .before .before .before .before .before .before .before .before .args .bus) (c .before .before .before .before .before .before .before .before .before .before .before .before .before .args .channel) (c .before .before .before .before .before .before .before .before .before .before .before .before .before .args .diagnostics))
+returns c =
+    let p = c .before .before in
+    let t = p .before .before .before .before in
+    let a = start (first t) .args in
+    adds-same (adds-then (so-far-2 t .adds) (p .put .ensures)) (notice-is (a .bus) (a .channel) (a .diagnostics))
 
 pub notice-line-spec : {M : Type 1} → statement M
-notice-line-spec =
-    tie.close (tie.spec channelled-requires hex2-requires put-requires same-length returns)
+notice-line-spec = tie.close (tie.spec channelled-requires hex2-requires put-requires same-length returns)

@@ -1,36 +1,52 @@
-use Rattle.log_text.proofs.Pieces.{named-few, sided-few, channelled-few, tag-few, response-few, overflow-is}
-use Rattle.log_text.proofs.Adding.{adds-none, adds-room, adds-same, adds-then, short, short-then, short-room}
-use Rattle.format.specs.Listing.{decimal, side, hex, tagText, responseText}
-use mathlib.Core.List.{[], _∷_, _++_, append-assoc}
-use mathlib.Core.Path.{refl, sym, ap}
-use lib.ListN.{length}
-use Prim.Native.Nat.{_+_}
-use Rattle.log_text.proofs.Digits.{decimal-few, hex-long}
 use native.Mathlib.Omega.{arith}
 use borrow.Author.Needs.{needs}
+use mathlib.Core.List.{_++_}
+use Rattle.format.specs.Listing.{hex}
+use Rattle.log_text.specs.Text.{named}
+use Rattle.log_text.proofs.Digits.{hex-long}
+use Rattle.log_text.proofs.Pieces.{named-few, overflow-is}
+use Rattle.log_text.proofs.Adding.{Short, adds-same, adds-then, short, short-then, short-room}
 use Rattle.log_text.proofs.overflow_line.Statement.{statement}
 use Rattle.log_text.proofs.overflow_line.Tie as tie
-use Rattle.log_text.proofs.overflow_line.Reads as reads
-use Rattle.log_text.proofs.overflow_line.Lts as lts
-use Rattle.log_text.proofs.hex4.Reads as hex4-reads
-use Rattle.log_text.proofs.put.Reads as put-reads
-use Rattle.log_text.proofs.start.Reads as start-reads
+
+-- ---- the places behind the calls
+
+abbrev start : tie.After-start → tie.Start
+start c = c .before .before .before
+
+abbrev first : tie.After-hex4 → tie.After-start
+first c = c .before .before .before .before
+
+-- ---- the text so far, behind each call
+
+so-far-1 : (c : tie.After-start) → let a = start c .args in
+    Short (named 111 118 102 (a .bus)) (a .out .now) (a .at) (c .start .last .0) (c .start .result) 25
+so-far-1 c = let a = start c .args in short 25 (c .start .ensures) (named-few 111 118 102 (a .bus))
+
+so-far-2 : (c : tie.After-hex4) → let a = start (first c) .args in
+    Short (named 111 118 102 (a .bus) ++ hex 4 (a .word)) (a .out .now) (a .at) (c .hex4 .last .0) (c .hex4 .result) 29
+so-far-2 c = short-then 4 (so-far-1 (first c)) (c .hex4 .ensures) (omega (arith, hex-long 4 (start (first c) .args .word)))
+
+-- ---- the needs
 
 start-requires : tie.Need-start-requires
 start-requires c κs = search needs
 
 hex4-requires : tie.Need-hex4-requires
-hex4-requires c κs = short-room 4 (short 25 (c .before .before .before .start .ensures) (named-few 111 118 102 (c .before .before .before .before .before .before .args .bus))) (omega arith)
+hex4-requires c κs = short-room 4 (so-far-1 (c .before .before .before)) (omega arith)
 
 put-requires : tie.Need-put-requires
-put-requires c κs = omega (arith, short-room 1 (short-then 4 (short 25 (c .before .before .before .before .before .before .before .start .ensures) (named-few 111 118 102 (c .before .before .before .before .before .before .before .before .before .before .args .bus))) (c .before .before .before .hex4 .ensures) (omega (arith, hex-long 4 (c .before .before .before .before .before .before .before .before .before .before .args .word)))) (omega arith))
+put-requires c κs = omega (arith, short-room 1 (so-far-2 (c .before .before .before)) (omega arith))
 
 same-length : tie.Need-same-length
 same-length c = search needs
 
 returns : tie.Need-returns
-returns c = adds-same (adds-then (adds-then (c .before .before .before .before .before .before .before .before .before .before .start .ensures) (c .before .before .before .before .before .before .hex4 .ensures)) (c .before .before .put .ensures)) (overflow-is (c .before .before .before .before .before .before .before .before .before .before .before .before .before .args .bus) (c .before .before .before .before .before .before .before .before .before .before .before .before .before .args .word))
+returns c =
+    let p = c .before .before in
+    let t = p .before .before .before .before in
+    let a = start (first t) .args in
+    adds-same (adds-then (so-far-2 t .adds) (p .put .ensures)) (overflow-is (a .bus) (a .word))
 
 pub overflow-line-spec : {M : Type 1} → statement M
-overflow-line-spec =
-    tie.close (tie.spec start-requires hex4-requires put-requires same-length returns)
+overflow-line-spec = tie.close (tie.spec start-requires hex4-requires put-requires same-length returns)
