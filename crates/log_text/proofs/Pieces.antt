@@ -14,8 +14,9 @@ use Rattle.format.specs.declared.Response.{Response}
 use Rattle.format.specs.declared.Response.the-variants.{Untimed, After}
 use Rattle.format.specs.declared.Item.{Item}
 use Rattle.format.specs.declared.Item.the-variants.{Command, Status, Data, BusError, Arinc, Notice, User, Overflow}
-use Rattle.log_text.specs.Text.{named}
+use Rattle.log_text.specs.Text.{Adds, named}
 use Rattle.log_text.proofs.Digits.{decimal-few, hex-long}
+use Rattle.log_text.proofs.Adding.{Short, short}
 
 pub named-few : (a b c bus : ℕ) → length (named a b c bus) ≤ 25
 named-few a b c bus = rw (length-append (decimal bus) (32 ∷ [])) (omega (arith, decimal-few bus))
@@ -48,6 +49,20 @@ sided a b c bus s word = named a b c bus ++ (side s ++ (32 ∷ hex 4 word))
 
 abbrev pub channelled : ℕ → ℕ → ℕ → ℕ → ℕ → List ℕ
 channelled a b c bus n = named a b c bus ++ (decimal (n + 1) ++ (32 ∷ []))
+
+-- the front of a line, put into the room
+
+pub named-short : {d x : List ℕ} {i j : ℕ} (a b c bus : ℕ) → Adds (named a b c bus) d i x j → Short (named a b c bus) d i x j 25
+named-short a b c bus f = short 25 f (named-few a b c bus)
+
+pub sided-short : {d x : List ℕ} {i j : ℕ} (a b c bus : ℕ) (s : Bool) (word : ℕ)
+    → Adds (sided a b c bus s word) d i x j → Short (sided a b c bus s word) d i x j 31
+sided-short a b c bus s word f = short 31 f (sided-few a b c bus s word)
+
+pub channelled-short : {d x : List ℕ} {i j : ℕ} (a b c bus n : ℕ) → Adds (channelled a b c bus n) d i x j → Short (channelled a b c bus n) d i x j 46
+channelled-short a b c bus n f = short 46 f (channelled-few a b c bus (n + 1))
+
+-- a line of its pieces is the item's line
 
 pub command-is : (bus : ℕ) (b : Bool) (t : Tag) (word : ℕ) → (sided 99 109 100 bus b word ++ tagText t) ++ (10 ∷ []) ≡ itemLine (Command bus b t word)
 unfolding itemLine text list

@@ -93,7 +93,9 @@ number-put-requires-2 : (t : ℕ) → number-lts.Need-put-requires-2 (
   number-below t,
   number.Post,
 ) (number-at t) number.Post
-number-put-requires-2 t c κs = omega (arith, adds-room (c .before .before .before .number .ensures) 1 (omega (arith, decimal-long (c .before .before .before .before .before .before .before .args .n) (omega arith) (omega arith))))
+number-put-requires-2 t c κs =
+    let tens = c .before .before .before in
+    omega (arith, adds-room (tens .number .ensures) 1 (omega (arith, decimal-long (tens .before .before .before .before .args .n) (omega arith) (omega arith))))
 
 number-same-length-2 : (t : ℕ) → number-lts.Need-same-length-2 (
   put-reads.Asked,
@@ -109,7 +111,11 @@ number-returns-2 : (t : ℕ) → number-lts.Need-returns-2 (
   number-below t,
   number.Post,
 ) (number-at t) number.Post
-number-returns-2 t c = adds-same (adds-then (c .before .before .before .before .before .before .number .ensures) (c .before .before .put2 .ensures)) (sym (decimal-more (c .before .before .before .before .before .before .before .before .before .before .args .n) (omega arith) (omega arith)))
+number-returns-2 t c =
+    let last = c .before .before in
+    let tens = last .before .before .before .before in
+    adds-same (adds-then (tens .number .ensures) (last .put2 .ensures))
+    (sym (decimal-more (tens .before .before .before .before .args .n) (omega arith) (omega arith)))
 
 pub +number-spec : {M : Type 1} → statement M
 +number-spec = close μ-number λ t. number-lts.spec (

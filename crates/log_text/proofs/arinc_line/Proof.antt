@@ -1,11 +1,10 @@
 use native.Mathlib.Omega.{arith}
 use borrow.Author.Needs.{needs}
-use Prim.Native.Nat.{_+_}
 use mathlib.Core.List.{_++_}
 use Rattle.format.specs.Listing.{hex, tagText}
 use Rattle.log_text.proofs.Digits.{hex-long}
-use Rattle.log_text.proofs.Pieces.{channelled, channelled-few, tag-few, arinc-is}
-use Rattle.log_text.proofs.Adding.{Short, adds-same, adds-then, short, short-then, short-room}
+use Rattle.log_text.proofs.Pieces.{channelled, channelled-short, tag-few, arinc-is}
+use Rattle.log_text.proofs.Adding.{Short, adds-same, adds-then, short-then, short-room}
 use Rattle.log_text.proofs.arinc_line.Statement.{statement}
 use Rattle.log_text.proofs.arinc_line.Tie as tie
 
@@ -24,14 +23,15 @@ second c = c .before .before .before .before
 
 so-far-1 : (c : tie.After-channelled) → let a = start c .args in
     Short (channelled 97 114 110 (a .bus) (a .channel)) (a .out .now) (a .at) (c .channelled .last .0) (c .channelled .result) 46
-so-far-1 c = let a = start c .args in short 46 (c .channelled .ensures) (channelled-few 97 114 110 (a .bus) (a .channel + 1))
+so-far-1 c = let a = start c .args in channelled-short 97 114 110 (a .bus) (a .channel) (c .channelled .ensures)
 
 so-far-2 : (c : tie.After-hex8) → let a = start (first c) .args in
     Short (channelled 97 114 110 (a .bus) (a .channel) ++ hex 8 (a .word)) (a .out .now) (a .at) (c .hex8 .last .0) (c .hex8 .result) 54
 so-far-2 c = short-then 8 (so-far-1 (first c)) (c .hex8 .ensures) (omega (arith, hex-long 8 (start (first c) .args .word)))
 
 so-far-3 : (c : tie.After-tag-text) → let a = start (first (second c)) .args in
-    Short ((channelled 97 114 110 (a .bus) (a .channel) ++ hex 8 (a .word)) ++ tagText (a .tag)) (a .out .now) (a .at) (c .tag-text .last .0) (c .tag-text .result) 78
+    Short ((channelled 97 114 110 (a .bus) (a .channel) ++ hex 8 (a .word)) ++ tagText (a .tag))
+    (a .out .now) (a .at) (c .tag-text .last .0) (c .tag-text .result) 78
 so-far-3 c = short-then 24 (so-far-2 (second c)) (c .tag-text .ensures) (tag-few (start (first (second c)) .args .tag))
 
 -- ---- the needs

@@ -6,8 +6,8 @@ use lib.ListN.{length}
 use Rattle.format.specs.Listing.{decimal}
 use Rattle.log_text.specs.Text.{named}
 use Rattle.log_text.proofs.Digits.{decimal-few}
-use Rattle.log_text.proofs.Pieces.{named-few}
-use Rattle.log_text.proofs.Adding.{Short, adds-same, adds-then, short, short-then, short-room}
+use Rattle.log_text.proofs.Pieces.{named-short}
+use Rattle.log_text.proofs.Adding.{Short, adds-same, adds-then, short-then, short-room}
 use Rattle.log_text.proofs.channelled.Statement.{statement}
 use Rattle.log_text.proofs.channelled.Tie as tie
 
@@ -23,7 +23,7 @@ first c = c .before .before .before .before
 
 so-far-1 : (c : tie.After-start) → let a = start c .args in
     Short (named (a .a) (a .b) (a .c) (a .bus)) (a .out .now) (a .at) (c .start .last .0) (c .start .result) 25
-so-far-1 c = let a = start c .args in short 25 (c .start .ensures) (named-few (a .a) (a .b) (a .c) (a .bus))
+so-far-1 c = let a = start c .args in named-short (a .a) (a .b) (a .c) (a .bus) (c .start .ensures)
 
 so-far-2 : (c : tie.After-number) → let a = start (first c) .args in
     Short (named (a .a) (a .b) (a .c) (a .bus) ++ decimal (a .channel + 1)) (a .out .now) (a .at) (c .number .last .0) (c .number .result) 45

@@ -2,8 +2,8 @@ use native.Mathlib.Omega.{arith}
 use borrow.Author.Needs.{needs}
 use mathlib.Core.List.{_++_}
 use Rattle.format.specs.Listing.{tagText}
-use Rattle.log_text.proofs.Pieces.{sided, sided-few, tag-few, command-is}
-use Rattle.log_text.proofs.Adding.{Short, adds-same, adds-then, short, short-then, short-room}
+use Rattle.log_text.proofs.Pieces.{sided, sided-short, tag-few, command-is}
+use Rattle.log_text.proofs.Adding.{Short, adds-same, adds-then, short-then, short-room}
 use Rattle.log_text.proofs.command_line.Statement.{statement}
 use Rattle.log_text.proofs.command_line.Tie as tie
 
@@ -19,7 +19,7 @@ first c = c .before .before .before .before
 
 so-far-1 : (c : tie.After-sided) → let a = start c .args in
     Short (sided 99 109 100 (a .bus) (a .b) (a .word)) (a .out .now) (a .at) (c .sided .last .0) (c .sided .result) 31
-so-far-1 c = let a = start c .args in short 31 (c .sided .ensures) (sided-few 99 109 100 (a .bus) (a .b) (a .word))
+so-far-1 c = let a = start c .args in sided-short 99 109 100 (a .bus) (a .b) (a .word) (c .sided .ensures)
 
 so-far-2 : (c : tie.After-tag-text) → let a = start (first c) .args in
     Short (sided 99 109 100 (a .bus) (a .b) (a .word) ++ tagText (a .tag)) (a .out .now) (a .at) (c .tag-text .last .0) (c .tag-text .result) 55

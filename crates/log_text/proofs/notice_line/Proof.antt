@@ -1,11 +1,10 @@
 use native.Mathlib.Omega.{arith}
 use borrow.Author.Needs.{needs}
-use Prim.Native.Nat.{_+_}
 use mathlib.Core.List.{_++_}
 use Rattle.format.specs.Listing.{hex}
 use Rattle.log_text.proofs.Digits.{hex-long}
-use Rattle.log_text.proofs.Pieces.{channelled, channelled-few, notice-is}
-use Rattle.log_text.proofs.Adding.{Short, adds-same, adds-then, short, short-then, short-room}
+use Rattle.log_text.proofs.Pieces.{channelled, channelled-short, notice-is}
+use Rattle.log_text.proofs.Adding.{Short, adds-same, adds-then, short-then, short-room}
 use Rattle.log_text.proofs.notice_line.Statement.{statement}
 use Rattle.log_text.proofs.notice_line.Tie as tie
 
@@ -21,7 +20,7 @@ first c = c .before .before .before .before
 
 so-far-1 : (c : tie.After-channelled) → let a = start c .args in
     Short (channelled 97 114 101 (a .bus) (a .channel)) (a .out .now) (a .at) (c .channelled .last .0) (c .channelled .result) 46
-so-far-1 c = let a = start c .args in short 46 (c .channelled .ensures) (channelled-few 97 114 101 (a .bus) (a .channel + 1))
+so-far-1 c = let a = start c .args in channelled-short 97 114 101 (a .bus) (a .channel) (c .channelled .ensures)
 
 so-far-2 : (c : tie.After-hex2) → let a = start (first c) .args in
     Short (channelled 97 114 101 (a .bus) (a .channel) ++ hex 2 (a .diagnostics)) (a .out .now) (a .at) (c .hex2 .last .0) (c .hex2 .result) 48

@@ -4,8 +4,8 @@ use mathlib.Core.List.{_++_}
 use Rattle.format.specs.Listing.{hex}
 use Rattle.log_text.specs.Text.{named}
 use Rattle.log_text.proofs.Digits.{hex-long}
-use Rattle.log_text.proofs.Pieces.{named-few, overflow-is}
-use Rattle.log_text.proofs.Adding.{Short, adds-same, adds-then, short, short-then, short-room}
+use Rattle.log_text.proofs.Pieces.{named-short, overflow-is}
+use Rattle.log_text.proofs.Adding.{Short, adds-same, adds-then, short-then, short-room}
 use Rattle.log_text.proofs.overflow_line.Statement.{statement}
 use Rattle.log_text.proofs.overflow_line.Tie as tie
 
@@ -21,7 +21,7 @@ first c = c .before .before .before .before
 
 so-far-1 : (c : tie.After-start) → let a = start c .args in
     Short (named 111 118 102 (a .bus)) (a .out .now) (a .at) (c .start .last .0) (c .start .result) 25
-so-far-1 c = let a = start c .args in short 25 (c .start .ensures) (named-few 111 118 102 (a .bus))
+so-far-1 c = let a = start c .args in named-short 111 118 102 (a .bus) (c .start .ensures)
 
 so-far-2 : (c : tie.After-hex4) → let a = start (first c) .args in
     Short (named 111 118 102 (a .bus) ++ hex 4 (a .word)) (a .out .now) (a .at) (c .hex4 .last .0) (c .hex4 .result) 29

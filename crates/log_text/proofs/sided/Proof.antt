@@ -3,8 +3,8 @@ use borrow.Author.Needs.{needs}
 use mathlib.Core.List.{[], _∷_, _++_, append-assoc}
 use Rattle.format.specs.Listing.{side, hex}
 use Rattle.log_text.specs.Text.{named}
-use Rattle.log_text.proofs.Pieces.{named-few}
-use Rattle.log_text.proofs.Adding.{Short, adds-same, adds-then, short, short-then, short-room}
+use Rattle.log_text.proofs.Pieces.{named-short}
+use Rattle.log_text.proofs.Adding.{Short, adds-same, adds-then, short-then, short-room}
 use Rattle.log_text.proofs.sided.Statement.{statement}
 use Rattle.log_text.proofs.sided.Tie as tie
 
@@ -20,7 +20,7 @@ first c = c .before .before .before .before .before
 
 so-far-1 : (c : tie.After-start) → let a = start c .args in
     Short (named (a .a) (a .b) (a .c) (a .bus)) (a .out .now) (a .at) (c .start .last .0) (c .start .result) 25
-so-far-1 c = let a = start c .args in short 25 (c .start .ensures) (named-few (a .a) (a .b) (a .c) (a .bus))
+so-far-1 c = let a = start c .args in named-short (a .a) (a .b) (a .c) (a .bus) (c .start .ensures)
 
 so-far-2 : (c : tie.After-two) → let a = start (first c) .args in
     Short (named (a .a) (a .b) (a .c) (a .bus) ++ (c .before .side-letter .result ∷ 32 ∷ [])) (a .out .now) (a .at) (c .two .last .0) (c .two .result) 27

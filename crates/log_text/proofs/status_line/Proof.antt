@@ -2,8 +2,8 @@ use native.Mathlib.Omega.{arith}
 use borrow.Author.Needs.{needs}
 use mathlib.Core.List.{_++_}
 use Rattle.format.specs.Listing.{responseText}
-use Rattle.log_text.proofs.Pieces.{sided, sided-few, response-few, status-is}
-use Rattle.log_text.proofs.Adding.{Short, adds-same, adds-then, short, short-then, short-room}
+use Rattle.log_text.proofs.Pieces.{sided, sided-short, response-few, status-is}
+use Rattle.log_text.proofs.Adding.{Short, adds-same, adds-then, short-then, short-room}
 use Rattle.log_text.proofs.status_line.Statement.{statement}
 use Rattle.log_text.proofs.status_line.Tie as tie
 
@@ -19,7 +19,7 @@ first c = c .before .before .before .before
 
 so-far-1 : (c : tie.After-sided) → let a = start c .args in
     Short (sided 115 116 97 (a .bus) (a .b) (a .word)) (a .out .now) (a .at) (c .sided .last .0) (c .sided .result) 31
-so-far-1 c = let a = start c .args in short 31 (c .sided .ensures) (sided-few 115 116 97 (a .bus) (a .b) (a .word))
+so-far-1 c = let a = start c .args in sided-short 115 116 97 (a .bus) (a .b) (a .word) (c .sided .ensures)
 
 so-far-2 : (c : tie.After-response-text) → let a = start (first c) .args in
     Short (sided 115 116 97 (a .bus) (a .b) (a .word) ++ responseText (a .response)) (a .out .now) (a .at) (c .response-text .last .0) (c .response-text .result) 57

@@ -4,8 +4,8 @@ use mathlib.Core.List.{[], _∷_, _++_}
 use Rattle.format.specs.Listing.{hex}
 use Rattle.log_text.specs.Text.{named}
 use Rattle.log_text.proofs.Digits.{hex-long}
-use Rattle.log_text.proofs.Pieces.{named-few, user-is}
-use Rattle.log_text.proofs.Adding.{Short, adds-same, adds-then, short, short-then, short-room}
+use Rattle.log_text.proofs.Pieces.{named-short, user-is}
+use Rattle.log_text.proofs.Adding.{Short, adds-same, adds-then, short-then, short-room}
 use Rattle.log_text.proofs.user_line.Statement.{statement}
 use Rattle.log_text.proofs.user_line.Tie as tie
 
@@ -24,14 +24,15 @@ second c = c .before .before .before .before
 
 so-far-1 : (c : tie.After-start) → let a = start c .args in
     Short (named 117 115 114 (a .bus)) (a .out .now) (a .at) (c .start .last .0) (c .start .result) 25
-so-far-1 c = short 25 (c .start .ensures) (named-few 117 115 114 (start c .args .bus))
+so-far-1 c = named-short 117 115 114 (start c .args .bus) (c .start .ensures)
 
 so-far-2 : (c : tie.After-two) → let a = start (first c) .args in
     Short (named 117 115 114 (a .bus) ++ (c .before .user-label .result ∷ 32 ∷ [])) (a .out .now) (a .at) (c .two .last .0) (c .two .result) 27
 so-far-2 c = short-then 2 (so-far-1 (first c)) (c .two .ensures) (omega arith)
 
 so-far-3 : (c : tie.After-hex4) → let a = start (first (second c)) .args in
-    Short ((named 117 115 114 (a .bus) ++ (second c .before .user-label .result ∷ 32 ∷ [])) ++ hex 4 (a .word)) (a .out .now) (a .at) (c .hex4 .last .0) (c .hex4 .result) 31
+    Short ((named 117 115 114 (a .bus) ++ (second c .before .user-label .result ∷ 32 ∷ [])) ++ hex 4 (a .word))
+    (a .out .now) (a .at) (c .hex4 .last .0) (c .hex4 .result) 31
 so-far-3 c = short-then 4 (so-far-2 (second c)) (c .hex4 .ensures) (omega (arith, hex-long 4 (start (first (second c)) .args .word)))
 
 -- ---- the needs
