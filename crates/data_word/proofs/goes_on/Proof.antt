@@ -7,6 +7,10 @@ use borrow.Author.Needs.{needs}
 use Rattle.data_word.proofs.goes_on.Statement.{statement}
 use Rattle.data_word.proofs.goes_on.Tie as tie
 
+-- a time word, but not the first
+abbrev start : tie.Else2 → tie.Start
+start c = c .before .before
+
 low-requires : tie.Need-low-requires
 low-requires c κs = search needs
 
@@ -23,13 +27,16 @@ holds-requires : tie.Need-holds-requires
 holds-requires c κs = search needs
 
 returns-2 : tie.Need-returns-2
-returns-2 c = λ kinds. c .holds .ensures ∙ tag-begins kinds _ _ _ (omega arith) (omega arith) _ (c .before .before .before .pre .1 .0) (c .before .if2 .taken) (c .before .before .before .pre .1 .1)
+returns-2 c =
+    λ kinds.
+    c .holds .ensures
+    ∙ tag-begins kinds _ _ _ (omega arith) (omega arith) _ (c .before .before .before .pre .1 .0) (c .before .if2 .taken) (c .before .before .before .pre .1 .1)
 
 mul-holds-2 : tie.Need-mul-holds-2
-mul-holds-2 c = let h = time-small _ (c .before .before .before .pre .1 .0) (omega arith) in omega arith
+mul-holds-2 c = let h = time-small _ (start (c .before) .pre .1 .0) (omega arith) in omega arith
 
 add-holds-2 : tie.Need-add-holds-2
-add-holds-2 c = let h = time-small _ (c .before .before .before .pre .1 .0) (omega arith) in omega arith
+add-holds-2 c = let h = time-small _ (start (c .before) .pre .1 .0) (omega arith) in omega arith
 
 mul-holds-3 : tie.Need-mul-holds-3
 mul-holds-3 c = search needs
@@ -41,7 +48,10 @@ holds-requires-2 : tie.Need-holds-requires-2
 holds-requires-2 c κs = search needs
 
 returns-3 : tie.Need-returns-3
-returns-3 c = λ kinds. c .holds2 .ensures ∙ tag-goes-on kinds _ _ _ (omega arith) (omega arith) _ (c .before .before .before .before .pre .1 .0) (c .before .if3 .taken) (c .before .before .before .before .pre .1 .1)
+returns-3 c =
+    λ kinds.
+    c .holds2 .ensures
+    ∙ tag-goes-on kinds _ _ _ (omega arith) (omega arith) _ (start (c .before .before) .pre .1 .0) (c .before .if3 .taken) (start (c .before .before) .pre .1 .1)
 
 cast-tag : tie.Need-cast-tag
 cast-tag c = search needs
@@ -59,22 +69,46 @@ ends-requires : tie.Need-ends-requires
 ends-requires c κs = search needs
 
 returns-4 : tie.Need-returns-4
-returns-4 c = λ kinds. c .ends .ensures ∙ rw (lt-ltb _ _ (c .before .if5 .taken)) at (tag-ends kinds _ _ _ (omega arith) (omega arith) _ (c .before .before .before .before .before .before .pre .1 .0) (c .before .before .before .before .before .if1 .left) (c .before .before .before .before .if2 .left) (c .before .before .before .if3 .left) (c .before .before .if4 .taken) (c .before .before .before .before .before .before .pre .1 .2) (c .before .before .before .before .before .before .pre .1 .1))
+returns-4 c =
+    let t = c .before .before in
+    let e = t .before in
+    let d = e .before in
+    let s = start d in
+    λ kinds.
+    c .ends .ensures
+    ∙ rw (lt-ltb _ _ (c .before .if5 .taken)) at (tag-ends kinds _ _ _ (omega arith) (omega arith) _ (s .pre .1 .0)
+    (d .before .if1 .left) (d .if2 .left) (e .if3 .left) (t .if4 .taken) (s .pre .1 .2) (s .pre .1 .1))
 
 add-ends-2 : tie.Need-add-ends-2
-add-ends-2 c = omega (arith, base-small _ (c .before .before .before .before .before .pre .1 .0))
+add-ends-2 c = omega (arith, base-small _ (start (c .before .before .before) .pre .1 .0))
 
 ends-requires-2 : tie.Need-ends-requires-2
 ends-requires-2 c κs = search needs
 
 returns-5 : tie.Need-returns-5
-returns-5 c = λ kinds. c .ends2 .ensures ∙ rw (le-ltb _ _ (c .before .if5 .left)) at (tag-ends kinds _ _ _ (omega arith) (omega arith) _ (c .before .before .before .before .before .before .pre .1 .0) (c .before .before .before .before .before .if1 .left) (c .before .before .before .before .if2 .left) (c .before .before .before .if3 .left) (c .before .before .if4 .taken) (c .before .before .before .before .before .before .pre .1 .2) (c .before .before .before .before .before .before .pre .1 .1))
+returns-5 c =
+    let t = c .before .before in
+    let e = t .before in
+    let d = e .before in
+    let s = start d in
+    λ kinds.
+    c .ends2 .ensures
+    ∙ rw (le-ltb _ _ (c .before .if5 .left)) at (tag-ends kinds _ _ _ (omega arith) (omega arith) _ (s .pre .1 .0)
+    (d .before .if1 .left) (d .if2 .left) (e .if3 .left) (t .if4 .taken) (s .pre .1 .2) (s .pre .1 .1))
 
 refused-requires : tie.Need-refused-requires
 refused-requires c κs = search needs
 
 returns-6 : tie.Need-returns-6
-returns-6 c = λ kinds. c .refused .ensures ∙ late-micro-is-bad kinds _ _ _ (omega arith) (omega arith) _ (c .before .before .before .before .before .pre .1 .0) (c .before .before .before .before .if1 .left) (c .before .before .before .if2 .left) (c .before .before .if3 .left) (c .before .if4 .left) (c .before .before .before .before .before .pre .1 .2) (c .before .before .before .before .before .pre .1 .1)
+returns-6 c =
+    let t = c .before in
+    let e = t .before in
+    let d = e .before in
+    let s = start d in
+    λ kinds.
+    c .refused .ensures
+    ∙ late-micro-is-bad kinds _ _ _ (omega arith) (omega arith) _ (s .pre .1 .0)
+    (d .before .if1 .left) (d .if2 .left) (e .if3 .left) (t .if4 .left) (s .pre .1 .2) (s .pre .1 .1)
 
 pub goes-on-spec : {M : Type 1} → statement M
 goes-on-spec =

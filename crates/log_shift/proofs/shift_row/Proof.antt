@@ -1,8 +1,15 @@
+use Prim.Native.Nat.{ℕ, _+_, _≤_}
+use mathlib.Core.List.{List}
+use lib.IntN.{ℤ}
+use lib.ListN.{length}
+use Rattle.format.specs.Group.{none, found}
+use Rattle.from_c.specs.Numbers.{timesFrom}
+use Rattle.log_rules.specs.Shift.{firstUnmoved}
+use Rattle.log_shift.specs.Shifted.{Moves, firstUnmovable}
 use Rattle.log_shift.proofs.Shifting.{row-all, row-beyond, row-late, row-short}
 use Rattle.log_shift.proofs.Row.{row-clear, row-fault}
-use Rattle.format.specs.Group.{found}
 use mir.Facts.{toZ-ofZ}
-use mathlib.Core.Path.{refl, ap, sym, _∙_}
+use mathlib.Core.Path.{_≡_, refl, ap, sym, _∙_}
 use native.Mathlib.Omega.{arith}
 use borrow.Author.Needs.{needs}
 use Rattle.log_shift.proofs.shift_row.Statement.{statement}
@@ -15,8 +22,57 @@ use Rattle.log_shift.proofs.first_unmovable.Reads as first-unmovable-re
 use Rattle.log_shift.proofs.move_times.Reads as move-times-reads
 use Rattle.log_write.proofs.Pen.close.Reads as close-reads
 
+-- ---- the places
+
+-- the times are looked through
+abbrev Looked : Type 0
+Looked = tie.After-first-unmovable
+
+abbrev start : Looked → tie.Start
+start c = c .before .before .before .before .before
+
+abbrev by : Looked → ℤ
+by c = start c .args .by
+
+abbrev times : Looked → List ℕ
+times c = start c .args .times .now
+
+first-is : (c : Looked) → c .first-unmovable .result ≡ firstUnmovable (by c) (timesFrom (times c))
+first-is c = rw (toZ-ofZ (start c .fits .by)) at (c .first-unmovable .ensures)
+
+late : (c : tie.Then1) → let l = c .before in firstUnmoved (by l) 0 (timesFrom (times l)) ≡ found 17 (l .first-unmovable .result)
+late c =
+    let l = c .before in
+    row-fault (by l) (times l) (rw (first-is l) at (c .if1 .taken)) ∙ ap (found 17) (sym (first-is l))
+
+clear : (c : tie.Else1) → let l = c .before in (firstUnmoved (by l) 0 (timesFrom (times l)) ≡ none) × Moves (by l) (times l)
+clear c = let l = c .before in row-clear (by l) (times l) (rw (first-is l) at (c .if1 .left))
+
+-- the log is closed
+abbrev Closed : Type 0
+Closed = tie.After-slice-known4
+
+abbrev close : Closed → tie.After-close
+close c = c .before .before
+
+abbrev movable : Closed → tie.Else1
+movable c = close c .before .before
+
+abbrev looked : Closed → Looked
+looked c = movable c .before
+
+-- and is not too long
+room : (c : tie.Else2) → close (c .before) .close .result + 7 ≤ length (start (looked (c .before)) .args .built .now)
+room c = let k = c .before in (rw (← (close k .close .ensures .0)) at (start (looked k) .pre .1 .1)) (c .if2 .left)
+
+-- it is copied
+abbrev fits-out : tie.After-copy → tie.Else3
+fits-out c = c .before .before .before
+
+-- ---- the needs
+
 first-unmovable-requires : tie.Need-first-unmovable-requires
-first-unmovable-requires c κs = rw (toZ-ofZ (c .before .before .before .before .fits .by)) (c .before .before .before .before .pre .0)
+first-unmovable-requires c κs = let s = c .before .before .before .before in rw (toZ-ofZ (s .fits .by)) (s .pre .0)
 
 refusal-requires : tie.Need-refusal-requires
 refusal-requires c κs = search needs
@@ -26,13 +82,11 @@ same-length c = search needs
 
 returns : tie.Need-returns
 returns c =
-    let by = c .before .before .before .before .before .before .before .args .by in
-    let s = c .before .before .before .before .before .before .before .args .times .now in
-    let u = rw (toZ-ofZ (c .before .before .before .before .before .before .before .fits .by)) at (c .before .before .first-unmovable .ensures) in
-    λ is w. row-late by is _ _ w s _ _ _ _ (row-fault by s (rw u at (c .before .if1 .taken)) ∙ ap (found 17) (sym u)) (c .refusal .ensures)
+    let l = c .before .before in
+    λ is w. row-late (by l) is _ _ w (times l) _ _ _ _ (late (c .before)) (c .refusal .ensures)
 
 close-requires : tie.Need-close-requires
-close-requires c κs = omega (arith, c .before .before .before .before .before .before .before .pre .1 .0)
+close-requires c κs = omega (arith, start (c .before .before) .pre .1 .0)
 
 refusal-requires-2 : tie.Need-refusal-requires-2
 refusal-requires-2 c κs = search needs
@@ -45,11 +99,10 @@ same-length-3 c = search needs
 
 returns-2 : tie.Need-returns-2
 returns-2 c =
-    let by = c .before .before .before .before .before .before .before .before .before .before .before .before .args .by in
-    let s = c .before .before .before .before .before .before .before .before .before .before .before .before .args .times .now in
-    let u = rw (toZ-ofZ (c .before .before .before .before .before .before .before .before .before .before .before .before .fits .by)) at (c .before .before .before .before .before .before .before .first-unmovable .ensures) in
-    let clear = row-clear by s (rw u at (c .before .before .before .before .before .before .if1 .left)) in
-    λ is w. row-beyond by is _ _ w s (clear .0) _ (c .before .before .before .before .close .ensures .0) _ _ _ (c .before .if2 .taken) (c .refusal2 .ensures)
+    let t = c .before in
+    let k = t .before in
+    let l = looked k in
+    λ is w. row-beyond (by l) is _ _ w (times l) (clear (movable k) .0) _ (close k .close .ensures .0) _ _ _ (t .if2 .taken) (c .refusal2 .ensures)
 
 refusal-requires-3 : tie.Need-refusal-requires-3
 refusal-requires-3 c κs = search needs
@@ -62,22 +115,22 @@ same-length-5 c = search needs
 
 returns-3 : tie.Need-returns-3
 returns-3 c =
-    let by = c .before .before .before .before .before .before .before .before .before .before .before .before .before .args .by in
-    let s = c .before .before .before .before .before .before .before .before .before .before .before .before .before .args .times .now in
-    let u = rw (toZ-ofZ (c .before .before .before .before .before .before .before .before .before .before .before .before .before .fits .by)) at (c .before .before .before .before .before .before .before .before .first-unmovable .ensures) in
-    let clear = row-clear by s (rw u at (c .before .before .before .before .before .before .before .if1 .left)) in
-    λ is w. row-short by is _ _ w s (clear .0) _ (c .before .before .before .before .before .close .ensures .0) _ _ _ (c .before .before .if2 .left) (c .before .if3 .taken) (c .refusal3 .ensures)
+    let t = c .before in
+    let e = t .before in
+    let k = e .before in
+    let l = looked k in
+    λ is w. row-short (by l) is _ _ w (times l) (clear (movable k) .0) _ (close k .close .ensures .0) _ _ _ (e .if2 .left) (t .if3 .taken) (c .refusal3 .ensures)
 
 copy-requires : tie.Need-copy-requires
-copy-requires c κs = let k = rw (← (c .before .before .before .before .before .before .close .ensures .0)) at (c .before .before .before .before .before .before .before .before .before .before .before .before .before .before .pre .1 .1) in (c .before .before .if3 .left, omega (arith, k (c .before .before .before .if2 .left), c .before .before .before .before .before .built .given))
+copy-requires c κs =
+    let e = c .before .before in
+    (e .if3 .left, omega (arith, room (e .before), e .before .before .before .built .given))
 
 move-times-requires : tie.Need-move-times-requires
 move-times-requires c κs =
-    let by = c .before .before .before .before .before .before .before .before .before .before .before .before .before .before .before .before .before .before .args .by in
-    let s = c .before .before .before .before .before .before .before .before .before .before .before .before .before .before .before .before .before .before .args .times .now in
-    let u = rw (toZ-ofZ (c .before .before .before .before .before .before .before .before .before .before .before .before .before .before .before .before .before .before .fits .by)) at (c .before .before .before .before .before .before .before .before .before .before .before .before .before .first-unmovable .ensures) in
-    let clear = row-clear by s (rw u at (c .before .before .before .before .before .before .before .before .before .before .before .before .if1 .left)) in
-    (rw (toZ-ofZ (c .before .before .before .before .before .before .before .before .before .before .before .before .before .before .before .before .before .before .fits .by)) (c .before .before .before .before .before .before .before .before .before .before .before .before .before .before .before .before .before .before .pre .0), rw (toZ-ofZ (c .before .before .before .before .before .before .before .before .before .before .before .before .before .before .before .before .before .before .fits .by)) (clear .1))
+    let k = fits-out (c .before .before .before) .before .before in
+    let s = start (looked k) in
+    (rw (toZ-ofZ (s .fits .by)) (s .pre .0), rw (toZ-ofZ (s .fits .by)) (clear (movable k) .1))
 
 same-length-6 : tie.Need-same-length-6
 same-length-6 c = search needs
@@ -90,13 +143,16 @@ same-length-8 c = search needs
 
 returns-4 : tie.Need-returns-4
 returns-4 c =
-    let by = c .before .before .before .before .before .before .before .before .before .before .before .before .before .before .before .before .before .before .before .before .before .args .by in
-    let s = c .before .before .before .before .before .before .before .before .before .before .before .before .before .before .before .before .before .before .before .before .before .args .times .now in
-    let u = rw (toZ-ofZ (c .before .before .before .before .before .before .before .before .before .before .before .before .before .before .before .before .before .before .before .before .before .fits .by)) at (c .before .before .before .before .before .before .before .before .before .before .before .before .before .before .before .before .first-unmovable .ensures) in
-    let clear = row-clear by s (rw u at (c .before .before .before .before .before .before .before .before .before .before .before .before .before .before .before .if1 .left)) in
-    let k = rw (← (c .before .before .before .before .before .before .before .before .before .before .before .before .before .close .ensures .0)) at (c .before .before .before .before .before .before .before .before .before .before .before .before .before .before .before .before .before .before .before .before .before .pre .1 .1) in
-    let m = rw (toZ-ofZ (c .before .before .before .before .before .before .before .before .before .before .before .before .before .before .before .before .before .before .before .before .before .fits .by)) at (c .before .before .move-times .ensures) in
-    λ is w. row-all by is _ _ w s (clear .0) _ (c .before .before .before .before .before .before .before .before .before .before .before .before .before .close .ensures .0) _ _ _ _ _ (c .before .before .before .before .before .before .before .before .before .before .before .before .before .close .ensures .1) (c .before .before .before .before .before .before .before .before .before .before .if2 .left) (c .before .before .before .before .before .before .before .before .before .if3 .left) (k (c .before .before .before .before .before .before .before .before .before .before .if2 .left)) (c .before .before .before .before .before .before .copy .ensures) refl m
+    let m = c .before .before in
+    let y = m .before .before .before .before in
+    let f = fits-out y in
+    let e = f .before in
+    let k = e .before in
+    let l = looked k in
+    let ended = close k .close .ensures in
+    let moved = rw (toZ-ofZ (start l .fits .by)) at (m .move-times .ensures) in
+    λ is w.
+    row-all (by l) is _ _ w (times l) (clear (movable k) .0) _ (ended .0) _ _ _ _ _ (ended .1) (e .if2 .left) (f .if3 .left) (room e) (y .copy .ensures) refl moved
 
 pub shift-row-spec : {M : Type 1} → statement M
 shift-row-spec =

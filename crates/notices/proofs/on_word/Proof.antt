@@ -1,7 +1,7 @@
-use Rattle.notices.specs.Table.{Notes}
-use mathlib.Core.List.{List}
-use Prim.Native.Nat.{ℕ}
-use mathlib.Core.Path.{_≡_, refl, ap, sym, _∙_}
+use mathlib.Core.Bool.{true}
+use mathlib.Core.Path.{_≡_, sym, _∙_}
+use Rattle.format.specs.declared.Kind.{Kind}
+use Rattle.notices.specs.Table.{isArinc}
 use Rattle.notices.proofs.OneWord.{notice-noted, word-noted, rest-noted, none-noted}
 use borrow.Author.Needs.{needs}
 use Rattle.notices.proofs.on_word.Statement.{statement}
@@ -45,10 +45,17 @@ earlier-requires c κs = search needs
 same-length : tie.Need-same-length
 same-length c = search needs
 
+abbrev kind : tie.After-is-arinc → Kind
+kind c = c .before .before .args .kind
+
+arinc : (c : tie.Then1) → isArinc (kind (c .before)) ≡ true
+arinc c = sym (c .before .is-arinc .ensures) ∙ c .if1 .taken
+
 returns : tie.Need-returns
 returns c =
-    rw (c .earlier .ensures)
-    (sym (notice-noted (c .before .before .before .before .before .before .args .bus) (c .before .before .before .before .before .before .args .label) (c .before .before .before .before .before .before .args .information) (c .before .before .before .before .before .before .args .number) (c .before .before .before .before .before .before .args .found) (c .before .before .before .before .before .before .args .table .now) (c .before .before .before .before .before .before .args .kind) (sym (c .before .before .before .before .is-arinc .ensures) ∙ c .before .before .before .if1 .taken) (c .before .before .if2 .taken)))
+    let l = c .before .before in
+    let k = l .before in
+    rw (c .earlier .ensures) (sym (notice-noted _ _ _ _ _ _ (kind (k .before)) (arinc k) (l .if2 .taken)))
 
 is-syllable-requires : tie.Need-is-syllable-requires
 is-syllable-requires c κs = search needs
@@ -73,16 +80,18 @@ same-length-2 c = search needs
 
 returns-2 : tie.Need-returns-2
 returns-2 c =
-    sym (word-noted (c .before .before .before .before .before .before .args .bus) (c .before .before .before .before .before .before .args .label) (c .before .before .before .before .before .before .args .information) (c .before .before .before .before .before .before .args .number) (c .before .before .before .before .before .before .args .found) (c .before .before .before .before .before .before .args .table .now) (c .before .before .before .before .before .before .args .kind) (sym (c .before .before .before .before .is-arinc .ensures) ∙ c .before .before .before .if1 .taken) (c .before .before .if2 .left)
-    (sym (c .before .is-syllable .ensures) ∙ c .if3 .taken))
+    let l = c .before .before in
+    let k = l .before in
+    sym (word-noted _ _ _ _ _ _ (kind (k .before)) (arinc k) (l .if2 .left) (sym (c .before .is-syllable .ensures) ∙ c .if3 .taken))
 
 returns-3 : tie.Need-returns-3
 returns-3 c =
-    sym (rest-noted (c .before .before .before .before .before .before .args .bus) (c .before .before .before .before .before .before .args .label) (c .before .before .before .before .before .before .args .information) (c .before .before .before .before .before .before .args .number) (c .before .before .before .before .before .before .args .found) (c .before .before .before .before .before .before .args .table .now) (c .before .before .before .before .before .before .args .kind) (sym (c .before .before .before .before .is-arinc .ensures) ∙ c .before .before .before .if1 .taken) (c .before .before .if2 .left)
-    (sym (c .before .is-syllable .ensures) ∙ c .if3 .left))
+    let l = c .before .before in
+    let k = l .before in
+    sym (rest-noted _ _ _ _ _ _ (kind (k .before)) (arinc k) (l .if2 .left) (sym (c .before .is-syllable .ensures) ∙ c .if3 .left))
 
 returns-4 : tie.Need-returns-4
-returns-4 c = sym (none-noted (c .before .before .before .args .bus) (c .before .before .before .args .label) (c .before .before .before .args .information) (c .before .before .before .args .number) (c .before .before .before .args .found) (c .before .before .before .args .table .now) (c .before .before .before .args .kind) (sym (c .before .is-arinc .ensures) ∙ c .if1 .left))
+returns-4 c = sym (none-noted _ _ _ _ _ _ (kind (c .before)) (sym (c .before .is-arinc .ensures) ∙ c .if1 .left))
 
 pub on-word-spec : {M : Type 1} → statement M
 on-word-spec =

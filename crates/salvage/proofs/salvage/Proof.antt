@@ -5,7 +5,9 @@ use mathlib.Core.Path.{_≡_, sym, subst, _∙_}
 use Rattle.salvage_rules.specs.Salvage.{Salvage, Saves}
 use Rattle.format.specs.Laws.Limits.{Shape}
 use Rattle.format.specs.Laws.Legal.{shape-of}
-use Rattle.format.specs.Plan.{legal}
+use Rattle.format.specs.Plan.{groupWords, legal}
+use Prim.Native.Nat.{_*_, _%_}
+use lib.Dec.{eqb}
 use mathlib.Core.Bool.{true}
 use borrow.Author.Tests.{eqb-true, not-false, not-true}
 use Rattle.salvage.proofs.salvage.Statement.{statement}
@@ -30,6 +32,13 @@ is-legal c = sym (c .before .legal .ensures) ∙ not-false _ (c .if1 .left)
 shape : (c : tie.Else1) → Shape (start (c .before) .args .plan)
 shape c = shape-of _ _ (is-legal c)
 
+-- and the capture has whole groups
+whole : (c : tie.Else3) → let a = start (c .before .before .before .before) .args in eqb (length (a .capture .now) % (3 * groupWords (a .plan))) 0 ≡ true
+whole c = sym (c .before .is-whole .ensures) ∙ not-false _ (c .if3 .left)
+
+abbrev sound : tie.After-salvage-sized-arg3 → tie.Else3
+sound c = c .before .before .before
+
 legal-requires : tie.Need-legal-requires
 legal-requires c κs = search needs
 
@@ -40,8 +49,8 @@ returns : tie.Need-returns
 returns c =
     let j = c .before .before in
     let a = start j .args in
-    denies-by _ 1 0 _ (a .log .now) (a .times .now) (a .report .now) (not-legal (a .plan) (a .kinds) (a .capture .now) _ _ _ (sym (j .legal .ensures) ∙ not-true _ (c .before .if1 .taken)))
-    (c .forgo .ensures)
+    let e = sym (j .legal .ensures) ∙ not-true _ (c .before .if1 .taken) in
+    denies-by _ 1 0 _ (a .log .now) (a .times .now) (a .report .now) (not-legal (a .plan) (a .kinds) (a .capture .now) _ _ _ e) (c .forgo .ensures)
 
 forgo-requires-2 : tie.Need-forgo-requires-2
 forgo-requires-2 c κs = search needs
@@ -61,15 +70,19 @@ forgo-requires-3 c κs = search needs
 
 returns-3 : tie.Need-returns-3
 returns-3 c =
-    let l = c .before .before .before .before in
+    let t = c .before in
+    let f = t .before .before in
+    let l = f .before in
     let a = start (l .before) .args in
+    let e = sym (t .before .is-whole .ensures) ∙ not-true _ (t .if3 .taken) in
     denies-by _ 8 (length (a .capture .now)) _ (a .log .now) (a .times .now) (a .report .now)
-    (not-whole (a .plan) (a .kinds) (a .capture .now) _ _ _ (is-legal l) (c .before .before .before .if2 .left) (sym (c .before .before .is-whole .ensures) ∙ not-true _ (c .before .if3 .taken))) (c .forgo3 .ensures)
+    (not-whole (a .plan) (a .kinds) (a .capture .now) _ _ _ (is-legal l) (f .if2 .left) e) (c .forgo3 .ensures)
 
 salvage-sized-requires : tie.Need-salvage-sized-requires
 salvage-sized-requires c κs =
-    let l = c .before .before .before .before .before .before in
-    (shape l, c .before .before .before .before .before .if2 .left, eqb-true _ _ (sym (c .before .before .before .before .is-whole .ensures) ∙ not-false _ (c .before .before .before .if3 .left)))
+    let w = sound c in
+    let f = w .before .before in
+    (shape (f .before), f .if2 .left, eqb-true _ _ (whole w))
 
 same-length : tie.Need-same-length
 same-length c = search needs
@@ -82,13 +95,15 @@ same-length-3 c = search needs
 
 returns-4 : tie.Need-returns-4
 returns-4 c =
-    let l = c .before .before .before .before .before .before .before .before .before .before .before .before .before in
-    let a = start (l .before) .args in
-    subst (λ (m : Salvage). Saves m (c .before .before .before .before .before .before .salvage-sized .result) (a .log .now) (c .before .before .before .before .before .before .salvage-sized .last .1 .1 .1 .0) (a .times .now) (c .before .before .before .before .before .before .salvage-sized .last .1 .1 .1 .1 .0) (a .report .now)
-    (c .before .before .before .before .before .before .salvage-sized .last .1 .1 .1 .1 .1 .0))
-    (sym (is-saved (a .plan) (a .kinds) (a .capture .now) (length (a .log .now)) (length (a .times .now)) (length (a .report .now)) (is-legal l) (c .before .before .before .before .before .before .before .before .before .before .before .before .if2 .left)
-    (sym (c .before .before .before .before .before .before .before .before .before .before .before .is-whole .ensures) ∙ not-false _ (c .before .before .before .before .before .before .before .before .before .before .if3 .left))))
-    (c .before .before .before .before .before .before .salvage-sized .ensures)
+    let z = c .before .before .before .before .before .before in
+    let w = sound (z .before) in
+    let f = w .before .before in
+    let a = start (f .before .before) .args in
+    let y = z .salvage-sized .last .1 .1 .1 in
+    subst (λ (m : Salvage). Saves m (z .salvage-sized .result) (a .log .now) (y .0) (a .times .now) (y .1 .0) (a .report .now) (y .1 .1 .0))
+    (sym (is-saved (a .plan) (a .kinds) (a .capture .now) (length (a .log .now)) (length (a .times .now)) (length (a .report .now))
+    (is-legal (f .before)) (f .if2 .left) (whole w)))
+    (z .salvage-sized .ensures)
 
 pub salvage-spec : {M : Type 1} → statement M
 salvage-spec =

@@ -24,10 +24,22 @@ abbrev before : tie.Start → Tape
 before s = tape (s .args .pass) (s .args .out .now) (s .args .report .now)
 
 -- the word was fed
-fed-step : (c : tie.After-feed) → c .feed .result ≡ wordStep (c .before .before .before .before .before .before .before .args .kinds) (c .before .before .before .before .before .before .before .args .plan .parity) (heldOf (c .before .before .before .before .before .before .before .args .pass .held)) (c .before .before .before .before .before .before .before .args .word)
+abbrev start : tie.After-feed → tie.Start
+start c = c .before .before .before .before .before .before .before
+
+fed-step : (c : tie.After-feed)
+    → let a = start c .args in c .feed .result ≡ wordStep (a .kinds) (a .plan .parity) (heldOf (a .pass .held)) (a .word)
 fed-step c =
-    word-step (c .before .before .before .before .before .before .before .args .kinds) (c .before .before .before .before .before .before .before .args .plan .parity) (heldOf (c .before .before .before .before .before .before .before .args .pass .held)) (c .before .before .before .before .before .before .before .args .word)
+    let a = start c .args in
+    word-step (a .kinds) (a .plan .parity) (heldOf (a .pass .held)) (a .word)
     (c .before .before .before .bus-of .ensures) (c .before .before .label-of .ensures) (c .before .information-of .ensures) (c .feed .ensures)
+
+-- it is bad, and what is held is let go
+abbrev bad : tie.After-let-go-arg2 → tie.Then1
+bad c = c .before .before
+
+abbrev gone : tie.After-try-start-arg2 → tie.After-let-go
+gone c = c .before .before .before .before .before .before
 
 bus-of-requires : tie.Need-bus-of-requires
 bus-of-requires c κs = search needs
@@ -51,15 +63,22 @@ feed-requires c κs =
 
 let-go-requires : tie.Need-let-go-requires
 let-go-requires c κs =
-    let s = c .before .before .before .before .before .before .before .before .before .before in
-    let x = s .pre .2 in
-    (s .pre .0, s .pre .1, x .sane, low-more (2 ^ 32) (omega (arith, s .pre .3)) (x .low), omega (arith, s .pre .3, x .few-entries), omega (arith, s .pre .3, x .few-bits))
+    let s = start (bad c .before) in
+    let x = s .pre .2 in (
+      s .pre .0,
+      s .pre .1,
+      x .sane,
+      low-more (2 ^ 32) (omega (arith, s .pre .3)) (x .low),
+      omega (arith, s .pre .3, x .few-entries),
+      omega (arith, s .pre .3, x .few-bits),
+    )
 
 try-start-requires : tie.Need-try-start-requires
 try-start-requires c κs =
-    let s = c .before .before .before .before .before .before .before .before .before .before .before .before .before .before .before .before .before in
+    let l = gone c in
+    let s = start (bad (l .before) .before) in
     let x = s .pre .2 in
-    let g = gone-few (s .args .plan) (before s) (x .sane) (c .before .before .before .before .before .before .let-go .ensures) in (
+    let g = gone-few (s .args .plan) (before s) (x .sane) (l .let-go .ensures) in (
       s .pre .0,
       s .pre .1,
       omega (arith, s .pre .3),
@@ -76,20 +95,24 @@ same-length-2 c = search needs
 
 returns : tie.Need-returns
 returns c =
-    let s = c .before .before .before .before .before .before .before .before .before .before .before .before .before .before .before .before .before .before .before .before .before .before in
+    let t = c .before .before .before .before in
+    let l = gone (t .before) in
+    let b = bad (l .before) in
+    let s = start (b .before) in
     let a = s .args in
-    c .before .before .before .before .try-start .ensures ∙ ap (tryStart (a .kinds) (a .plan) (a .number) (a .word)) (c .before .before .before .before .before .before .before .before .before .before .before .let-go .ensures)
-    ∙ word-broken (a .plan) (before s) (a .kinds) (a .number) (a .word) (fed-step (c .before .before .before .before .before .before .before .before .before .before .before .before .before .before .before)) (c .before .before .before .before .before .before .before .before .before .before .before .before .before .before .if1 .taken)
+    t .try-start .ensures ∙ ap (tryStart (a .kinds) (a .plan) (a .number) (a .word)) (l .let-go .ensures)
+    ∙ word-broken (a .plan) (before s) (a .kinds) (a .number) (a .word) (fed-step (b .before)) (b .if1 .taken)
 
 next-requires : tie.Need-next-requires
 next-requires c κs = search needs
 
 put-items-requires : tie.Need-put-items-requires
 put-items-requires c κs =
-    let s = c .before .before .before .before .before .before .before .before .before .before in
+    let e = c .before .before in
+    let s = start (e .before) in
     let x = s .pre .2 in (
       omega (arith, s .pre .3, x .few-bits),
-      word-fits (s .args .kinds) (s .args .plan .parity) (s .args .pass .held) (s .args .word) (s .pre .4) (x .sane) (fed-step (c .before .before .before)) (c .before .before .if1 .left),
+      word-fits (s .args .kinds) (s .args .plan .parity) (s .args .pass .held) (s .args .word) (s .pre .4) (x .sane) (fed-step (e .before)) (e .if1 .left),
     )
 
 same-length-3 : tie.Need-same-length-3
@@ -97,10 +120,13 @@ same-length-3 c = search needs
 
 returns-2 : tie.Need-returns-2
 returns-2 c =
-    let s = c .before .before .before .before .before .before .before .before .before .before .before .before .before in
+    let p = c .before .before in
+    let n = p .before .before in
+    let e = n .before in
+    let s = start (e .before) in
     let a = s .args in
-    c .before .before .put-items .ensures (a .report .now)
-    ∙ word-taken (a .plan) (before s) (a .kinds) (a .number) (a .word) (fed-step (c .before .before .before .before .before .before)) (c .before .before .before .before .before .if1 .left) (c .before .before .before .before .next .ensures)
+    p .put-items .ensures (a .report .now)
+    ∙ word-taken (a .plan) (before s) (a .kinds) (a .number) (a .word) (fed-step (e .before)) (e .if1 .left) (n .next .ensures)
 
 pub on-word-spec : {M : Type 1} → statement M
 on-word-spec =

@@ -2,7 +2,7 @@ use borrow.Author.Needs.{needs}
 use Rattle.salvage_run.proofs.Steps.{start-sane}
 use Rattle.data_items.proofs.Words.{bus-low, info-low, label-low}
 use Rattle.salvage_run.proofs.Steps.{start-fits, start-lost, start-step, start-taken, tape-lost}
-use Rattle.salvage_run.specs.Tape.{tape, wordStep}
+use Rattle.salvage_run.specs.Tape.{Tape, tape, wordStep}
 use Rattle.format.specs.declared.Held.the-variants.{Nothing}
 use mathlib.Core.Path.{_≡_, _∙_}
 use Rattle.salvage_run.proofs.try_start.Statement.{statement}
@@ -19,10 +19,18 @@ use Rattle.word.proofs.bus_of.Reads as bus-of-reads
 use Rattle.word.proofs.information_of.Reads as information-of-reads
 use Rattle.word.proofs.label_of.Reads as label-of-reads
 
+abbrev before : tie.Start → Tape
+before s = tape (s .args .pass) (s .args .out .now) (s .args .report .now)
+
 -- the word was fed
-fed-step : (c : tie.After-feed) → c .feed .result ≡ wordStep (c .before .before .before .before .before .before .before .before .args .kinds) (c .before .before .before .before .before .before .before .before .args .plan .parity) Nothing (c .before .before .before .before .before .before .before .before .args .word)
+abbrev start : tie.After-feed → tie.Start
+start c = c .before .before .before .before .before .before .before .before
+
+fed-step : (c : tie.After-feed) → let a = start c .args in c .feed .result ≡ wordStep (a .kinds) (a .plan .parity) Nothing (a .word)
 fed-step c =
-    start-step (c .before .before .before .before .before .before .before .before .args .kinds) (c .before .before .before .before .before .before .before .before .args .plan .parity) (c .before .before .before .before .nothing .result) (c .before .before .before .before .before .before .before .before .args .word) (c .before .before .before .before .nothing .ensures)
+    let a = start c .args in
+    let n = c .before .before .before .before .nothing in
+    start-step (a .kinds) (a .plan .parity) (n .result) (a .word) (n .ensures)
     (c .before .before .before .bus-of .ensures) (c .before .before .label-of .ensures) (c .before .information-of .ensures) (c .feed .ensures)
 
 nothing-requires : tie.Need-nothing-requires
@@ -65,28 +73,34 @@ same-length c = search needs
 
 returns : tie.Need-returns
 returns c =
-    let s = c .before .before .before .before .before .before .before .before .before .before .before .before .before .before .before .before in
+    let p = c .before .before .before in
+    let t = p .before .before .before .before in
+    let s = start (t .before) in
     let a = s .args in
-    tape-lost (a .plan) (a .pass) (a .out .now) (a .report .now) (a .number) (c .nothing2 .ensures) (c .before .before .before .before .stored-place .ensures) (c .before .before .before .put-at .ensures)
-    ∙ start-lost (a .plan) (tape (a .pass) (a .out .now) (a .report .now)) (a .kinds) (a .number) (a .word) (fed-step (c .before .before .before .before .before .before .before .before)) (c .before .before .before .before .before .before .before .if1 .taken)
+    tape-lost (a .plan) (a .pass) (a .out .now) (a .report .now) (a .number) (c .nothing2 .ensures) (p .before .stored-place .ensures) (p .put-at .ensures)
+    ∙ start-lost (a .plan) (before s) (a .kinds) (a .number) (a .word) (fed-step (t .before)) (t .if1 .taken)
 
 next-requires : tie.Need-next-requires
 next-requires c κs = search needs
 
 put-items-requires : tie.Need-put-items-requires
 put-items-requires c κs =
-    let s = c .before .before .before .before .before .before .before .before .before .before .before in
-    (s .pre .5, start-fits (s .args .kinds) (s .args .plan .parity) (s .args .word) (s .pre .3) (fed-step (c .before .before .before)) (c .before .before .if1 .left))
+    let e = c .before .before in
+    let s = start (e .before) in
+    (s .pre .5, start-fits (s .args .kinds) (s .args .plan .parity) (s .args .word) (s .pre .3) (fed-step (e .before)) (e .if1 .left))
 
 same-length-2 : tie.Need-same-length-2
 same-length-2 c = search needs
 
 returns-2 : tie.Need-returns-2
 returns-2 c =
-    let s = c .before .before .before .before .before .before .before .before .before .before .before .before .before .before in
+    let p = c .before .before in
+    let n = p .before .before in
+    let e = n .before in
+    let s = start (e .before) in
     let a = s .args in
-    c .before .before .put-items .ensures (a .report .now)
-    ∙ start-taken (a .plan) (tape (a .pass) (a .out .now) (a .report .now)) (a .kinds) (a .number) (a .word) (fed-step (c .before .before .before .before .before .before)) (c .before .before .before .before .before .if1 .left) (c .before .before .before .before .next .ensures)
+    p .put-items .ensures (a .report .now)
+    ∙ start-taken (a .plan) (before s) (a .kinds) (a .number) (a .word) (fed-step (e .before)) (e .if1 .left) (n .next .ensures)
 
 pub try-start-spec : {M : Type 1} → statement M
 try-start-spec =

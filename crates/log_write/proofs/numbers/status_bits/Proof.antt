@@ -1,3 +1,5 @@
+use Rattle.format.specs.declared.Response.{Response}
+use Rattle.format.specs.declared.Item.{Item}
 use Rattle.format.specs.declared.Response.the-variants.{Untimed, After}
 use Rattle.format.specs.declared.Item.the-variants.{Status}
 use mathlib.Core.Path.{refl}
@@ -7,6 +9,9 @@ use Rattle.log_write.proofs.Packing.{packed-by}
 use borrow.Author.Needs.{needs}
 use Rattle.log_write.proofs.numbers.status_bits.Statement.{statement}
 use Rattle.log_write.proofs.numbers.status_bits.Tie as tie
+
+abbrev item : tie.After-flag → Response → Item
+item c x = let a = c .before .before .args in Status (a .bus) (a .b) x (a .word)
 
 head-requires : tie.Need-head-requires
 head-requires c κs = search needs
@@ -49,11 +54,13 @@ cast-t19 c = search needs
 
 returns : tie.Need-returns
 unfolding itemFields
-returns c = rw (c .enum-told .given .1) (packed-by (Status (c .before .before .before .before .args .bus) (c .before .before .before .before .args .b) Untimed (c .before .before .before .before .args .word)) _ _ (omega arith) refl)
+returns c = rw (c .enum-told .given .1) (packed-by (item (c .before .before) Untimed) _ _ (omega arith) refl)
 
 returns-2 : tie.Need-returns-2
 unfolding itemFields
-returns-2 c = rw (c .before .response .given .1) (packed-by (Status (c .before .before .before .before .before .args .bus) (c .before .before .before .before .before .args .b) (After (c .before .response .given .0 .0)) (c .before .before .before .before .before .args .word)) _ _ (omega arith) (omega arith))
+returns-2 c =
+    let t = c .before in
+    rw (t .response .given .1) (packed-by (item (t .before .before) (After (t .response .given .0 .0))) _ _ (omega arith) (omega arith))
 
 pub status-bits-spec : {M : Type 1} → statement M
 status-bits-spec =
