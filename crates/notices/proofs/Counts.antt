@@ -13,6 +13,11 @@ pub count-low : (t : Bool) (n i : ℕ) → n ≤ i → n + boolByte t ≤ i + 1
 count-low true n i h = omega arith
 count-low false n i h = omega arith
 
+-- nothing more
+pub or-none : (t : Bool) → (t || false) ≡ t
+or-none true = refl
+or-none false = refl
+
 -- two tests at once
 pub both-hold : (t u : Bool) → bitAnd (boolByte t) (boolByte u) ≡ boolByte (t && u)
 both-hold true true = refl

@@ -1,6 +1,6 @@
 use Rattle.format.specs.Word.{labelOf}
 use Rattle.notices.specs.Laws.Rows.{notice-next, notice-end}
-use Rattle.notices.proofs.Counts.{count-low, any-count}
+use Rattle.notices.proofs.Counts.{count-low, any-count, or-none}
 use Prim.Native.Nat.{_+_, _*_, _/_, _%_, _-_, _≤_}
 use mathlib.Core.Path.{_≡_, refl, ap, sym, _∙_}
 use native.Mathlib.Omega.{arith}
@@ -58,11 +58,7 @@ returns : tie.Need-returns Inv-loop μ-loop
 returns c =
     let o = c .before .loop in
     let ws = c .before .before .args .row .now in
-    sym (o .inv .2 ∙ ap (λ z. not (eqb (o .count) 0) || z) (notice-end ws (o .i) (omega arith)) ∙ whole (not (eqb (o .count) 0)))
-  where
-    whole : (b : Bool) → (b || false) ≡ b
-    whole true = refl
-    whole false = refl
+    sym (o .inv .2 ∙ ap (λ z. not (eqb (o .count) 0) || z) (notice-end ws (o .i) (omega arith)) ∙ or-none (not (eqb (o .count) 0)))
 
 pub any-notice-spec : {M : Type 1} → statement M
 any-notice-spec =

@@ -9,7 +9,7 @@ use borrow.Author.Tests.{eq-eqb, ne-eqb}
 use lib.ListN.{drop, getD, length}
 use Rattle.notices.specs.Marks.{marked, unanswered}
 use Rattle.notices.specs.Laws.Marks.{unanswered-next, unanswered-last}
-use Rattle.notices.proofs.Counts.{count-low, any-count, both-hold}
+use Rattle.notices.proofs.Counts.{count-low, any-count, both-hold, or-none}
 use borrow.Author.Needs.{needs}
 use Rattle.notices.proofs.unanswered.Statement.{statement}
 use Rattle.notices.proofs.unanswered.Tie as tie
@@ -124,11 +124,7 @@ returns c =
 returns-2 : tie.Need-returns-2 Inv-loop μ-loop
 returns-2 c =
     let n = not (eqb (c .before .before .before .loop .count) 0) in
-    sym (told (c .before .before) ∙ ap (λ t. n || t) (ne-eqb _ _ (c .if1 .left)) ∙ either n)
-  where
-    either : (t : Bool) → (t || false) ≡ t
-    either true = refl
-    either false = refl
+    sym (told (c .before .before) ∙ ap (λ t. n || t) (ne-eqb _ _ (c .if1 .left)) ∙ or-none n)
 
 pub unanswered-spec : {M : Type 1} → statement M
 unanswered-spec =
