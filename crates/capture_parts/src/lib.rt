@@ -1,4 +1,6 @@
 // What every reading of a capture shares: whole groups, each lent its own bytes, where a data word stands, the frame times, and a refusal.
+#![tactic(auto)]
+
 ghost use Rattle.std.specs.Prelude.{◌≡◌, ◌++◌, ◌*◌, ◌/◌, ◌%◌, ◌^◌, ◌<◌, ◌≤◌, eqb, length, drop};
 ghost use Rattle.format.specs.Answer.{refusal};
 ghost use Rattle.format.specs.Group.{group_time};

@@ -1,1 +1,2 @@
 // The rules of what else is done with captures: definitions and laws, no code.
+#![tactic(auto)]

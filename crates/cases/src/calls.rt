@@ -5,7 +5,7 @@ use crate::runs::part;
 use format::Answer;
 
 // A plan by its numbers, as C lends them.
-#[derive(Drop)]
+#[derive(Clone, Copy)]
 pub(crate) struct Numbers {
     pub(crate) words: u32,
     pub(crate) tracks: u32,
@@ -21,7 +21,7 @@ pub(crate) struct Numbers {
 }
 
 // An answer, and the digests of the lent buffers: out and 0, or log and times.
-#[derive(Drop)]
+#[derive(Clone, Copy)]
 pub(crate) struct Outcome {
     pub(crate) number: u32,
     pub(crate) place: u64,

@@ -2,6 +2,7 @@
 // wrong" and each refusal of each entry point, each call with the answer that document 01 asks for. Each is run, its answers are
 // written, and `differs` behind an answer that is another. Then come ten blocks of 200 pseudo-random cases. `independent/cases.c`,
 // the same over the independent implementation, must write the same; what the lines mean is said there.
+#![tactic(auto)]
 
 mod calls;
 mod captures;

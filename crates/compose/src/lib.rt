@@ -1,4 +1,5 @@
 // Composing (document 01, "Groups" and "Answers by number"): from a log and its frame times to the bytes of the groups.
+#![tactic(auto)]
 
 ghost use Rattle.std.specs.Prelude.{true, ◌≡◌, ℕ, min, ◌+◌, ◌*◌, ◌<◌, ◌≤◌, get_or, length};
 ghost use Rattle.format.specs.Answer.{Made, over, refusal};

@@ -1,4 +1,5 @@
 // Composing from what C hands over (document 01, "Programs"): the numbers that name a plan, kinds and times as bytes.
+#![tactic(auto)]
 
 ghost use Rattle.std.specs.Prelude.{◌≡◌, length};
 ghost use Rattle.format.specs.Answer.{Made};

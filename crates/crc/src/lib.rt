@@ -3,6 +3,7 @@
 // X^16 + X^15 + X^2 + 1 is (X + 1) (X^15 + X + 1), and X^15 is X + 1 by the second of these: so a product by a power of X is a few
 // shifts, and X^30 is X^2 + 1. What is kept is the words so far by X^15 + X + 1, in 30 bits, and their sum bit by bit, whose parity
 // is the remainder by X + 1.
+#![tactic(auto)]
 
 ghost use Rattle.std.specs.Prelude.{◌≡◌, [], ◌∷◌, ◌<◌, ◌^◌};
 ghost use Rattle.std.specs.Int.Bits.{bit_xor};
@@ -12,7 +13,7 @@ ghost use Rattle.crc.specs.Sum.{Small, Sums, Added, Summed, check_of_sum, folded
 use word::is_odd;
 
 // The words so far.
-#[derive(Drop)]
+#[derive(Clone, Copy)]
 pub struct Sum {
     pub rest: u64,
     pub ones: u64,

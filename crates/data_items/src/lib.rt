@@ -1,5 +1,7 @@
 // Items taken whole from a row of words where nothing is held, for words that stand next to each other. It stops before whatever
 // it does not take, which is left to the reader, word by word. It knows neither plan nor places.
+#![tactic(auto)]
+
 ghost use Rattle.std.specs.Prelude.{◌≡◌, ◌+◌, ◌/◌, ◌%◌, ◌≤◌, ◌<◌, ◌^◌, length, get_or};
 ghost use Rattle.format.specs.declared.Kind.TheVariants.{Mil1553, Arinc429};
 ghost use Rattle.log_write.specs.Pen.{pen_in, pen_put};
@@ -11,7 +13,7 @@ use format::Kind;
 use log_write::Pen;
 
 // How far items were taken: the slot behind them, and the log so far. The same slot as before: nothing was taken.
-#[derive(Drop)]
+#[derive(Clone, Copy)]
 pub struct Taken {
     pub slot: usize,
     pub pen: Pen,

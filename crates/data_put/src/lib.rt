@@ -1,4 +1,6 @@
 // What a data word finished, put into the log.
+#![tactic(auto)]
+
 ghost use Rattle.std.specs.Prelude.{◌≡◌, ◌<◌, ◌^◌};
 ghost use Rattle.data_put.specs.Put.{Strings, step_out, step_pen};
 

@@ -3,7 +3,7 @@ ghost use Rattle.std.specs.Prelude.{◌≡◌, ◌<◌, ◌^◌};
 ghost use Rattle.data_run.specs.Fills.{odd_fill, on_data, on_fill, or_place};
 
 // Where fill stood so far, each number one up, 0 for none: the first fill of all, and the earliest that is misplaced.
-#[derive(Drop)]
+#[derive(Clone, Copy)]
 pub struct Fills {
     pub first: u64,
     pub misplaced: u64,

@@ -1,4 +1,6 @@
 // A row of data words, one after the other: what is carried over them, and what each does to it.
+#![tactic(auto)]
+
 pub mod fill;
 
 ghost use Rattle.std.specs.Prelude.{◌≡◌, false, true, ◌+◌, ◌*◌, ◌≤◌, ◌<◌, ◌^◌, length, get_or};
@@ -21,7 +23,7 @@ use log_write::Pen;
 // What is carried from word to word: what is held and the number of its first word, the log so far, the fill so far, and the number
 // of a bad word, one up, or 0 if none came. Behind a bad word `since` is the number of the first word of the item that it broke, or
 // its own if it broke none. A word's number is its place among the data words in dealt order.
-#[derive(Drop)]
+#[derive(Clone, Copy)]
 pub struct Pass {
     pub held: Holding,
     pub since: u64,

@@ -1,4 +1,6 @@
 // What a data word starts (document 01, "Items and their words"), as the numbers that the reader holds and hands out.
+#![tactic(auto)]
+
 ghost use Rattle.std.specs.Prelude.{◌≡◌, true, ◌+◌, ◌*◌, ◌/◌, ◌%◌, ◌^◌, ◌<◌, ◌≤◌};
 ghost use Rattle.format.specs.Reader as reader;
 ghost use Rattle.format.specs.declared.Kind.TheVariants.{Mil1553, Arinc429};
@@ -12,7 +14,7 @@ use format::Kind;
 
 // What is held between two data words. `base` is the log bits of the command or ARINC word so far, untagged; `time` its time
 // words so far, or a response time; `awaits` is bus x 16 + label of the word that goes on with it.
-#[derive(Drop)]
+#[derive(Clone, Copy)]
 pub struct Holding {
     pub base: u64,
     pub time: u32,
@@ -20,7 +22,7 @@ pub struct Holding {
 }
 
 // What a word brings: the log bits of the items that are now finished, in two strings of at most 46 bits, and what is held.
-#[derive(Drop)]
+#[derive(Clone, Copy)]
 pub struct Step {
     pub first: u64,
     pub second: u64,

@@ -1,5 +1,7 @@
 // One data word fed to what is held (document 01, "Items and their words").
 // It knows nothing of frames, places or buffers: a caller drives it word by word, and writes the bits that it hands out.
+#![tactic(auto)]
+
 ghost use Rattle.std.specs.Prelude.{◌≡◌, ◌+◌, ◌*◌, ◌%◌, ◌<◌, ◌≤◌};
 ghost use Rattle.format.specs.Reader as reader;
 ghost use Rattle.data_word.specs.Feeds.{Feeds, Finishes};

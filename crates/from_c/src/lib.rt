@@ -1,4 +1,5 @@
 // A plan, kinds and times from numbers and bytes, and times as bytes (document 01, "Programs").
+#![tactic(auto)]
 
 ghost use Rattle.std.specs.Prelude.{◌&&◌, ◌≡◌, ◌+◌, ◌*◌, ◌<◌, ◌≤◌, drop, length, take};
 ghost use mathlib.Core.List.{◌++◌, flat_map, map};

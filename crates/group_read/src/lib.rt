@@ -1,4 +1,5 @@
 // One group as read, from its own bytes: its first fault, its frame time, and its words dealt into a lent row.
+#![tactic(auto)]
 
 ghost use Rattle.std.specs.Prelude.{◌≡◌, true, not, ◌&&◌, ◌||◌, ◌+◌, ◌*◌, ◌≤◌, ◌<◌, ◌^◌, length, eqb};
 ghost use Rattle.format.specs.Word.{word_of, word_at, is_odd, sent};
@@ -14,7 +15,7 @@ use format::{Plan, Time};
 use narrow;
 
 // Number 0 at place 0: no fault.
-#[derive(Drop)]
+#[derive(Clone, Copy)]
 pub struct Fault {
     pub number: u32,
     pub place: usize,

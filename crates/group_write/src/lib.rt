@@ -1,4 +1,5 @@
 // Writing (document 01, "Groups"): each frame goes into its own part of the group's bytes.
+#![tactic(auto)]
 
 ghost use Rattle.std.specs.Prelude.{◌≡◌, true, ◌+◌, ◌*◌, ◌^◌, ◌≤◌, ◌<◌, length, take, drop};
 ghost use mathlib.Core.List.{[], ◌∷◌, ◌++◌, flat_map};

@@ -1,4 +1,5 @@
 // The lister (document 01, "Programs"): a log from standard input, its text to standard output.
+#![tactic(auto)]
 
 fn main() {
     // One byte above the limit, so that a long log is seen.

@@ -1,4 +1,6 @@
 // How many bits of the house log the words of items stand for: where the item behind them begins.
+#![tactic(auto)]
+
 ghost use Rattle.std.specs.Prelude.{◌≡◌, ◌<◌, ◌^◌, length};
 ghost use Rattle.notices.specs.Roles.{Words};
 ghost use Rattle.log_bits.specs.Bits.{bits_in, four_bits, label_bits, lower_bits, upper_bits};

@@ -2,6 +2,7 @@
 // with the answer that document 02 asks for behind `->`. Each is made, its answer is written with a digest of what was lent for it, and
 // `differs` behind an answer that is another. `independent/log_cases.c`, the same over the independent implementation, must write the
 // same; what the lines mean is said at the top of that text.
+#![tactic(auto)]
 
 mod answers;
 mod arriving;

@@ -2,7 +2,7 @@
 
 use crate::fields::small;
 
-#[derive(Drop)]
+#[derive(Clone, Copy)]
 pub(crate) struct Choices {
     pub words: u32,
     pub tracks: u32,

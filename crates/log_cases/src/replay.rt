@@ -6,7 +6,7 @@ use crate::fields::{number, size, small};
 use crate::runs::{no_bytes, part, room, run};
 
 // "words sent, items lost, words held"
-#[derive(Drop)]
+#[derive(Clone, Copy)]
 struct Counts {
     sent: u64,
     lost: u64,

@@ -1,4 +1,6 @@
 // The one_bus test profile (document 02, K11): "a yes or the first item that breaks it".
+#![tactic(auto)]
+
 ghost use Rattle.std.specs.Prelude.{◌≡◌, ◌≤◌, [], length};
 ghost use Rattle.format.specs.Answer.{refusal};
 ghost use Rattle.format.specs.Log.{items, on_no_plan, parsed};
@@ -16,7 +18,7 @@ use rules::{after, passes};
 
 // What the rules see of an item: its bus; whether it may stand anywhere (0), nowhere (1), is a command without a tag (2) or with
 // one (3); a command's side and tag.
-#[derive(Drop)]
+#[derive(Clone, Copy)]
 pub struct Role {
     pub bus: u8,
     pub kind: u8,
@@ -26,7 +28,7 @@ pub struct Role {
 
 // What the rules see of the items before: whether there are none; the bus of the last; whether it is a tagged command on A, on B;
 // the last tag.
-#[derive(Drop)]
+#[derive(Clone, Copy)]
 pub struct Seen {
     pub first: bool,
     pub bus: u8,

@@ -1,4 +1,5 @@
 // What was put, handed over: the refusals of a log, "then 6", or the log itself.
+#![tactic(auto)]
 
 ghost use Rattle.std.specs.Prelude.{◌≡◌, ◌++◌, ◌≤◌, length, take, drop};
 ghost use Rattle.format.specs.Answer.{refusal};

@@ -1,5 +1,6 @@
 // Logs made of logs (document 02): pick and join (K7), "Crews work on one bus at a time and then put two sorties together." None takes a
 // plan.
+#![tactic(auto)]
 
 ghost use Rattle.std.specs.Prelude.{◌≡◌, ◌++◌, ◌+◌, ◌/◌, ◌<◌, ◌≤◌, length, take, drop};
 ghost use Rattle.format.specs.Answer.{Made};

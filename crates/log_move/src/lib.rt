@@ -1,4 +1,5 @@
 // Times moved by a signed number of microseconds (document 02, K9): a time, a tag, and all items of a log, put.
+#![tactic(auto)]
 
 ghost use Rattle.std.specs.Prelude.{◌≡◌, true, ◌+◌, ◌*◌, ◌/◌, ◌%◌, ◌<◌, ◌≤◌, ◌^◌, pos, ◌+ℤ◌, length};
 ghost use Rattle.format.specs.Log.{on_no_plan, parsed};

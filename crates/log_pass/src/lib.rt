@@ -1,4 +1,5 @@
 // A log looked at from its front to its end, for whatever needs to know only that it is good, and where its items end.
+#![tactic(auto)]
 
 ghost use Rattle.std.specs.Prelude.{◌≡◌, ◌≤◌, length};
 ghost use Rattle.format.specs.Log.{on_no_plan, parsed};
@@ -7,7 +8,7 @@ ghost use Rattle.log_pass.specs.Pass.{Passing, pass_of};
 use log_walk::{Piece, data_in, in_time, item_in, piece_at, window_in};
 
 // The bit behind the last item of a log, or its first fault.
-#[derive(Drop)]
+#[derive(Clone, Copy)]
 pub enum Passed {
     All(usize),
     Fault { number: u32, place: usize },

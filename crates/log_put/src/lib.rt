@@ -1,4 +1,5 @@
 // The items of a log on some buses, put behind what is written: for whatever makes a log of logs.
+#![tactic(auto)]
 
 ghost use Rattle.std.specs.Prelude.{◌≡◌, ◌+◌, ◌*◌, ◌/◌, ◌≤◌, ◌<◌, ◌^◌, length};
 ghost use Rattle.format.specs.Log.{on_no_plan, parsed};
@@ -9,14 +10,14 @@ use log_walk::{Piece, bus_in, data_in, in_time, item_in, piece_at, window_in};
 use log_write::{Packed, Pen};
 
 // The items of a log are put, or its first fault.
-#[derive(Drop)]
+#[derive(Clone, Copy)]
 pub enum Put {
     All(Pen),
     Fault { number: u32, place: usize },
 }
 
 // Where putting a log's items stands: at a bit of the log, and behind what is written.
-#[derive(Drop)]
+#[derive(Clone, Copy)]
 pub struct Spot {
     pub at: usize,
     pub pen: Pen,

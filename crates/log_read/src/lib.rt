@@ -1,4 +1,5 @@
 // The house log (document 01, "The house log"): fields taken at a bit cursor, items read, and a whole log parsed.
+#![tactic(auto)]
 
 mod bits;
 mod faults;
@@ -10,21 +11,21 @@ use format::Item;
 pub use whole::parse;
 
 // A bit cursor, by value: `at` bits of the log are behind it, and `ahead` begins with the next ones, highest first.
-#[derive(Drop)]
+#[derive(Clone, Copy)]
 pub struct Cursor {
     pub at: usize,
     pub ahead: u64,
 }
 
 // A field, and the cursor behind it.
-#[derive(Drop)]
+#[derive(Clone, Copy)]
 pub struct Took {
     pub field: u32,
     pub next: Cursor,
 }
 
 // The fields of an item, as the table has them: its kind and bus.
-#[derive(Drop)]
+#[derive(Clone, Copy)]
 pub struct Head {
     pub kind: u32,
     pub bus: u32,
@@ -32,7 +33,7 @@ pub struct Head {
 }
 
 // Of a data word, a bus error, and a user word (its bit says which label).
-#[derive(Drop)]
+#[derive(Clone, Copy)]
 pub struct Sided {
     pub side: u32,
     pub word: u32,
@@ -40,7 +41,7 @@ pub struct Sided {
 }
 
 // Of a command (its mark says that a tag follows) and a status (that a response time follows).
-#[derive(Drop)]
+#[derive(Clone, Copy)]
 pub struct Marked {
     pub side: u32,
     pub mark: u32,
@@ -49,7 +50,7 @@ pub struct Marked {
 }
 
 // Of an ARINC word.
-#[derive(Drop)]
+#[derive(Clone, Copy)]
 pub struct Channelled {
     pub channel: u32,
     pub mark: u32,
@@ -58,7 +59,7 @@ pub struct Channelled {
 }
 
 // Of an ARINC error notice.
-#[derive(Drop)]
+#[derive(Clone, Copy)]
 pub struct Noticed {
     pub channel: u32,
     pub diagnostics: u32,
@@ -66,7 +67,7 @@ pub struct Noticed {
 }
 
 // Of a tag.
-#[derive(Drop)]
+#[derive(Clone, Copy)]
 pub struct Tagged {
     pub high: u32,
     pub low: u32,
@@ -75,7 +76,7 @@ pub struct Tagged {
 }
 
 // What stands at a place: an item and the place behind it (nothing is ahead there yet), the end of the log, or neither.
-#[derive(Drop)]
+#[derive(Clone, Copy)]
 pub enum Found {
     Has(Item, Cursor),
     End,
@@ -83,7 +84,7 @@ pub enum Found {
 }
 
 // A whole log: how many items it has and how many words they have, or its first fault.
-#[derive(Drop)]
+#[derive(Clone, Copy)]
 pub enum Tally {
     Items { items: usize, words: usize },
     Fault { number: u32, place: usize },

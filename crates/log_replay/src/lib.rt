@@ -1,4 +1,6 @@
 // The front-end buffer replayed (document 02, K13): "Before a flight we want to know if a buffer is large enough."
+#![tactic(auto)]
+
 ghost use Rattle.std.specs.Prelude.{◌≡◌, List, ◌++◌, ℕ, ◌+◌, ◌≤◌, ◌<◌, ◌^◌, ◌&&◌, leb, length, take, drop};
 ghost use Rattle.format.specs.Log.{items, on_no_plan, parsed};
 ghost use Rattle.log_rules.specs.Items.{items_of};

@@ -1,4 +1,5 @@
 // A wrong clock at the aircraft (document 02, K9): "all time tags and frame times moved by a signed number of microseconds".
+#![tactic(auto)]
 
 ghost use Rattle.std.specs.Prelude.{◌≡◌, true, ◌+◌, ◌*◌, ◌/◌, ◌<◌, ◌≤◌, length};
 ghost use Rattle.from_c.specs.Numbers.{time_at, times_from};

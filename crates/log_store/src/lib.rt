@@ -1,4 +1,6 @@
 // One event of the replay (document 02, K13): an item arrives and is stored or lost, or a group leaves.
+#![tactic(auto)]
+
 ghost use Rattle.std.specs.Prelude.{◌≡◌, ◌≤◌, ◌<◌, ◌^◌, length};
 ghost use Rattle.log_buffer.specs.Level.{Holdable};
 ghost use Rattle.log_store.specs.Store.{Puts, Turns, mark_of};
@@ -9,7 +11,7 @@ use log_read::{Cursor, Found};
 use log_write::Pen;
 
 // Where the replay stands: the next item, the buffer, and the log of what was stored.
-#[derive(Drop)]
+#[derive(Clone, Copy)]
 pub struct State {
     pub at: Cursor,
     pub level: Level,

@@ -1,4 +1,5 @@
 // A log walked item by item as bits: what stands at a place is found by its kind and its flag, and no field is taken apart.
+#![tactic(auto)]
 
 ghost use Rattle.std.specs.Prelude.{◌≡◌, ◌+◌, ◌*◌, ◌/◌, ◌≤◌, ◌<◌, ◌^◌, length};
 ghost use Rattle.format.specs.Bits.{bytes_bits};
@@ -10,7 +11,7 @@ use log_read::Cursor;
 use log_write::Packed;
 
 // What stands at a place of a log: an item's bits, the end of the log, or neither.
-#[derive(Drop)]
+#[derive(Clone, Copy)]
 pub enum Piece {
     Item(Packed),
     End,

@@ -1,4 +1,6 @@
 // The words of a log's items (document 01, "Items and their words"), put into a row as the log is parsed.
+#![tactic(auto)]
+
 ghost use Rattle.std.specs.Prelude.{◌+◌, ◌*◌, ◌≤◌, length};
 ghost use Rattle.log_words.specs.Row.{LaysLog};
 

@@ -10,7 +10,7 @@ use log_read::{Channelled, Cursor};
 use word;
 
 // An item laid: number 0 and the places behind it, in the log and in the row; or its fault's number.
-#[derive(Drop)]
+#[derive(Clone, Copy)]
 pub struct Laid {
     pub number: usize,
     pub at: usize,

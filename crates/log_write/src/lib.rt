@@ -1,4 +1,6 @@
 // A log written from its front, eight bytes at a time, into an array that may be too short for it.
+#![tactic(auto)]
+
 ghost use Rattle.std.specs.Prelude.{◌≡◌, ◌+◌, ◌*◌, ◌/◌, ◌≤◌, ◌<◌, ◌^◌, length};
 ghost use Rattle.log_write.specs.Pen.{closed_in, closed_size, eight_in, item_in, item_put, pen_in, pen_put, start, words_in};
 
@@ -8,7 +10,7 @@ use format::Item;
 use numbers::item_bits;
 
 // An item's bits in the log as numbers: its first five fields, and those behind them (its tag or its response time).
-#[derive(Drop)]
+#[derive(Clone, Copy)]
 pub struct Packed {
     pub first: u64,
     pub first_bits: u32,
@@ -17,7 +19,7 @@ pub struct Packed {
 }
 
 // Where writing a log stands: so many bits are put, and those of them that do not fill a byte are the lowest of `last`.
-#[derive(Drop)]
+#[derive(Clone, Copy)]
 pub struct Pen {
     pub bits: usize,
     pub last: u64,

@@ -1,5 +1,6 @@
 // Division of numbers below 2^32 by a 32-bit divide (document 02, K6): the airborne box has none that is wider, and the library
 // routine does not fit.
+#![tactic(auto)]
 
 ghost use Rattle.std.specs.Prelude.{◌≡◌, ◌/◌, ◌%◌, ◌^◌, ◌<◌};
 

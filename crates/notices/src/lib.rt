@@ -1,6 +1,8 @@
 // Error notices that wait for their word (K2). A lent table of 64 numbers, one for each bus and channel, has the number of the notice
 // that waits there, one up, and 0 where none does. It goes from the first word to the last and so serves a row at a time; numbers
 // count words in dealt order, so the least is the earliest.
+#![tactic(auto)]
+
 ghost use Rattle.std.specs.Prelude.{◌≡◌, false, ◌+◌, ◌%◌, ◌<◌, ◌^◌, length, get_or, drop};
 ghost use Rattle.format.specs.Reader.{counted};
 ghost use Rattle.format.specs.Lawful.{buses};
@@ -319,7 +321,7 @@ fn quiet_words(kinds: [Kind; 16], parity: bool, row: &[u32], clear: bool) -> usi
 }
 
 // What was noted so far, beside the table: the earliest notice that was shown open, one up or 0, and whether nothing waits.
-#[derive(Drop)]
+#[derive(Clone, Copy)]
 pub struct Noted {
     pub found: u64,
     pub clear: bool,

@@ -1,4 +1,5 @@
 // Which plans are legal (document 01, "The plan").
+#![tactic(auto)]
 
 ghost use Rattle.std.specs.Prelude.{◌≡◌, ◌<◌, ◌≤◌, ◌&&◌, ◌||◌, not, eqb, leb, drop};
 ghost use Rattle.format.specs.Plan.{group_words, kind_on, legal, rows, slots, used_buses};

@@ -1,4 +1,6 @@
 // The two readings (document 01, "Groups" and "Answers by number").
+#![tactic(auto)]
+
 ghost use Rattle.std.specs.Prelude.{◌≡◌, cond, false, true, ℕ, ◌+◌, ◌*◌, ◌/◌, ◌%◌, ◌≤◌, eqb, length, take, drop, List, ◌++◌};
 ghost use Rattle.format.specs.Answer.{Given, refusal};
 ghost use Rattle.format.specs.Group.{group_time};

@@ -1,4 +1,5 @@
 // Both readings from what C hands over (document 01, "Programs"): the numbers that name a plan, kinds and times as bytes.
+#![tactic(auto)]
 
 ghost use Rattle.std.specs.Prelude.{◌≡◌, cond, ◌/◌, ◌<◌, ◌≤◌, leb, length};
 ghost use Rattle.format.specs.Answer.{Given};

@@ -1,5 +1,7 @@
 // A reading's walk over the groups of a capture (document 01, "Groups" and "Answers by number"): the log of their items, the
 // earliest open notice and the earliest misplaced fill, or the first refusal from 9 to 13.
+#![tactic(auto)]
+
 ghost use Rattle.std.specs.Prelude.{◌≡◌, ◌*◌, ◌≤◌, ◌<◌, ◌^◌, length};
 ghost use Rattle.format.specs.Plan.{group_words, slots, stored_at};
 ghost use Rattle.format.specs.Laws.Limits.{Shape};
@@ -15,7 +17,7 @@ use notices::{Noted, at_end, has_arinc};
 
 // A reading over the groups: number 0, what is carried then and the earliest open notice, or the number and both places of what it
 // stops at.
-#[derive(Drop)]
+#[derive(Clone, Copy)]
 struct Walk {
     pass: Pass,
     number: u32,
@@ -26,7 +28,7 @@ struct Walk {
 
 // What the groups bring: a refusal's number and both places, or number 0, the length of the log, and the earliest open notice and the
 // earliest misplaced fill, each told by its number among the data words, one up.
-#[derive(Drop)]
+#[derive(Clone, Copy)]
 pub struct Outcome {
     pub number: u32,
     pub place: u64,

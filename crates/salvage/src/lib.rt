@@ -1,4 +1,6 @@
 // Salvage a damaged capture (document 02, K10): "Tapes come back with dropouts."
+#![tactic(auto)]
+
 ghost use Rattle.std.specs.Prelude.{◌≡◌, ◌+◌, ◌*◌, ◌%◌, ◌<◌, ◌≤◌, length};
 ghost use Rattle.format.specs.Plan.{group_words};
 ghost use Rattle.format.specs.Laws.Limits.{Shape};

@@ -1,4 +1,6 @@
 // A salvage from what C hands over (document 02, K10): the numbers that name a plan, kinds and times as bytes, the report as numbers.
+#![tactic(auto)]
+
 ghost use Rattle.std.specs.Prelude.{◌/◌, ◌<◌, ◌≤◌, length};
 ghost use Rattle.format.specs.Laws.Limits.{least_group_bytes};
 ghost use Rattle.salvage_rules.specs.Salvage.{salvaged};

@@ -1,5 +1,7 @@
 // The salvage of a capture's groups (document 02, K10), and how much it brings: "Salvage drops each group with a fault 9 to 12 and reads
 // the rest for items."
+#![tactic(auto)]
+
 ghost use Rattle.std.specs.Prelude.{◌≡◌, ◌+◌, ◌*◌, ◌<◌, ◌≤◌, ◌^◌, length};
 ghost use Rattle.format.specs.Group.{group_time};
 ghost use Rattle.format.specs.Plan.{group_words, slots};
@@ -13,14 +15,14 @@ use format::{Kind, Plan};
 use salvage_run::{Pass, drop_group, let_go, on_row, put_at, start_pass};
 
 // What is carried from group to group: what is carried over words, and how many frame times there are.
-#[derive(Drop)]
+#[derive(Clone, Copy)]
 struct Walk {
     pass: Pass,
     times: usize,
 }
 
 // How many bytes of log, frame times and report entries there are.
-#[derive(Drop)]
+#[derive(Clone, Copy)]
 pub struct Tally {
     pub bytes: usize,
     pub times: usize,

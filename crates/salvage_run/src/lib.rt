@@ -1,4 +1,6 @@
 // The salvage of a row of data words (document 02, K10), one after the other: nothing is refused for its words.
+#![tactic(auto)]
+
 ghost use Rattle.std.specs.Prelude.{◌≡◌, List, ℕ, ◌+◌, ◌<◌, ◌≤◌, ◌^◌, length};
 ghost use Rattle.format.specs.Plan.{slots};
 ghost use Rattle.format.specs.Laws.Limits.{Shape};
@@ -17,7 +19,7 @@ use log_write::Pen;
 
 // The numbers of the last four data words; an item that is held has at most four. A word's number is its place among the data words
 // in dealt order.
-#[derive(Drop)]
+#[derive(Clone, Copy)]
 pub struct Last {
     pub first: u64,
     pub second: u64,
@@ -26,7 +28,7 @@ pub struct Last {
 }
 
 // What is carried from word to word: what is held, the last words, the log so far, and how many entries the report has.
-#[derive(Drop)]
+#[derive(Clone, Copy)]
 pub struct Pass {
     pub held: Holding,
     pub last: Last,

@@ -1,5 +1,7 @@
 // A reading in two operations from what C hands over (document 02, K3): the numbers that name a plan, kinds and times as bytes, words
 // as numbers.
+#![tactic(auto)]
+
 ghost use Rattle.std.specs.Prelude.{◌/◌, ◌<◌, ◌≤◌, length};
 ghost use Rattle.format.specs.Laws.Limits.{least_group_bytes};
 ghost use Rattle.capture_rules.specs.Split.{words_read};

@@ -1,4 +1,6 @@
 // The second half of a reading in two operations (document 02, K3): it "turns such words into a log".
+#![tactic(auto)]
+
 ghost use Rattle.std.specs.Prelude.{◌≡◌, ◌≤◌, ◌<◌, ◌^◌, length};
 ghost use Rattle.format.specs.Laws.Limits.{Shape};
 ghost use Rattle.capture_rules.specs.Split.{items_read};
@@ -15,7 +17,7 @@ use notices::first_open;
 use plan::legal;
 
 // What the words bring: number 0 and the log so far, or the number and both places of what stops them.
-#[derive(Drop)]
+#[derive(Clone, Copy)]
 struct Run {
     number: u32,
     place: u64,

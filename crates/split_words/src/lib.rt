@@ -1,5 +1,7 @@
 // The first half of a reading in two operations (document 02, K3): it "undoes frames and tracks and hands out data slots in dealt
 // order, fill included, with the frame times".
+#![tactic(auto)]
+
 ghost use Rattle.std.specs.Prelude.{◌≡◌, ◌*◌, ◌%◌, ◌/◌, ◌≤◌, ◌<◌, length};
 ghost use Rattle.format.specs.Answer.{Given, over};
 ghost use Rattle.format.specs.Group.{none};

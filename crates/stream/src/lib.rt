@@ -1,4 +1,6 @@
 // A capture as it arrives (document 02, K4): "We want an opening, a feeding and a closing call". Here the first two.
+#![tactic(auto)]
+
 ghost use Rattle.std.specs.Prelude.{◌≡◌, length};
 ghost use Rattle.stream_state.specs.AtWork.{table_at};
 ghost use Rattle.stream_calls.specs.Calls.{Feeds, Opens};

@@ -1,4 +1,6 @@
 // What the three calls of a capture as it arrives have in common (document 02, K4): the limits that are looked at first.
+#![tactic(auto)]
+
 ghost use Rattle.std.specs.Prelude.{◌≡◌};
 ghost use Rattle.stream_calls.specs.Calls.{within};
 

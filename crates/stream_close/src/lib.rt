@@ -1,4 +1,6 @@
 // The close of a capture as it arrives (document 02, K4).
+#![tactic(auto)]
+
 ghost use Rattle.std.specs.Prelude.{◌≡◌, length};
 ghost use Rattle.stream_calls.specs.Calls.{Closes};
 ghost use Rattle.stream_close.specs.Closing.{Closable, Shuts};

@@ -1,5 +1,7 @@
 // The close of a capture as it arrives (document 02, K4), where no part of a group waits: the cut item, the earliest notice without its
 // word, or the log's last bytes.
+#![tactic(auto)]
+
 ghost use Rattle.std.specs.Prelude.{◌≡◌, ◌≤◌, length};
 ghost use Rattle.stream_end.specs.End.{Ends, Last, Puts, Whole};
 

@@ -1,4 +1,6 @@
 // A capture as it arrives, from what C hands over (document 02, K4): the numbers that name a plan, kinds and times as bytes.
+#![tactic(auto)]
+
 ghost use Rattle.std.specs.Prelude.{◌≡◌, length};
 ghost use Rattle.stream_from_c.specs.Streaming.{FeedsBytes, OpensFrom};
 

@@ -1,5 +1,7 @@
 // One group of a capture as it arrives (K4): "the items complete before the refused group" are handed out, so a group is taken whole
 // or not at all.
+#![tactic(auto)]
+
 ghost use Rattle.std.specs.Prelude.{◌≡◌, true, ◌+◌, ◌*◌, ◌%◌, ◌/◌, ◌≤◌, ◌<◌, ◌^◌, length};
 ghost use Rattle.format.specs.Plan.{group_words, slots, lead};
 ghost use Rattle.format.specs.Laws.Limits.{Shape};
@@ -17,7 +19,7 @@ use log_write::Pen;
 
 // What a group brings: a refusal's number and both places, or number 0, what is held then, the place of its first word, and the log
 // with the group's items.
-#[derive(Drop)]
+#[derive(Clone, Copy)]
 pub struct Took {
     pub number: u32,
     pub place: u64,

@@ -1,4 +1,6 @@
 // The groups that a piece fills (document 02, K4): taken by way of the state's bytes, and the state stored behind the last one.
+#![tactic(auto)]
+
 ghost use Rattle.std.specs.Prelude.{◌≡◌, ◌+◌, ◌*◌, ◌-◌, ◌<◌, ◌≤◌, length, take};
 ghost use Rattle.format.specs.Plan.{slots};
 ghost use Rattle.stream_rules.specs.Stream.{feed_bytes, group_size, working};

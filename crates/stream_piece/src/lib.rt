@@ -1,5 +1,7 @@
 // The groups of a piece of a capture as it arrives (document 02, K4), taken one after the other: the log and the frame times of each
 // group that is taken go behind what is written.
+#![tactic(auto)]
+
 ghost use Rattle.std.specs.Prelude.{◌≡◌, cond, [], ◌∷◌, ◌+◌, ◌*◌, ◌/◌, ◌^◌, ◌≤◌, ◌<◌, length, take, drop};
 ghost use Rattle.format.specs.Group.{group_time};
 ghost use Rattle.format.specs.Plan.{group_words, times_needed};
@@ -17,7 +19,7 @@ use stream_group::{Took, take_group};
 
 // Where a feeding stands between two groups: the fault's number and places if it met one, else number 0; the bits not yet a byte, the
 // groups read, the place of the held item's first word and what is held; how many bytes and times are written.
-#[derive(Drop)]
+#[derive(Clone, Copy)]
 pub struct Along {
     pub number: u32,
     pub place: u64,

@@ -1,5 +1,6 @@
 // The state between two calls as C lends it, 7,168 bytes (document 02, K4): its one written test, its numbers out of and into the bytes,
 // and a piece put behind the bytes that wait.
+#![tactic(auto)]
 
 ghost use Rattle.std.specs.Prelude.{◌≡◌, ◌+◌, ◌*◌, ◌-◌, ◌^◌, ◌<◌, ◌≤◌, length, replicate, take, true, false, not, ◌&&◌, ◌||◌, eqb, leb};
 ghost use mathlib.Core.List.{[], flat_map, map};
@@ -31,7 +32,7 @@ use plan;
 
 // A state at work, by its numbers: the bits not yet a byte and how many they are, the groups read, the place of the held item's first
 // word, what is held, and how many bytes wait. The kinds, the table of unanswered notices and the bytes that wait go beside it.
-#[derive(Drop)]
+#[derive(Clone, Copy)]
 pub struct Stand {
     pub plan: Plan,
     pub left: u32,
@@ -43,7 +44,7 @@ pub struct Stand {
 }
 
 // What lent bytes are: 0 a closed state, 1 one at work, 2 one with a fault, 3 none.
-#[derive(Drop)]
+#[derive(Clone, Copy)]
 pub struct Loaded {
     pub stage: u32,
     pub stand: Stand,
@@ -177,7 +178,7 @@ fn one_used(number: u64) -> u64
 }
 
 // Whether the numbers of some buses are kinds, and how many of the buses are used.
-#[derive(Drop)]
+#[derive(Clone, Copy)]
 pub struct Buses {
     pub named: bool,
     pub used: u64,
@@ -373,7 +374,7 @@ fn load_failed(state: &[u8]) -> Loaded
 // ---- What is held, by its words
 
 // What words hold; `bad` if they are not those of an item that may be held.
-#[derive(Drop)]
+#[derive(Clone, Copy)]
 pub struct Again {
     pub bad: bool,
     pub held: Holding,

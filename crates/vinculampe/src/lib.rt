@@ -1,5 +1,7 @@
 // Vinculampe's entry points, from Rattle and from C (document 01, "Programs"): composing and both readings, and what is done with
 // logs alone (document 02).
+#![tactic(auto)]
+
 pub mod full;
 pub mod salvaging;
 pub mod split;

@@ -1,5 +1,6 @@
 // One 24-bit word: its fields, its parity, its three stored bytes; and the parts of a time.
 // Each function is the definition of `format` that its contract names.
+#![tactic(auto)]
 
 ghost use Rattle.std.specs.Prelude.{◌≡◌, ◌++◌, ◌+◌, ◌≤◌, ◌<◌, ◌^◌, length, take, drop};
 ghost use Rattle.format.specs.Word.{word_of, bus_of, label_of, info_of, is_odd, sent, sync, fill, is_fill, bytes_of};

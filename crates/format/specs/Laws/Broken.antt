@@ -170,6 +170,7 @@ held_some (TagHigh (base.Arinc bus c word) high) s = omega arith
 held_some (TagLow (base.Command bus b word) high low) s = omega arith
 held_some (TagLow (base.Arinc bus c word) high low) s = omega arith
 held_some (Answering bus r) s = omega arith
+held_some Nothing s = elim s [ ]
 
 first_of : (h : Held) (seen : List ℕ) (n p : ℕ) → Some h → First h seen n p → p ≡ get_or seen n 0
 first_of (Taggable x) seen n p s f = f
@@ -177,6 +178,7 @@ first_of (Half bus c high) seen n p s f = f
 first_of (TagHigh x high) seen n p s f = f
 first_of (TagLow x high low) seen n p s f = f
 first_of (Answering bus r) seen n p s f = f
+first_of Nothing seen n p s f = elim s [ ]
 
 -- the next word begins what is held then
 new_first : (h : Held) → New h → (seen : List ℕ) (n old here : ℕ) → length seen + 1 ≡ n + length (held_parts h) → First h (seen ++ here ∷ []) n (since h old here)
@@ -184,6 +186,9 @@ new_first Nothing w seen n old here e = tt
 new_first (Taggable (base.Command bus b word)) w seen n old here e = sym (get_or_at seen here [] 0 n (omega arith))
 new_first (Half bus c high) w seen n old here e = sym (get_or_at seen here [] 0 n (omega arith))
 new_first (Answering bus r) w seen n old here e = sym (get_or_at seen here [] 0 n (omega arith))
+new_first (Taggable (base.Arinc _ _ _)) w seen n old here e = elim w [ ]
+new_first (TagHigh _ _) w seen n old here e = elim w [ ]
+new_first (TagLow _ _ _) w seen n old here e = elim w [ ]
 
 -- or goes on with it
 old_first : (h : Held) → (New h → ⊥) → (seen : List ℕ) (n old here : ℕ) → n < length seen → old ≡ get_or seen n 0 → First h (seen ++ here ∷ []) n (since h old here)
