@@ -4,11 +4,11 @@ use native.Mathlib.Omega.{arith}
 use Rattle.plan.proofs.group_words.Statement.{statement}
 use Rattle.plan.proofs.group_words.Tie as tie
 
-mul-result : tie.Need-overflow-mul-result
-mul-result c = omega (arith, group_most c.before.args.plan c.before.requires)
+overflow_mul-result : tie.Need-overflow_mul-result
+overflow_mul-result c = omega (arith, group_most c.before.args.plan c.before.requires)
 
 returns : tie.Need-returns
 returns c = (refl, group_most c.before.args.plan c.before.requires)
 
 pub group_words_spec : {M : Type 1} → statement M
-group_words_spec = tie.close (tie.spec mul-result returns)
+group_words_spec = tie.close (tie.spec overflow_mul-result returns)

@@ -3,17 +3,17 @@ use borrow.Author.Tests.{le-leb, lt-leb}
 use Rattle.plan.proofs.label_and_code_fit.Statement.{statement}
 use Rattle.plan.proofs.label_and_code_fit.Tie as tie
 
+returns-then-label-gt7 : tie.Need-returns-then-label-gt7
+returns-then-label-gt7 c = rw (lt-leb _ _ c.if-label-gt7.true)
+
+returns-then-code-gt15 : tie.Need-returns-then-code-gt15
+returns-then-code-gt15 c = rw (le-leb _ _ c.before.if-label-gt7.false, lt-leb _ _ c.if-code-gt15.true)
+
+returns-then-parity : tie.Need-returns-then-parity
+returns-then-parity c = rw (le-leb _ _ c.before.before.if-label-gt7.false, le-leb _ _ c.before.if-code-gt15.false, c.if-parity.true)
+
 returns : tie.Need-returns
-returns c = rw (lt-leb _ _ c.if1.true)
-
-returns-2 : tie.Need-returns-2
-returns-2 c = rw (le-leb _ _ c.before.if1.false, lt-leb _ _ c.if2.true)
-
-returns-3 : tie.Need-returns-3
-returns-3 c = rw (le-leb _ _ c.before.before.if1.false, le-leb _ _ c.before.if2.false, c.if3.true)
-
-returns-4 : tie.Need-returns-4
-returns-4 c = rw (le-leb _ _ c.before.before.if1.false, le-leb _ _ c.before.if2.false, c.if3.false)
+returns c = rw (le-leb _ _ c.before.before.if-label-gt7.false, le-leb _ _ c.before.if-code-gt15.false, c.if-parity.false)
 
 pub label_and_code_fit_spec : {M : Type 1} → statement M
-label_and_code_fit_spec = tie.close (tie.spec returns returns-2 returns-3 returns-4)
+label_and_code_fit_spec = tie.close (tie.spec returns-then-label-gt7 returns-then-code-gt15 returns-then-parity returns)

@@ -10,69 +10,69 @@ use Rattle.plan.proofs.legal.Tie as tie
 
 -- within the limits what is left is of tracks, parity, label and code; the function's entry
 abbrev Limited : Type 0
-Limited = tie.After-tracks-fit
+Limited = tie.After-tracks_fit
 
 abbrev entry : Limited → tie.Start
 entry c = c.before.before.before.before.before.before.before.before.before
 
-limited : (c : Limited) (fit : Bool) → c.tracks-fit.result ≡ fit
+limited : (c : Limited) (fit : Bool) → c.tracks_fit.result ≡ fit
     → let p = (entry c).args.plan in
     legal p (entry c).args.kinds
     ≡ (fit && (not p.parity || eqb (used_buses (drop 8 (entry c).args.kinds)) 0)
     && leb p.crc_label 7 && leb p.fill_bus 15 && (not p.parity || leb p.fill_bus 7))
 unfolding legal
 limited c fit e =
-    rw (le-leb _ _ c.before.before.before.before.before.before.before.if1.false, le-leb _ _ c.before.before.before.before.before.if2.false, le-leb _ _ c.before.before.before.if3.false, le-leb _ _ c.before.if4.false, sym c.tracks-fit.ensures ∙ e)
+    rw (le-leb _ _ c.before.before.before.before.before.before.before.if-plan-lt-LEAST_WORDS.false, le-leb _ _ c.before.before.before.before.before.if-plan-gt-MOST_WORDS.false, le-leb _ _ c.before.before.before.if-plan-lt1.false, le-leb _ _ c.before.if-plan-gt4.false, sym c.tracks_fit.ensures ∙ e)
 
-returns : tie.Need-returns
+returns-then-plan-lt-LEAST_WORDS : tie.Need-returns-then-plan-lt-LEAST_WORDS
 unfolding legal
-returns c = rw (lt-leb _ _ c.if1.true)
+returns-then-plan-lt-LEAST_WORDS c = rw (lt-leb _ _ c.if-plan-lt-LEAST_WORDS.true)
 
-returns-2 : tie.Need-returns-2
+returns-then-plan-gt-MOST_WORDS : tie.Need-returns-then-plan-gt-MOST_WORDS
 unfolding legal
-returns-2 c = rw (le-leb _ _ c.before.before.if1.false, lt-leb _ _ c.if2.true)
+returns-then-plan-gt-MOST_WORDS c = rw (le-leb _ _ c.before.before.if-plan-lt-LEAST_WORDS.false, lt-leb _ _ c.if-plan-gt-MOST_WORDS.true)
 
-returns-3 : tie.Need-returns-3
+returns-then-plan-lt1 : tie.Need-returns-then-plan-lt1
 unfolding legal
-returns-3 c = rw (le-leb _ _ c.before.before.before.before.if1.false, le-leb _ _ c.before.before.if2.false, lt-leb _ _ c.if3.true)
+returns-then-plan-lt1 c = rw (le-leb _ _ c.before.before.before.before.if-plan-lt-LEAST_WORDS.false, le-leb _ _ c.before.before.if-plan-gt-MOST_WORDS.false, lt-leb _ _ c.if-plan-lt1.true)
 
-returns-4 : tie.Need-returns-4
+returns-then-plan-gt4 : tie.Need-returns-then-plan-gt4
 unfolding legal
-returns-4 c = rw (le-leb _ _ c.before.before.before.before.before.before.if1.false, le-leb _ _ c.before.before.before.before.if2.false, le-leb _ _ c.before.before.if3.false, lt-leb _ _ c.if4.true)
+returns-then-plan-gt4 c = rw (le-leb _ _ c.before.before.before.before.before.before.if-plan-lt-LEAST_WORDS.false, le-leb _ _ c.before.before.before.before.if-plan-gt-MOST_WORDS.false, le-leb _ _ c.before.before.if-plan-lt1.false, lt-leb _ _ c.if-plan-gt4.true)
 
-tracks-fit-requires : tie.Need-tracks-fit-requires
-tracks-fit-requires c κs = search rules
+tracks_fit-requires : tie.Need-tracks_fit-requires
+tracks_fit-requires c κs = search rules
 
-parity-fits-requires : tie.Need-parity-fits-requires
-parity-fits-requires c κs = search rules
+parity_fits-requires : tie.Need-parity_fits-requires
+parity_fits-requires c κs = search rules
 
-label-and-code-fit-requires : tie.Need-label-and-code-fit-requires
-label-and-code-fit-requires c κs = search rules
+label_and_code_fit-requires : tie.Need-label_and_code_fit-requires
+label_and_code_fit-requires c κs = search rules
 
-returns-5 : tie.Need-returns-5
-returns-5 c =
+returns-then-parity_fits : tie.Need-returns-then-parity_fits
+returns-then-parity_fits c =
     let fitted = c.before.before in
-    c.label-and-code-fit.ensures ∙ sym (limited fitted.before.before true fitted.before.if5.true ∙ rw (← fitted.parity-fits.ensures, c.before.if6.true))
+    c.label_and_code_fit.ensures ∙ sym (limited fitted.before.before true fitted.before.if-tracks_fit.true ∙ rw (← fitted.parity_fits.ensures, c.before.if-parity_fits.true))
 
-returns-6 : tie.Need-returns-6
-returns-6 c =
+returns-else-parity_fits : tie.Need-returns-else-parity_fits
+returns-else-parity_fits c =
     let fitted = c.before in
-    sym (limited fitted.before.before true fitted.before.if5.true ∙ rw (← fitted.parity-fits.ensures, c.if6.false))
+    sym (limited fitted.before.before true fitted.before.if-tracks_fit.true ∙ rw (← fitted.parity_fits.ensures, c.if-parity_fits.false))
 
-returns-7 : tie.Need-returns-7
-returns-7 c = sym (limited c.before false c.if5.false)
+returns-else-tracks_fit : tie.Need-returns-else-tracks_fit
+returns-else-tracks_fit c = sym (limited c.before false c.if-tracks_fit.false)
 
 pub legal_spec : {M : Type 1} → statement M
 legal_spec =
     tie.close
     (tie.spec
-    returns
-    returns-2
-    returns-3
-    returns-4
-    tracks-fit-requires
-    parity-fits-requires
-    label-and-code-fit-requires
-    returns-5
-    returns-6
-    returns-7)
+    returns-then-plan-lt-LEAST_WORDS
+    returns-then-plan-gt-MOST_WORDS
+    returns-then-plan-lt1
+    returns-then-plan-gt4
+    tracks_fit-requires
+    parity_fits-requires
+    label_and_code_fit-requires
+    returns-then-parity_fits
+    returns-else-parity_fits
+    returns-else-tracks_fit)

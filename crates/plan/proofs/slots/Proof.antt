@@ -19,17 +19,17 @@ sizes c = (dealt_least (plan c) c.before.requires, dealt_most (plan c) c.before.
 rows-requires : tie.Need-rows-requires
 rows-requires c κs = search rules
 
-mul-dealt : tie.Need-overflow-mul-dealt
-mul-dealt c = rw c.before.rows.ensures (omega (arith, sizes c.before))
+overflow_mul-dealt : tie.Need-overflow_mul-dealt
+overflow_mul-dealt c = rw c.before.rows.ensures (omega (arith, sizes c.before))
 
-sub-result : tie.Need-overflow-sub-result
-sub-result c = let r = c.before.before in rw r.rows.ensures (omega (arith, sizes r))
+overflow_sub-result : tie.Need-overflow_sub-result
+overflow_sub-result c = let r = c.before.before in rw r.rows.ensures (omega (arith, sizes r))
+
+returns-then-plan : tie.Need-returns-then-plan
+returns-then-plan c = let r = c.before.before in rw (r.rows.ensures, slots_timed (plan r) c.if-plan.true) (refl, omega (arith, sizes r), omega (arith, sizes r))
 
 returns : tie.Need-returns
-returns c = let r = c.before.before in rw (r.rows.ensures, slots_timed (plan r) c.if1.true) (refl, omega (arith, sizes r), omega (arith, sizes r))
-
-returns-2 : tie.Need-returns-2
-returns-2 c = let r = c.before.before in rw (r.rows.ensures, slots_untimed (plan r) c.if1.false) (refl, omega (arith, sizes r), omega (arith, sizes r))
+returns c = let r = c.before.before in rw (r.rows.ensures, slots_untimed (plan r) c.if-plan.false) (refl, omega (arith, sizes r), omega (arith, sizes r))
 
 pub slots_spec : {M : Type 1} → statement M
-slots_spec = tie.close (tie.spec rows-requires mul-dealt sub-result returns returns-2)
+slots_spec = tie.close (tie.spec rows-requires overflow_mul-dealt overflow_sub-result returns-then-plan returns)

@@ -10,55 +10,55 @@ use borrow.Author.Rules.{rules}
 use Rattle.plan.proofs.used_buses.Statement.{statement}
 use Rattle.plan.proofs.used_buses.Tie as tie
 
-abbrev invariant-loop : tie.invariant-loop
-invariant-loop kinds first used₀ bus₀ used bus = (used ≤ bus) × (bus ≤ 16) × (used_buses (drop first kinds) ≡ used + used_buses (drop bus kinds))
+abbrev invariant-loop-bus : tie.invariant-loop-bus
+invariant-loop-bus kinds first used₀ bus₀ used bus = (used ≤ bus) × (bus ≤ 16) × (used_buses (drop first kinds) ≡ used + used_buses (drop bus kinds))
 
-abbrev decreases-loop : tie.decreases-loop
-decreases-loop kinds first used₀ bus₀ used bus = 16 - bus
+abbrev decreases-loop-bus : tie.decreases-loop-bus
+decreases-loop-bus kinds first used₀ bus₀ used bus = 16 - bus
 
-loop-holds : tie.Need-loop-init invariant-loop decreases-loop
-loop-holds c = (search rules, search rules, omega arith)
+loop-bus-init : tie.Need-loop-bus-init invariant-loop-bus decreases-loop-bus
+loop-bus-init c = (search rules, search rules, omega arith)
 
-kind-at-requires : tie.Need-kind-at-requires invariant-loop decreases-loop
-kind-at-requires c κs = search rules
+kind_at-requires : tie.Need-kind_at-requires invariant-loop-bus decreases-loop-bus
+kind_at-requires c κs = search rules
 
-is-used-requires : tie.Need-is-used-requires invariant-loop decreases-loop
-is-used-requires c κs = search rules
+is_used-requires : tie.Need-is_used-requires invariant-loop-bus decreases-loop-bus
+is_used-requires c κs = search rules
 
-add-used : tie.Need-overflow-add-used invariant-loop decreases-loop
-add-used c = search rules
+overflow_add-used : tie.Need-overflow_add-used invariant-loop-bus decreases-loop-bus
+overflow_add-used c = search rules
 
-add-bus : tie.Need-overflow-add-bus invariant-loop decreases-loop
-add-bus c = search rules
+overflow_add-bus : tie.Need-overflow_add-bus invariant-loop-bus decreases-loop-bus
+overflow_add-bus c = search rules
 
-loop-less : tie.Need-loop-smaller invariant-loop decreases-loop
-loop-less c = search rules
+loop-bus-smaller : tie.Need-loop-bus-smaller invariant-loop-bus decreases-loop-bus
+loop-bus-smaller c = search rules
 
-loop-again : tie.Need-loop-preserved invariant-loop decreases-loop
-loop-again c =
-    let o = c.before.before.before.before.loop in
+loop-bus-preserved : tie.Need-loop-bus-preserved invariant-loop-bus decreases-loop-bus
+loop-bus-preserved c =
+    let o = c.before.before.before.before.loop-bus in
     let a = c.before.before.before.before.before.args in
-    let g = c.before.before.before.before.before.well-formed.0 in
-    let e = sym (c.before.is-used.ensures ∙ ap is_used c.before.before.kind_at.ensures) in
+    let g = c.before.before.before.before.before.well_formed.0 in
+    let e = sym (c.before.is_used.ensures ∙ ap is_used c.before.before.kind_at.ensures) in
     ⊎_elim
     (λ w. (omega (arith, w.1), omega arith, omega (arith, w.1, o.invariant.2, bus_counted a.kinds o.bus true (e ∙ w.0.taken) (omega (arith, g)))))
     (λ w. (omega (arith, w.1), omega arith, omega (arith, w.1, o.invariant.2, bus_counted a.kinds o.bus false (e ∙ w.0.left) (omega (arith, g)))))
-    c.if1.branch
+    c.if-is_used.branch
 
-returns : tie.Need-returns invariant-loop decreases-loop
-returns c = omega (arith, c.before.loop.invariant.2, all_counted c.before.before.args.kinds c.before.loop.bus (omega (arith, c.before.before.well-formed.0)))
+returns : tie.Need-returns invariant-loop-bus decreases-loop-bus
+returns c = omega (arith, c.before.loop-bus.invariant.2, all_counted c.before.before.args.kinds c.before.loop-bus.bus (omega (arith, c.before.before.well_formed.0)))
 
 pub used_buses_spec : {M : Type 1} → statement M
 used_buses_spec =
     tie.close
     (tie.spec
-    invariant-loop
-    decreases-loop
-    loop-holds
-    kind-at-requires
-    is-used-requires
-    add-used
-    add-bus
-    loop-less
-    loop-again
+    invariant-loop-bus
+    decreases-loop-bus
+    loop-bus-init
+    kind_at-requires
+    is_used-requires
+    overflow_add-used
+    overflow_add-bus
+    loop-bus-smaller
+    loop-bus-preserved
     returns)

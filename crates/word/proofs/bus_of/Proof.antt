@@ -2,13 +2,13 @@ use Rattle.format.specs.Word.{bus_of}
 use Rattle.word.proofs.bus_of.Statement.{statement}
 use Rattle.word.proofs.bus_of.Tie as tie
 
-returns : tie.Need-returns
+returns-then-parity : tie.Need-returns-then-parity
 unfolding bus_of
-returns c = rw c.if1.true
+returns-then-parity c = rw c.if-parity.true
 
-returns-2 : tie.Need-returns-2
+returns-else-parity : tie.Need-returns-else-parity
 unfolding bus_of
-returns-2 c = rw c.if1.false
+returns-else-parity c = rw c.if-parity.false
 
 pub bus_of_spec : {M : Type 1} → statement M
-bus_of_spec = tie.close (tie.spec returns returns-2)
+bus_of_spec = tie.close (tie.spec returns-then-parity returns-else-parity)

@@ -4,19 +4,19 @@ use Rattle.format.specs.Word.{is_fill}
 use Rattle.word.proofs.is_fill.Statement.{statement}
 use Rattle.word.proofs.is_fill.Tie as tie
 
-label-of-requires : tie.Need-label-of-requires
-label-of-requires c κs = search rules
+label_of-requires : tie.Need-label_of-requires
+label_of-requires c κs = search rules
 
-information-of-requires : tie.Need-information-of-requires
-information-of-requires c κs = search rules
+information_of-requires : tie.Need-information_of-requires
+information_of-requires c κs = search rules
 
-returns : tie.Need-returns
+returns-then-label_of-eq1 : tie.Need-returns-then-label_of-eq1
 unfolding is_fill
-returns c = rw (← c.before.before.label_of.ensures, ← c.information-of.ensures, eq-eqb _ _ c.before.if1.true)
+returns-then-label_of-eq1 c = rw (← c.before.before.label_of.ensures, ← c.information_of.ensures, eq-eqb _ _ c.before.if-label_of-eq1.true)
 
-returns-2 : tie.Need-returns-2
+returns-else-label_of-eq1 : tie.Need-returns-else-label_of-eq1
 unfolding is_fill
-returns-2 c = rw (← c.before.label_of.ensures, ne_eqb _ _ c.if1.false)
+returns-else-label_of-eq1 c = rw (← c.before.label_of.ensures, ne_eqb _ _ c.if-label_of-eq1.false)
 
 pub is_fill_spec : {M : Type 1} → statement M
-is_fill_spec = tie.close (tie.spec label-of-requires information-of-requires returns returns-2)
+is_fill_spec = tie.close (tie.spec label_of-requires information_of-requires returns-then-label_of-eq1 returns-else-label_of-eq1)

@@ -3,14 +3,14 @@ use borrow.Author.Rules.{rules}
 use Rattle.word.proofs.low_label.Statement.{statement}
 use Rattle.word.proofs.low_label.Tie as tie
 
-mul-result : tie.Need-overflow-mul-result
-mul-result c = search rules
+overflow_mul-result : tie.Need-overflow_mul-result
+overflow_mul-result c = search rules
 
-add-result : tie.Need-overflow-add-result
-add-result c = search rules
+overflow_add-result : tie.Need-overflow_add-result
+overflow_add-result c = search rules
 
 returns : tie.Need-returns
 returns c = refl
 
 pub low_label_spec : {M : Type 1} → statement M
-low_label_spec = tie.close (tie.spec mul-result add-result returns)
+low_label_spec = tie.close (tie.spec overflow_mul-result overflow_add-result returns)

@@ -3,23 +3,23 @@ use Rattle.format.specs.Word.{sent}
 use Rattle.word.proofs.sent.Statement.{statement}
 use Rattle.word.proofs.sent.Tie as tie
 
-is-odd-requires : tie.Need-is-odd-requires
-is-odd-requires c κs = search rules
+is_odd-requires : tie.Need-is_odd-requires
+is_odd-requires c κs = search rules
 
-add-result : tie.Need-overflow-add-result
-add-result c = search rules
+overflow_add-result : tie.Need-overflow_add-result
+overflow_add-result c = search rules
 
-returns : tie.Need-returns
+returns-then-is_odd : tie.Need-returns-then-is_odd
 unfolding sent
-returns c = rw (c.before.before.if1.true, ← c.before.is_odd.ensures, c.if2.true)
+returns-then-is_odd c = rw (c.before.before.if-parity.true, ← c.before.is_odd.ensures, c.if-is_odd.true)
 
-returns-2 : tie.Need-returns-2
+returns-else-is_odd : tie.Need-returns-else-is_odd
 unfolding sent
-returns-2 c = rw (c.before.before.if1.true, ← c.before.is_odd.ensures, c.if2.false)
+returns-else-is_odd c = rw (c.before.before.if-parity.true, ← c.before.is_odd.ensures, c.if-is_odd.false)
 
-returns-3 : tie.Need-returns-3
+returns-else-parity : tie.Need-returns-else-parity
 unfolding sent
-returns-3 c = rw c.if1.false
+returns-else-parity c = rw c.if-parity.false
 
 pub sent_spec : {M : Type 1} → statement M
-sent_spec = tie.close (tie.spec is-odd-requires add-result returns returns-2 returns-3)
+sent_spec = tie.close (tie.spec is_odd-requires overflow_add-result returns-then-is_odd returns-else-is_odd returns-else-parity)

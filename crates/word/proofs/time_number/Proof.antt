@@ -3,26 +3,26 @@ use borrow.Author.Rules.{rules}
 use Rattle.word.proofs.time_number.Statement.{statement}
 use Rattle.word.proofs.time_number.Tie as tie
 
-cast-result : tie.Need-overflow-cast-result
-cast-result c = search rules
+overflow_cast-result : tie.Need-overflow_cast-result
+overflow_cast-result c = search rules
 
-mul-result : tie.Need-overflow-mul-result
-mul-result c = search rules
+overflow_mul-result : tie.Need-overflow_mul-result
+overflow_mul-result c = search rules
 
-cast-result-2 : tie.Need-overflow-cast-result-2
-cast-result-2 c = search rules
+overflow_cast-result-2 : tie.Need-overflow_cast-result-2
+overflow_cast-result-2 c = search rules
 
-add-result : tie.Need-overflow-add-result
-add-result c = search rules
+overflow_add-result : tie.Need-overflow_add-result
+overflow_add-result c = search rules
 
-mul-result-2 : tie.Need-overflow-mul-result-2
-mul-result-2 c = search rules
+overflow_mul-result-2 : tie.Need-overflow_mul-result-2
+overflow_mul-result-2 c = search rules
 
-cast-result-3 : tie.Need-overflow-cast-result-3
-cast-result-3 c = search rules
+overflow_cast-result-3 : tie.Need-overflow_cast-result-3
+overflow_cast-result-3 c = search rules
 
-add-result-2 : tie.Need-overflow-add-result-2
-add-result-2 c = search rules
+overflow_add-result-2 : tie.Need-overflow_add-result-2
+overflow_add-result-2 c = search rules
 
 returns : tie.Need-returns
 returns c = refl
@@ -31,11 +31,11 @@ pub time_number_spec : {M : Type 1} → statement M
 time_number_spec =
     tie.close
     (tie.spec
-    cast-result
-    mul-result
-    cast-result-2
-    add-result
-    mul-result-2
-    cast-result-3
-    add-result-2
+    overflow_cast-result
+    overflow_mul-result
+    overflow_cast-result-2
+    overflow_add-result
+    overflow_mul-result-2
+    overflow_cast-result-3
+    overflow_add-result-2
     returns)

@@ -3,41 +3,41 @@ use Rattle.word.specs.Stored.{three_at}
 use Rattle.word.proofs.word_at.Statement.{statement}
 use Rattle.word.proofs.word_at.Tie as tie
 
-shared-slice-read-wide : tie.Need-shared-slice-read-wide
-shared-slice-read-wide c = search rules
+bounds-bytes-at : tie.Need-bounds-bytes-at
+bounds-bytes-at c = search rules
 
 wide-requires : tie.Need-wide-requires
 wide-requires c κs = search rules
 
-mul-result : tie.Need-overflow-mul-result
-mul-result c = search rules
+overflow_mul-result : tie.Need-overflow_mul-result
+overflow_mul-result c = search rules
 
-add_wide : tie.Need-overflow-add-wide
-add_wide c = search rules
+overflow_add-at : tie.Need-overflow_add-at
+overflow_add-at c = search rules
 
-shared-slice-read-wide-2 : tie.Need-shared-slice-read-wide-2
-shared-slice-read-wide-2 c = search rules
+bounds-bytes-at-2 : tie.Need-bounds-bytes-at-2
+bounds-bytes-at-2 c = search rules
 
 wide-requires-2 : tie.Need-wide-requires-2
 wide-requires-2 c κs = search rules
 
-mul-result-2 : tie.Need-overflow-mul-result-2
-mul-result-2 c = search rules
+overflow_mul-result-2 : tie.Need-overflow_mul-result-2
+overflow_mul-result-2 c = search rules
 
-add-result : tie.Need-overflow-add-result
-add-result c = search rules
+overflow_add-result : tie.Need-overflow_add-result
+overflow_add-result c = search rules
 
-add-wide-2 : tie.Need-overflow-add-wide-2
-add-wide-2 c = search rules
+overflow_add-at-2 : tie.Need-overflow_add-at-2
+overflow_add-at-2 c = search rules
 
-shared-slice-read-wide-3 : tie.Need-shared-slice-read-wide-3
-shared-slice-read-wide-3 c = search rules
+bounds-bytes-at-3 : tie.Need-bounds-bytes-at-3
+bounds-bytes-at-3 c = search rules
 
 wide-requires-3 : tie.Need-wide-requires-3
 wide-requires-3 c κs = search rules
 
-add-result-2 : tie.Need-overflow-add-result-2
-add-result-2 c = search rules
+overflow_add-result-2 : tie.Need-overflow_add-result-2
+overflow_add-result-2 c = search rules
 
 returns : tie.Need-returns
 unfolding three_at
@@ -47,16 +47,16 @@ pub word_at_spec : {M : Type 1} → statement M
 word_at_spec =
     tie.close
     (tie.spec
-    shared-slice-read-wide
+    bounds-bytes-at
     wide-requires
-    mul-result
-    add_wide
-    shared-slice-read-wide-2
+    overflow_mul-result
+    overflow_add-at
+    bounds-bytes-at-2
     wide-requires-2
-    mul-result-2
-    add-result
-    add-wide-2
-    shared-slice-read-wide-3
+    overflow_mul-result-2
+    overflow_add-result
+    overflow_add-at-2
+    bounds-bytes-at-3
     wide-requires-3
-    add-result-2
+    overflow_add-result-2
     returns)
