@@ -4,11 +4,11 @@ use borrow.Author.Rules.{rules}
 use Rattle.capture_parts.proofs.earlier.Statement.{statement}
 use Rattle.capture_parts.proofs.earlier.Tie as tie
 
-returns : tie.Need-returns
-returns c = rw (eq-eqb _ _ c.if1.true) refl
+returns-then-first-eq0 : tie.Need-returns-then-first-eq0
+returns-then-first-eq0 c = rw (eq-eqb _ _ c.if-first-eq0.true) refl
 
-returns-2 : tie.Need-returns-2
-returns-2 c = rw (ne_eqb _ _ c.if1.false) refl
+returns-else-first-eq0 : tie.Need-returns-else-first-eq0
+returns-else-first-eq0 c = rw (ne_eqb _ _ c.if-first-eq0.false) refl
 
 pub earlier_spec : {M : Type 1} → statement M
-earlier_spec = tie.close (tie.spec returns returns-2)
+earlier_spec = tie.close (tie.spec returns-then-first-eq0 returns-else-first-eq0)

@@ -6,11 +6,11 @@ use Rattle.format.specs.Laws.Limits.{some_words}
 use Rattle.capture_parts.proofs.groups_in.Statement.{statement}
 use Rattle.capture_parts.proofs.groups_in.Tie as tie
 
-group-words-requires : tie.Need-group-words-requires
-group-words-requires c κs = search rules
+group_words-requires : tie.Need-group_words-requires
+group_words-requires c κs = search rules
 
-mul-quotient : tie.Need-overflow-mul-quotient
-mul-quotient c = search rules
+overflow_mul-group_words : tie.Need-overflow_mul-group_words
+overflow_mul-group_words c = search rules
 
 quotient-requires : tie.Need-quotient-requires
 quotient-requires c κs =
@@ -22,4 +22,4 @@ returns : tie.Need-returns
 returns c = let s = c.before.before in c.quotient.ensures ∙ ap (λ (w : ℕ). s.args.length / (3 * w)) c.before.group_words.ensures.0
 
 pub groups_in_spec : {M : Type 1} → statement M
-groups_in_spec = tie.close (tie.spec group-words-requires mul-quotient quotient-requires returns)
+groups_in_spec = tie.close (tie.spec group_words-requires overflow_mul-group_words quotient-requires returns)

@@ -7,11 +7,11 @@ use Rattle.format.specs.Laws.Limits.{some_words}
 use Rattle.capture_parts.proofs.is_whole.Statement.{statement}
 use Rattle.capture_parts.proofs.is_whole.Tie as tie
 
-group-words-requires : tie.Need-group-words-requires
-group-words-requires c κs = search rules
+group_words-requires : tie.Need-group_words-requires
+group_words-requires c κs = search rules
 
-mul-remainder : tie.Need-overflow-mul-remainder
-mul-remainder c = search rules
+overflow_mul-group_words : tie.Need-overflow_mul-group_words
+overflow_mul-group_words c = search rules
 
 remainder-requires : tie.Need-remainder-requires
 remainder-requires c κs =
@@ -25,4 +25,4 @@ returns c =
     ap (λ (k : ℕ). eqb k 0) (c.remainder.ensures ∙ ap (λ (w : ℕ). s.args.length % (3 * w)) c.before.group_words.ensures.0)
 
 pub is_whole_spec : {M : Type 1} → statement M
-is_whole_spec = tie.close (tie.spec group-words-requires mul-remainder remainder-requires returns)
+is_whole_spec = tie.close (tie.spec group_words-requires overflow_mul-group_words remainder-requires returns)

@@ -19,8 +19,8 @@ narrow c = (c.requires.2, some c, omega (arith, c.requires.1, slots_most c.args.
 inner : (c : tie.Start) → c.args.number % c.args.count < slots c.args.plan
 inner c = omega (arith, mod-lt c.args.number (some c), c.requires.1)
 
-quotient-requires : tie.Need-quotient-requires
-quotient-requires c κs = narrow c
+quotient-group-requires : tie.Need-quotient-group-requires
+quotient-group-requires c κs = narrow c
 
 lead-requires : tie.Need-lead-requires
 lead-requires c κs = search rules
@@ -45,38 +45,38 @@ in_row c = omega (arith, slot_is c, inner (start c))
 remainder-requires : tie.Need-remainder-requires
 remainder-requires c κs = narrow c.before.before
 
-add-place-of : tie.Need-overflow-add-place-of
-add-place-of c = let s = start c in omega (arith, slot_is c, inner s, slots_most s.args.plan s.pre.0, lead_few s.args.plan)
+overflow_add-lead : tie.Need-overflow_add-lead
+overflow_add-lead c = let s = start c in omega (arith, slot_is c, inner s, slots_most s.args.plan s.pre.0, lead_few s.args.plan)
 
-place-of-requires : tie.Need-place-of-requires
-place-of-requires c κs = ((start c).requires.0, in_row c)
+place_of-place-requires : tie.Need-place_of-place-requires
+place_of-place-requires c κs = ((start c).requires.0, in_row c)
 
 -- the groups before it
 abbrev Placed : Type 0
-Placed = tie.After-place-of
+Placed = tie.After-place_of-place
 
 abbrev divided : Placed → Divided
 divided c = c.before
 
-groups_is : (c : Placed) → c.before.before.before.quotient.result * group_words (start (divided c)).args.plan
+groups_is : (c : Placed) → c.before.before.before.quotient-group.result * group_words (start (divided c)).args.plan
     ≡ (start (divided c)).args.number / (start (divided c)).args.count * group_words (start (divided c)).args.plan
-groups_is c = ap (λ (k : ℕ). k * group_words (start (divided c)).args.plan) c.before.before.before.quotient.ensures
+groups_is c = ap (λ (k : ℕ). k * group_words (start (divided c)).args.plan) c.before.before.before.quotient-group.ensures
 
 groups : (s : tie.Start) → s.args.number / s.args.count * group_words s.args.plan ≤ 2 ^ 32 * most_group_words
 groups s =
     let q : s.args.number / s.args.count ≤ 2 ^ 32 = omega (arith, div-le_self s.args.number s.args.count, s.requires.2) in
     mul-le-mul q (group_most s.args.plan s.requires.0)
 
-mul-result : tie.Need-overflow-mul-result
-mul-result c = let s = start (divided c.before) in omega (arith, group_most s.args.plan s.pre.0)
+overflow_mul-result : tie.Need-overflow_mul-result
+overflow_mul-result c = let s = start (divided c.before) in omega (arith, group_most s.args.plan s.pre.0)
 
-mul-result-2 : tie.Need-overflow-mul-result-2
-mul-result-2 c = omega (arith, groups_is c.before, groups (start (divided c.before)))
+overflow_mul-result-2 : tie.Need-overflow_mul-result-2
+overflow_mul-result-2 c = omega (arith, groups_is c.before, groups (start (divided c.before)))
 
-add-result : tie.Need-overflow-add-result
-add-result c =
+overflow_add-result : tie.Need-overflow_add-result
+overflow_add-result c =
     let s = start (divided c.before) in
-    omega (arith, groups_is c.before, groups s, c.before.place_of.ensures.1, group_most s.args.plan s.pre.0)
+    omega (arith, groups_is c.before, groups s, c.before.place_of-place.ensures.1, group_most s.args.plan s.pre.0)
 
 returns : tie.Need-returns
 unfolding stored_at
@@ -86,18 +86,18 @@ returns c =
     let p = s.args.plan in
     let n = s.args.number in
     ap₂ ◌+◌ (groups_is placed ∙ ap (λ (k : ℕ). n / k * group_words p) s.pre.1)
-    (placed.place_of.ensures.0 ∙ ap (place_of p) (slot_is (divided placed) ∙ ap (λ (k : ℕ). lead p + n % k) s.pre.1))
+    (placed.place_of-place.ensures.0 ∙ ap (place_of p) (slot_is (divided placed) ∙ ap (λ (k : ℕ). lead p + n % k) s.pre.1))
 
 pub stored_place_spec : {M : Type 1} → statement M
 stored_place_spec =
     tie.close
     (tie.spec
-    quotient-requires
+    quotient-group-requires
     lead-requires
     remainder-requires
-    add-place-of
-    place-of-requires
-    mul-result
-    mul-result-2
-    add-result
+    overflow_add-lead
+    place_of-place-requires
+    overflow_mul-result
+    overflow_mul-result-2
+    overflow_add-result
     returns)

@@ -17,133 +17,133 @@ use Rattle.capture_parts.proofs.write_times.Tie as tie
 abbrev time_at : Plan → List ℕ → ℕ → ℕ
 time_at plan capture k = group_time plan capture (k * group_words plan)
 
-abbrev invariant-loop : tie.invariant-loop
-invariant-loop capture plan n times₀ size g₀ times g = (g ≤ n) × Front (list (time_at plan capture) 0 g) times₀ times g
+abbrev invariant-loop-g : tie.invariant-loop-g
+invariant-loop-g capture plan n times₀ size g₀ times g = (g ≤ n) × Front (list (time_at plan capture) 0 g) times₀ times g
 
-abbrev decreases-loop : tie.decreases-loop
-decreases-loop capture plan n times₀ size g₀ times g = n - g
+abbrev decreases-loop-g : tie.decreases-loop-g
+decreases-loop-g capture plan n times₀ size g₀ times g = n - g
 
 -- ---- the places
 
 -- at a group
 abbrev AtLoop : Type 0
-AtLoop = tie.At-loop invariant-loop decreases-loop
+AtLoop = tie.At-loop-g invariant-loop-g decreases-loop-g
 
-abbrev start : AtLoop → tie.Start invariant-loop decreases-loop
+abbrev start : AtLoop → tie.Start invariant-loop-g decreases-loop-g
 start c = c.before.before.before.before
 
 abbrev words : AtLoop → ℕ
-words c = c.before.group_words.result
+words c = c.before.group_words-size.result
 
 are_words : (c : AtLoop) → words c ≡ group_words (start c).args.plan
-are_words c = c.before.group_words.ensures.0
+are_words c = c.before.group_words-size.ensures.0
 
 -- in it
 abbrev InLoop : Type 0
-InLoop = tie.In-loop invariant-loop decreases-loop
+InLoop = tie.In-loop-g invariant-loop-g decreases-loop-g
 
-abbrev at : InLoop → tie.Start invariant-loop decreases-loop
+abbrev at : InLoop → tie.Start invariant-loop-g decreases-loop-g
 at c = start c.before
 
-fits : (c : InLoop) → c.before.loop.g * (3 * words c.before) + 3 * words c.before ≤ length (at c).args.capture.now
+fits : (c : InLoop) → c.before.loop-g.g * (3 * words c.before) + 3 * words c.before ≤ length (at c).args.capture.now
 fits c =
-    part_fits (at c).args.plan c.before.loop.g (words c.before) (are_words c.before) (at c).args.capture.now (at c).args.n (at c).requires.1 c.loop-test.true
+    part_fits (at c).args.plan c.before.loop-g.g (words c.before) (are_words c.before) (at c).args.capture.now (at c).args.n (at c).requires.1 c.loop-g-test.true
 
 -- its time is told
 abbrev Timed : Type 0
-Timed = tie.After-group-time invariant-loop decreases-loop
+Timed = tie.After-group_time invariant-loop-g decreases-loop-g
 
 abbrev in_loop : Timed → InLoop
 in_loop c = c.before.before
 
-is_time_lem : (c : Timed) → c.group-time.result ≡ time_at (at (in_loop c)).args.plan (at (in_loop c)).args.capture.now (in_loop c).before.loop.g
+is_time_lem : (c : Timed) → c.group_time.result ≡ time_at (at (in_loop c)).args.plan (at (in_loop c)).args.capture.now (in_loop c).before.loop-g.g
 is_time_lem c =
     let s = at (in_loop c) in
     let l = (in_loop c).before in
-    let g = l.loop.g in
-    c.group-time.ensures
+    let g = l.loop-g.g in
+    c.group_time.ensures
     ∙ sym
     (part_time_is s.args.plan s.args.capture.now (g * group_words s.args.plan) (g * (3 * words l)) (g * (3 * words l) + 3 * words l - g * (3 * words l)) s.pre.0
     (part_begins s.args.plan g (words l) (are_words l)) (part_sized s.args.plan g (words l) (are_words l)))
 
 -- ---- the needs
 
-group-words-requires : tie.Need-group-words-requires invariant-loop decreases-loop
-group-words-requires c κs = search rules
+group_words-size-requires : tie.Need-group_words-size-requires invariant-loop-g decreases-loop-g
+group_words-size-requires c κs = search rules
 
-mul-size : tie.Need-overflow-mul-size invariant-loop decreases-loop
-mul-size c = search rules
+overflow_mul-size : tie.Need-overflow_mul-size invariant-loop-g decreases-loop-g
+overflow_mul-size c = search rules
 
-loop-holds : tie.Need-loop-init invariant-loop decreases-loop
+loop-g-init : tie.Need-loop-g-init invariant-loop-g decreases-loop-g
 unfolding list
-loop-holds c = (omega arith, front_none _)
+loop-g-init c = (omega arith, front_none _)
 
-mul-begin : tie.Need-overflow-mul-begin invariant-loop decreases-loop
-mul-begin c = omega (arith, fits c, (at c).requires.2)
+overflow_mul-begin : tie.Need-overflow_mul-begin invariant-loop-g decreases-loop-g
+overflow_mul-begin c = omega (arith, fits c, (at c).requires.2)
 
-add-end : tie.Need-overflow-add-end invariant-loop decreases-loop
-add-end c = omega (arith, fits c, (at c).requires.2)
+overflow_add-end : tie.Need-overflow_add-end invariant-loop-g decreases-loop-g
+overflow_add-end c = omega (arith, fits c, (at c).requires.2)
 
-sub-group-time : tie.Need-overflow-sub-group-time invariant-loop decreases-loop
-sub-group-time c = search rules
+slice_bounds-group_time-count : tie.Need-slice_bounds-group_time-count invariant-loop-g decreases-loop-g
+slice_bounds-group_time-count c = search rules
 
-part-group-time-start : tie.Need-slice-bounds-group-time-start invariant-loop decreases-loop
-part-group-time-start c = search rules
+slice_bounds-group_time-start : tie.Need-slice_bounds-group_time-start invariant-loop-g decreases-loop-g
+slice_bounds-group_time-start c = search rules
 
-part-group-time-end : tie.Need-slice-bounds-group-time-end invariant-loop decreases-loop
-part-group-time-end c = fits c
+slice_bounds-group_time-end : tie.Need-slice_bounds-group_time-end invariant-loop-g decreases-loop-g
+slice_bounds-group_time-end c = fits c
 
-group-time-requires : tie.Need-group-time-requires invariant-loop decreases-loop
-group-time-requires c κs =
+group_time-requires : tie.Need-group_time-requires invariant-loop-g decreases-loop-g
+group_time-requires c κs =
     let i = c.before in
     let s = at i in
-    (s.pre.0, part_long s.args.plan i.before.loop.g (words i.before) (are_words i.before) s.args.capture.now s.args.n s.pre.1 i.loop-test.true)
+    (s.pre.0, part_long s.args.plan i.before.loop-g.g (words i.before) (are_words i.before) s.args.capture.now s.args.n s.pre.1 i.loop-g-test.true)
 
-mul-times : tie.Need-overflow-mul-times invariant-loop decreases-loop
-mul-times c = search rules
+offset_bounds-times-g : tie.Need-offset_bounds-times-g invariant-loop-g decreases-loop-g
+offset_bounds-times-g c = search rules
 
-slice-write-times : tie.Need-slice-write-times invariant-loop decreases-loop
-slice-write-times c = omega (arith, front_long (in_loop c).before.loop.invariant.1)
+bounds-times-g : tie.Need-bounds-times-g invariant-loop-g decreases-loop-g
+bounds-times-g c = omega (arith, front_long (in_loop c).before.loop-g.invariant.1)
 
-add-g : tie.Need-overflow-add-g invariant-loop decreases-loop
-add-g c = search rules
+overflow_add-g : tie.Need-overflow_add-g invariant-loop-g decreases-loop-g
+overflow_add-g c = search rules
 
-loop-less : tie.Need-loop-smaller invariant-loop decreases-loop
-loop-less c = search rules
+loop-g-smaller : tie.Need-loop-g-smaller invariant-loop-g decreases-loop-g
+loop-g-smaller c = search rules
 
-loop-again : tie.Need-loop-preserved invariant-loop decreases-loop
-loop-again c =
+loop-g-preserved : tie.Need-loop-g-preserved invariant-loop-g decreases-loop-g
+loop-g-preserved c =
     let s = at (in_loop c) in
-    let l = (in_loop c).before.loop in
-    (omega arith, times_more (time_at s.args.plan s.args.capture.now) l.inv.1 (omega (arith, (in_loop c).loop-test.true, s.pre.3)) (is_time_lem c))
+    let l = (in_loop c).before.loop-g in
+    (omega arith, times_more (time_at s.args.plan s.args.capture.now) l.inv.1 (omega (arith, (in_loop c).loop-g-test.true, s.pre.3)) (is_time_lem c))
 
-same_length : tie.Need-same-length invariant-loop decreases-loop
-same_length c = front_long c.before.loop.invariant.1
+shape_of-times : tie.Need-shape_of-times invariant-loop-g decreases-loop-g
+shape_of-times c = front_long c.before.loop-g.invariant.1
 
-returns : tie.Need-returns invariant-loop decreases-loop
+returns : tie.Need-returns invariant-loop-g decreases-loop-g
 returns c =
-    let e : c.before.loop.g ≡ (start c.before).args.n = omega arith in
-    rw (← e) c.before.loop.invariant.1.is
+    let e : c.before.loop-g.g ≡ (start c.before).args.n = omega arith in
+    rw (← e) c.before.loop-g.invariant.1.is
 
 pub write_times_spec : {M : Type 1} → statement M
 write_times_spec =
     tie.close
     (tie.spec
-    invariant-loop
-    decreases-loop
-    group-words-requires
-    mul-size
-    loop-holds
-    mul-begin
-    add-end
-    sub-group-time
-    part-group-time-start
-    part-group-time-end
-    group-time-requires
-    mul-times
-    slice-write-times
-    add-g
-    loop-less
-    loop-again
-    same_length
+    invariant-loop-g
+    decreases-loop-g
+    group_words-size-requires
+    overflow_mul-size
+    loop-g-init
+    overflow_mul-begin
+    overflow_add-end
+    slice_bounds-group_time-count
+    slice_bounds-group_time-start
+    slice_bounds-group_time-end
+    group_time-requires
+    offset_bounds-times-g
+    bounds-times-g
+    overflow_add-g
+    loop-g-smaller
+    loop-g-preserved
+    shape_of-times
     returns)

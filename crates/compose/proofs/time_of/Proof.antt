@@ -4,17 +4,17 @@ use borrow.Author.Rules.{rules}
 use Rattle.compose.proofs.time_of.Statement.{statement}
 use Rattle.compose.proofs.time_of.Tie as tie
 
-mul-result : tie.Need-overflow-mul-result
-mul-result c = search rules
+offset_bounds-times-group : tie.Need-offset_bounds-times-group
+offset_bounds-times-group c = search rules
 
-shared-slice-read-result : tie.Need-shared-slice-read-result
-shared-slice-read-result c = search rules
+bounds-times-group : tie.Need-bounds-times-group
+bounds-times-group c = search rules
 
-returns : tie.Need-returns
-returns c = search rules
+returns-then-group-times : tie.Need-returns-then-group-times
+returns-then-group-times c = search rules
 
-returns-2 : tie.Need-returns-2
-returns-2 c = sym (get_or-eq_default c.before.args.times.now 0 c.if1.false)
+returns-else-group-times : tie.Need-returns-else-group-times
+returns-else-group-times c = sym (get_or-eq_default c.before.args.times.now 0 c.if-group-times.false)
 
 pub time_of_spec : {M : Type 1} → statement M
-time_of_spec = tie.close (tie.spec mul-result shared-slice-read-result returns returns-2)
+time_of_spec = tie.close (tie.spec offset_bounds-times-group bounds-times-group returns-then-group-times returns-else-group-times)

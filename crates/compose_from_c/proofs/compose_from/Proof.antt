@@ -9,41 +9,41 @@ use Rattle.compose_from_c.proofs.compose_from.Tie as tie
 named-requires : tie.Need-named-requires
 named-requires c κs = search rules
 
-plan-from-requires : tie.Need-plan-from-requires
-plan-from-requires c κs = search rules
+plan_from-plan-requires : tie.Need-plan_from-plan-requires
+plan_from-plan-requires c κs = search rules
 
-kinds-from-requires : tie.Need-kinds-from-requires
-kinds-from-requires c κs =
+kinds_from-requires : tie.Need-kinds_from-requires
+kinds_from-requires c κs =
     let a = c.before.before.before.before.before.before.before.args in
-    sixteen a.frame-time a.crc a.parity a.kinds.now (sym c.before.before.named.ensures ∙ c.before.if1.true)
+    sixteen a.frame_time a.crc a.parity a.kinds.now (sym c.before.before.named.ensures ∙ c.before.if-named.true)
 
-compose-bytes-requires : tie.Need-compose-bytes-requires
-compose-bytes-requires c κs = search rules
+compose_bytes-requires : tie.Need-compose_bytes-requires
+compose_bytes-requires c κs = search rules
 
-same_length : tie.Need-same-length
-same_length c = search rules
+shape_of-out-then-named : tie.Need-shape_of-out-then-named
+shape_of-out-then-named c = search rules
 
-returns : tie.Need-returns
-returns c =
+returns-then-named : tie.Need-returns-then-named
+returns-then-named c =
     let k = c.before.before.before.before in
     let p = k.before in
     let t = p.before in
     let a = t.before.before.before.before.before.before.args in
-    let e = sym t.before.named.ensures ∙ t.if1.true in
+    let e = sym t.before.named.ensures ∙ t.if-named.true in
     rw
-    (composed-named a.words a.tracks a.frame-time a.crc a.parity a.crc-label a.fill_bus a.kinds.now p.plan-from.result k.kinds-from.result e
-    p.plan-from.ensures k.kinds-from.ensures a.log.now a.times.now (length a.out.now))
-    c.before.before.compose-bytes.ensures
+    (composed-named a.words a.tracks a.frame_time a.crc a.parity a.crc_label a.fill_bus a.kinds.now p.plan_from-plan.result k.kinds_from.result e
+    p.plan_from-plan.ensures k.kinds_from.ensures a.log.now a.times.now (length a.out-1.now))
+    c.before.before.compose_bytes.ensures
 
 unnamed-requires : tie.Need-unnamed-requires
 unnamed-requires c κs = search rules
 
-returns-2 : tie.Need-returns-2
-returns-2 c =
+returns : tie.Need-returns
+returns c =
     let a = c.before.before.before.before.before.before.before.args in
     rw
-    (composed_unnamed a.words a.tracks a.frame-time a.crc a.parity a.crc-label a.fill_bus a.kinds.now a.log.now a.times.now (length a.out.now)
-    (sym c.before.before.named.ensures ∙ c.before.if1.false))
+    (composed_unnamed a.words a.tracks a.frame_time a.crc a.parity a.crc_label a.fill_bus a.kinds.now a.log.now a.times.now (length a.out-1.now)
+    (sym c.before.before.named.ensures ∙ c.before.if-named.false))
     (c.unnamed.ensures, refl)
 
 pub compose_from_spec : {M : Type 1} → statement M
@@ -51,10 +51,10 @@ compose_from_spec =
     tie.close
     (tie.spec
     named-requires
-    plan-from-requires
-    kinds-from-requires
-    compose-bytes-requires
-    same_length
-    returns
+    plan_from-plan-requires
+    kinds_from-requires
+    compose_bytes-requires
+    shape_of-out-then-named
+    returns-then-named
     unnamed-requires
-    returns-2)
+    returns)

@@ -6,80 +6,80 @@ use borrow.Author.Rules.{rules}
 use Rattle.data_items.proofs.command_at.Statement.{statement}
 use Rattle.data_items.proofs.command_at.Tie as tie
 
-abbrev before-command : tie.After-command → tie.Start
+abbrev before-command : tie.After-command-base → tie.Start
 before-command c = c.before.before.before.before.before
 
-abbrev before-top-of : tie.After-top-of → tie.After-command
-before-top-of c = c.before.before
+abbrev before-top_of : tie.After-top_of → tie.After-command-base
+before-top_of c = c.before.before
 
-abbrev before-then1 : tie.Then1 → tie.After-top-of
+abbrev before-then1 : tie.Then-top_of-awaits → tie.After-top_of
 before-then1 c = c.before
 
-abbrev before-is-tag : tie.After-is-tag → tie.Then1
-before-is-tag c = c.before
+abbrev before-is_tag : tie.After-is_tag → tie.Then-top_of-awaits
+before-is_tag c = c.before
 
-abbrev before-then2 : tie.Then2 → tie.After-is-tag
+abbrev before-then2 : tie.Then-is_tag → tie.After-is_tag
 before-then2 c = c.before
 
-abbrev before-put-in : tie.After-put-in → tie.Then2
-before-put-in c = c.before.before
+abbrev before-put_in : tie.After-put_in-marked → tie.Then-is_tag
+before-put_in c = c.before.before
 
-abbrev before-tag-of : tie.After-tag-of → tie.After-put-in
-before-tag-of c = c.before.before.before.before
+abbrev before-tag_of : tie.After-tag_of → tie.After-put_in-marked
+before-tag_of c = c.before.before.before.before
 
-abbrev before-put-in2 : tie.After-put-in2 → tie.After-tag-of
-before-put-in2 c = c.before
+abbrev before-put_in2 : tie.After-put_in-tagged → tie.After-tag_of
+before-put_in2 c = c.before
 
-abbrev before-else1 : tie.Else1 → tie.After-top-of
+abbrev before-else1 : tie.Else-top_of-awaits → tie.After-top_of
 before-else1 c = c.before
 
-abbrev before-is-fill : tie.After-is-fill → tie.Else1
-before-is-fill c = c.before
+abbrev before-is_fill : tie.After-is_fill → tie.Else-top_of-awaits
+before-is_fill c = c.before
 
-abbrev before-else3 : tie.Else3 → tie.After-is-fill
+abbrev before-else3 : tie.Else-is_fill → tie.After-is_fill
 before-else3 c = c.before
 
-abbrev before-put-in3 : tie.After-put-in3 → tie.Else3
-before-put-in3 c = c.before.before
+abbrev before-put_in3 : tie.After-put_in-bare → tie.Else-is_fill
+before-put_in3 c = c.before.before
 
-abbrev start-then1 : tie.Then1 → tie.Start
+abbrev start-then1 : tie.Then-top_of-awaits → tie.Start
 start-then1 c = c.before.before.before.before.before.before.before.before
 
-abbrev start-then2 : tie.Then2 → tie.Start
+abbrev start-then2 : tie.Then-is_tag → tie.Start
 start-then2 c = c.before.before.before.before.before.before.before.before.before.before
 
-abbrev start-put-in : tie.After-put-in → tie.Start
-start-put-in c = c.before.before.before.before.before.before.before.before.before.before.before.before
+abbrev start-put_in : tie.After-put_in-marked → tie.Start
+start-put_in c = c.before.before.before.before.before.before.before.before.before.before.before.before
 
-abbrev start-tag-of : tie.After-tag-of → tie.Start
-start-tag-of c = c.before.before.before.before.before.before.before.before.before.before.before.before.before.before.before.before
+abbrev start-tag_of : tie.After-tag_of → tie.Start
+start-tag_of c = c.before.before.before.before.before.before.before.before.before.before.before.before.before.before.before.before
 
-abbrev start-put-in2 : tie.After-put-in2 → tie.Start
-start-put-in2 c = c.before.before.before.before.before.before.before.before.before.before.before.before.before.before.before.before.before
+abbrev start-put_in2 : tie.After-put_in-tagged → tie.Start
+start-put_in2 c = c.before.before.before.before.before.before.before.before.before.before.before.before.before.before.before.before.before
 
-abbrev start-is-tag : tie.After-is-tag → tie.Start
-start-is-tag c = c.before.before.before.before.before.before.before.before.before
+abbrev start-is_tag : tie.After-is_tag → tie.Start
+start-is_tag c = c.before.before.before.before.before.before.before.before.before
 
-abbrev start-is-fill : tie.After-is-fill → tie.Start
-start-is-fill c = c.before.before.before.before.before.before.before.before.before
+abbrev start-is_fill : tie.After-is_fill → tie.Start
+start-is_fill c = c.before.before.before.before.before.before.before.before.before
 
-abbrev start-else3 : tie.Else3 → tie.Start
+abbrev start-else3 : tie.Else-is_fill → tie.Start
 start-else3 c = c.before.before.before.before.before.before.before.before.before.before
 
-abbrev start-put-in3 : tie.After-put-in3 → tie.Start
-start-put-in3 c = c.before.before.before.before.before.before.before.before.before.before.before.before
+abbrev start-put_in3 : tie.After-put_in-bare → tie.Start
+start-put_in3 c = c.before.before.before.before.before.before.before.before.before.before.before.before
 
-add-slot : tie.Need-overflow-add-slot
-add-slot c = omega (arith, c.before.before.before.requires.0.five)
+overflow_add-slot : tie.Need-overflow_add-slot
+overflow_add-slot c = omega (arith, c.before.before.before.requires.0.five)
 
-mul-awaits : tie.Need-overflow-mul-awaits
-mul-awaits c = search rules
+overflow_mul-awaits : tie.Need-overflow_mul-awaits
+overflow_mul-awaits c = search rules
 
-add-awaits : tie.Need-overflow-add-awaits
-add-awaits c = search rules
+overflow_add-awaits : tie.Need-overflow_add-awaits
+overflow_add-awaits c = search rules
 
-command-requires : tie.Need-command-requires
-command-requires c κs = (
+command-base-requires : tie.Need-command-base-requires
+command-base-requires c κs = (
   omega (arith, top_low c.before.before.before.before.requires.0),
   c.before.before.before.before.requires.1,
   omega arith,
@@ -87,112 +87,112 @@ command-requires c κs = (
   omega arith,
 )
 
-mul_next : tie.Need-overflow-mul-next
-mul_next c = omega (arith, (before-command c).pre.0.five)
+offset_bounds-row-slot : tie.Need-offset_bounds-row-slot
+offset_bounds-row-slot c = omega (arith, (before-command c).pre.0.five)
 
-shared-slice-read-next : tie.Need-shared-slice-read-next
-shared-slice-read-next c = omega (arith, (before-command c.before).pre.0.five)
+bounds-row-slot : tie.Need-bounds-row-slot
+bounds-row-slot c = omega (arith, (before-command c.before).pre.0.five)
 
-top-of-requires : tie.Need-top-of-requires
-top-of-requires c κs = ((before-command c.before).pre.0.all, low_at (before-command c.before).pre.0 1 (omega arith))
+top_of-requires : tie.Need-top_of-requires
+top_of-requires c κs = ((before-command c.before).pre.0.all, low_at (before-command c.before).pre.0 1 (omega arith))
 
-is-tag-requires : tie.Need-is-tag-requires
-is-tag-requires c κs = ((start-then1 c).pre.0.all, (start-then1 c).pre.0.words, omega (arith, (start-then1 c).pre.0.five))
+is_tag-requires : tie.Need-is_tag-requires
+is_tag-requires c κs = ((start-then1 c).pre.0.all, (start-then1 c).pre.0.words, omega (arith, (start-then1 c).pre.0.five))
 
-add-put-in : tie.Need-overflow-add-put-in
-add-put-in c = omega (
+overflow_add-base : tie.Need-overflow_add-base
+overflow_add-base c = omega (
   arith,
   command-marked (start-then2 c.before).pre.0 (start-then2 c.before).pre.1 (start-then2 c.before).pre.2
-      (before-top-of (before-then1 (before-is-tag (before-then2 c.before)))).command.ensures,
+      (before-top_of (before-then1 (before-is_tag (before-then2 c.before)))).command-base.ensures,
 )
 
-put-in-requires : tie.Need-put-in-requires
-put-in-requires c κs = (
+put_in-marked-requires : tie.Need-put_in-marked-requires
+put_in-marked-requires c κs = (
   omega (arith, (start-then2 c.before).pre.0.few),
   omega arith,
   command-marked (start-then2 c.before).pre.0
-      (start-then2 c.before).pre.1 (start-then2 c.before).pre.2 (before-top-of
-      (before-then1 (before-is-tag (before-then2 c.before)))).command.ensures,
+      (start-then2 c.before).pre.1 (start-then2 c.before).pre.2 (before-top_of
+      (before-then1 (before-is_tag (before-then2 c.before)))).command-base.ensures,
   omega (arith, (start-then2 c.before).pre.0.room),
 )
 
-tag-of-requires : tie.Need-tag-of-requires
-tag-of-requires c κs = omega (arith, (start-put-in c.before.before.before).pre.0.five)
+tag_of-requires : tie.Need-tag_of-requires
+tag_of-requires c κs = omega (arith, (start-put_in c.before.before.before).pre.0.five)
 
-put-in-requires-2 : tie.Need-put-in-requires-2
-put-in-requires-2 c κs = let r = room_behind (start-tag-of c).args.from.pen (start-tag-of c).args.out.now (omega arith)
-    (command-marked (start-tag-of c).pre.0 (start-tag-of c).pre.1 (start-tag-of c).pre.2
-    (before-top-of (before-then1 (before-is-tag (before-then2 (before-put-in (before-tag-of c)))))).command.ensures) (before-tag-of c).put_in.ensures
-    (start-tag-of c).pre.0.few (start-tag-of c).pre.0.room in (r.0, omega arith, rw c.tag_of.ensures (tag_fits _ _ _), r.1)
+put_in-tagged-requires : tie.Need-put_in-tagged-requires
+put_in-tagged-requires c κs = let r = room_behind (start-tag_of c).args.from.pen-1 (start-tag_of c).args.out-1.now (omega arith)
+    (command-marked (start-tag_of c).pre.0 (start-tag_of c).pre.1 (start-tag_of c).pre.2
+    (before-top_of (before-then1 (before-is_tag (before-then2 (before-put_in (before-tag_of c)))))).command-base.ensures) (before-tag_of c).put_in-marked.ensures
+    (start-tag_of c).pre.0.few (start-tag_of c).pre.0.room in (r.0, omega arith, rw c.tag_of.ensures (tag_fits _ _ _), r.1)
 
-add-behind : tie.Need-overflow-add-behind
-add-behind c = omega (arith, (start-put-in2 c.before.before).pre.0.five, (start-put-in2 c.before.before).pre.0.short)
+overflow_add-behind : tie.Need-overflow_add-behind
+overflow_add-behind c = omega (arith, (start-put_in2 c.before.before).pre.0.five, (start-put_in2 c.before.before).pre.0.short)
 
-same_length : tie.Need-same-length
-same_length c = search rules
+shape_of-out-then-is_tag : tie.Need-shape_of-out-then-is_tag
+shape_of-out-then-is_tag c = search rules
 
-returns : tie.Need-returns
-returns c = λ ks k. command-tagged (start-put-in2 c.before.before).pre.0 (start-put-in2 c.before.before).pre.1
-    (start-put-in2 c.before.before).pre.2 (before-top-of (before-then1
-    (before-is-tag (before-then2 (before-put-in (before-tag-of (before-put-in2 c.before.before))))))).command.ensures ks k
-    (before-then1 (before-is-tag (before-then2 (before-put-in (before-tag-of (before-put-in2 c.before.before)))))).top_of.ensures.0
-    (before-is-tag (before-then2 (before-put-in (before-tag-of (before-put-in2 c.before.before))))).if1.taken
-    (before-then2 (before-put-in (before-tag-of (before-put-in2 c.before.before)))).is-tag.ensures
-    (before-put-in (before-tag-of (before-put-in2 c.before.before))).if2.taken (before-put-in2 c.before.before).tag_of.ensures
-    (before-tag-of (before-put-in2 c.before.before)).put_in.ensures c.before.before.put-in2.ensures
+returns-then-is_tag : tie.Need-returns-then-is_tag
+returns-then-is_tag c = λ ks k. command-tagged (start-put_in2 c.before.before).pre.0 (start-put_in2 c.before.before).pre.1
+    (start-put_in2 c.before.before).pre.2 (before-top_of (before-then1
+    (before-is_tag (before-then2 (before-put_in (before-tag_of (before-put_in2 c.before.before))))))).command-base.ensures ks k
+    (before-then1 (before-is_tag (before-then2 (before-put_in (before-tag_of (before-put_in2 c.before.before)))))).top_of.ensures.0
+    (before-is_tag (before-then2 (before-put_in (before-tag_of (before-put_in2 c.before.before))))).if-top_of-awaits.taken
+    (before-then2 (before-put_in (before-tag_of (before-put_in2 c.before.before)))).is_tag.ensures
+    (before-put_in (before-tag_of (before-put_in2 c.before.before))).if-is_tag.taken (before-put_in2 c.before.before).tag_of.ensures
+    (before-tag_of (before-put_in2 c.before.before)).put_in-marked.ensures c.before.before.put_in-tagged.ensures
 
-returns-2 : tie.Need-returns-2
-returns-2 c = λ ks k. here_none (start-is-tag c.before).pre.0
+returns-then-top_of-awaits : tie.Need-returns-then-top_of-awaits
+returns-then-top_of-awaits c = λ ks k. here_none (start-is_tag c.before).pre.0
 
-is-fill-requires : tie.Need-is-fill-requires
-is-fill-requires c κs = search rules
+is_fill-requires : tie.Need-is_fill-requires
+is_fill-requires c κs = search rules
 
-returns-3 : tie.Need-returns-3
-returns-3 c = λ ks k. here_none (start-is-fill c.before).pre.0
+returns-then-is_fill : tie.Need-returns-then-is_fill
+returns-then-is_fill c = λ ks k. here_none (start-is_fill c.before).pre.0
 
-put-in-requires-3 : tie.Need-put-in-requires-3
-put-in-requires-3 c κs = (
+put_in-bare-requires : tie.Need-put_in-bare-requires
+put_in-bare-requires c κs = (
   omega (arith, (start-else3 c.before).pre.0.few),
   omega arith,
   (command-says (start-else3 c.before).pre.0
-      (start-else3 c.before).pre.1 (start-else3 c.before).pre.2 (before-top-of
-      (before-else1 (before-is-fill (before-else3 c.before)))).command.ensures).fits,
+      (start-else3 c.before).pre.1 (start-else3 c.before).pre.2 (before-top_of
+      (before-else1 (before-is_fill (before-else3 c.before)))).command-base.ensures).fits,
   omega (arith, (start-else3 c.before).pre.0.room),
 )
 
-same-length-2 : tie.Need-same-length-2
-same-length-2 c = search rules
+shape_of-out : tie.Need-shape_of-out
+shape_of-out c = search rules
 
-returns-4 : tie.Need-returns-4
-returns-4 c = λ ks k. command-bare (start-put-in3 c.before.before).pre.0 (start-put-in3 c.before.before).pre.1
-    (start-put-in3 c.before.before).pre.2 (before-top-of (before-else1 (before-is-fill (before-else3 (before-put-in3 c.before.before))))).command.ensures
-    ks k (before-else1 (before-is-fill (before-else3 (before-put-in3 c.before.before)))).top_of.ensures.0
-    (before-is-fill (before-else3 (before-put-in3 c.before.before))).if1.left
-    (sym (before-else3 (before-put-in3 c.before.before)).is-fill.ensures ∙ (before-put-in3 c.before.before).if3.left)
-    c.before.before.put-in3.ensures
+returns : tie.Need-returns
+returns c = λ ks k. command-bare (start-put_in3 c.before.before).pre.0 (start-put_in3 c.before.before).pre.1
+    (start-put_in3 c.before.before).pre.2 (before-top_of (before-else1 (before-is_fill (before-else3 (before-put_in3 c.before.before))))).command-base.ensures
+    ks k (before-else1 (before-is_fill (before-else3 (before-put_in3 c.before.before)))).top_of.ensures.0
+    (before-is_fill (before-else3 (before-put_in3 c.before.before))).if-top_of-awaits.left
+    (sym (before-else3 (before-put_in3 c.before.before)).is_fill.ensures ∙ (before-put_in3 c.before.before).if-is_fill.left)
+    c.before.before.put_in-bare.ensures
 
 pub command_at_spec : {M : Type 1} → statement M
 command_at_spec =
     tie.close
     (tie.spec
-    add-slot
-    mul-awaits
-    add-awaits
-    command-requires
-    mul_next
-    shared-slice-read-next
-    top-of-requires
-    is-tag-requires
-    add-put-in
-    put-in-requires
-    tag-of-requires
-    put-in-requires-2
-    add-behind
-    same_length
-    returns
-    returns-2
-    is-fill-requires
-    returns-3
-    put-in-requires-3
-    same-length-2
-    returns-4)
+    overflow_add-slot
+    overflow_mul-awaits
+    overflow_add-awaits
+    command-base-requires
+    offset_bounds-row-slot
+    bounds-row-slot
+    top_of-requires
+    is_tag-requires
+    overflow_add-base
+    put_in-marked-requires
+    tag_of-requires
+    put_in-tagged-requires
+    overflow_add-behind
+    shape_of-out-then-is_tag
+    returns-then-is_tag
+    returns-then-top_of-awaits
+    is_fill-requires
+    returns-then-is_fill
+    put_in-bare-requires
+    shape_of-out
+    returns)

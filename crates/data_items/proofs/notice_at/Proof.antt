@@ -5,66 +5,66 @@ use borrow.Author.Rules.{rules}
 use Rattle.data_items.proofs.notice_at.Statement.{statement}
 use Rattle.data_items.proofs.notice_at.Tie as tie
 
-abbrev before-is-pair : tie.After-is-pair → tie.Start
-before-is-pair c = c.before.before.before.before
+abbrev before-is_pair : tie.After-is_pair → tie.Start
+before-is_pair c = c.before.before.before.before
 
-abbrev before-then1 : tie.Then1 → tie.After-is-pair
+abbrev before-then1 : tie.Then-is_pair → tie.After-is_pair
 before-then1 c = c.before
 
-abbrev before-notice : tie.After-notice → tie.Then1
+abbrev before-notice : tie.After-notice-item → tie.Then-is_pair
 before-notice c = c.before
 
-abbrev before-put-in : tie.After-put-in → tie.After-notice
-before-put-in c = c.before.before
+abbrev before-put_in : tie.After-put_in-put → tie.After-notice-item
+before-put_in c = c.before.before
 
-abbrev start-then1 : tie.Then1 → tie.Start
+abbrev start-then1 : tie.Then-is_pair → tie.Start
 start-then1 c = c.before.before.before.before.before
 
-abbrev start-notice : tie.After-notice → tie.Start
+abbrev start-notice : tie.After-notice-item → tie.Start
 start-notice c = c.before.before.before.before.before.before
 
-abbrev start-put-in : tie.After-put-in → tie.Start
-start-put-in c = c.before.before.before.before.before.before.before.before
+abbrev start-put_in : tie.After-put_in-put → tie.Start
+start-put_in c = c.before.before.before.before.before.before.before.before
 
-is-pair-requires : tie.Need-is-pair-requires
-is-pair-requires c κs = search rules
+is_pair-requires : tie.Need-is_pair-requires
+is_pair-requires c κs = search rules
 
-notice-requires : tie.Need-notice-requires
-notice-requires c κs = (omega (arith, top_low (start-then1 c).pre.0), omega arith, sym (before-then1 c).is-pair.ensures ∙ c.if1.true)
+notice-item-requires : tie.Need-notice-item-requires
+notice-item-requires c κs = (omega (arith, top_low (start-then1 c).pre.0), omega arith, sym (before-then1 c).is_pair.ensures ∙ c.if-is_pair.true)
 
-put-in-requires : tie.Need-put-in-requires
-put-in-requires c κs = (
+put_in-put-requires : tie.Need-put_in-put-requires
+put_in-put-requires c κs = (
   omega (arith, (start-notice c.before).pre.0.few),
   omega arith,
   notice-fits (start-notice c.before).pre.0
-      (start-notice c.before).pre.1 (sym (before-then1 (before-notice c.before)).is-pair.ensures ∙ (before-notice c.before).if1.taken)
-      c.before.notice.ensures,
+      (start-notice c.before).pre.1 (sym (before-then1 (before-notice c.before)).is_pair.ensures ∙ (before-notice c.before).if-is_pair.taken)
+      c.before.notice-item.ensures,
   omega (arith, (start-notice c.before).pre.0.room),
 )
 
-add-behind : tie.Need-overflow-add-behind
-add-behind c = omega (arith, (start-put-in c.before.before.before).pre.0.five, (start-put-in c.before.before.before).pre.0.short)
+overflow_add-behind : tie.Need-overflow_add-behind
+overflow_add-behind c = omega (arith, (start-put_in c.before.before.before).pre.0.five, (start-put_in c.before.before.before).pre.0.short)
 
-same_length : tie.Need-same-length
-same_length c = search rules
+shape_of-out-then-is_pair : tie.Need-shape_of-out-then-is_pair
+shape_of-out-then-is_pair c = search rules
+
+returns-then-is_pair : tie.Need-returns-then-is_pair
+returns-then-is_pair c = λ ks k. notice-taken (start-put_in c.before.before.before).pre.0 (start-put_in c.before.before.before).pre.1
+    (sym (before-then1 (before-notice (before-put_in c.before.before.before))).is_pair.ensures ∙
+    (before-notice (before-put_in c.before.before.before)).if-is_pair.taken) (before-put_in c.before.before.before).notice-item.ensures ks k
+    c.before.before.before.put_in-put.ensures
 
 returns : tie.Need-returns
-returns c = λ ks k. notice-taken (start-put-in c.before.before.before).pre.0 (start-put-in c.before.before.before).pre.1
-    (sym (before-then1 (before-notice (before-put-in c.before.before.before))).is-pair.ensures ∙
-    (before-notice (before-put-in c.before.before.before)).if1.taken) (before-put-in c.before.before.before).notice.ensures ks k
-    c.before.before.before.put_in.ensures
-
-returns-2 : tie.Need-returns-2
-returns-2 c = λ ks k. here_none (before-is-pair c.before).pre.0
+returns c = λ ks k. here_none (before-is_pair c.before).pre.0
 
 pub notice_at_spec : {M : Type 1} → statement M
 notice_at_spec =
     tie.close
     (tie.spec
-    is-pair-requires
-    notice-requires
-    put-in-requires
-    add-behind
-    same_length
-    returns
-    returns-2)
+    is_pair-requires
+    notice-item-requires
+    put_in-put-requires
+    overflow_add-behind
+    shape_of-out-then-is_pair
+    returns-then-is_pair
+    returns)

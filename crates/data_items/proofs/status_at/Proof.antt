@@ -4,144 +4,144 @@ use borrow.Author.Rules.{rules}
 use Rattle.data_items.proofs.status_at.Statement.{statement}
 use Rattle.data_items.proofs.status_at.Tie as tie
 
-abbrev before-else1 : tie.Else1 → tie.Start
+abbrev before-else1 : tie.Else-response-ge10000 → tie.Start
 before-else1 c = c.before.before.before.before
 
-abbrev before-top-of : tie.After-top-of → tie.Else1
-before-top-of c = c.before.before.before
+abbrev before-top_of : tie.After-top_of-then → tie.Else-response-ge10000
+before-top_of c = c.before.before.before
 
-abbrev before-else2 : tie.Else2 → tie.After-top-of
+abbrev before-else2 : tie.Else-then-top → tie.After-top_of-then
 before-else2 c = c.before
 
-abbrev before-else3 : tie.Else3 → tie.Else2
+abbrev before-else3 : tie.Else-then-lt8 → tie.Else-then-top
 before-else3 c = c.before
 
-abbrev before-else4 : tie.Else4 → tie.Else3
+abbrev before-else4 : tie.Else-then-ne2 → tie.Else-then-lt8
 before-else4 c = c.before
 
-abbrev before-put-in : tie.After-put-in → tie.Else4
-before-put-in c = c.before.before
+abbrev before-put_in : tie.After-put_in-put → tie.Else-then-ne2
+before-put_in c = c.before.before
 
-abbrev start-top-of : tie.After-top-of → tie.Start
-start-top-of c = c.before.before.before.before.before.before.before
+abbrev start-top_of : tie.After-top_of-then → tie.Start
+start-top_of c = c.before.before.before.before.before.before.before
 
-abbrev start-else2 : tie.Else2 → tie.Start
+abbrev start-else2 : tie.Else-then-top → tie.Start
 start-else2 c = c.before.before.before.before.before.before.before.before
 
-abbrev start-else3 : tie.Else3 → tie.Start
+abbrev start-else3 : tie.Else-then-lt8 → tie.Start
 start-else3 c = c.before.before.before.before.before.before.before.before.before
 
-abbrev start-else4 : tie.Else4 → tie.Start
+abbrev start-else4 : tie.Else-then-ne2 → tie.Start
 start-else4 c = c.before.before.before.before.before.before.before.before.before.before
 
-abbrev start-put-in : tie.After-put-in → tie.Start
-start-put-in c = c.before.before.before.before.before.before.before.before.before.before.before.before
+abbrev start-put_in : tie.After-put_in-put → tie.Start
+start-put_in c = c.before.before.before.before.before.before.before.before.before.before.before.before
 
-returns : tie.Need-returns
-returns c = λ ks k. here_none c.before.before.before.before.requires.0
+returns-then-response-ge10000 : tie.Need-returns-then-response-ge10000
+returns-then-response-ge10000 c = λ ks k. here_none c.before.before.before.before.requires.0
 
-add-status : tie.Need-overflow-add-status
-add-status c = omega (arith, (before-else1 c.before).pre.0.five)
+overflow_add-status : tie.Need-overflow_add-status
+overflow_add-status c = omega (arith, (before-else1 c.before).pre.0.five)
 
-mul-status : tie.Need-overflow-mul-status
-mul-status c = omega (arith, (before-else1 c.before).pre.0.five)
+offset_bounds-row-from : tie.Need-offset_bounds-row-from
+offset_bounds-row-from c = omega (arith, (before-else1 c.before).pre.0.five)
 
-shared-slice-read-status : tie.Need-shared-slice-read-status
-shared-slice-read-status c = omega (arith, (before-else1 c.before.before).pre.0.five)
+bounds-row-from : tie.Need-bounds-row-from
+bounds-row-from c = omega (arith, (before-else1 c.before.before).pre.0.five)
 
-top-of-requires : tie.Need-top-of-requires
-top-of-requires c κs = ((before-else1 c.before.before).pre.0.all, low_at (before-else1 c.before.before).pre.0 1 (omega arith))
+top_of-then-requires : tie.Need-top_of-then-requires
+top_of-then-requires c κs = ((before-else1 c.before.before).pre.0.all, low_at (before-else1 c.before.before).pre.0 1 (omega arith))
 
-returns-2 : tie.Need-returns-2
-returns-2 c = λ ks k. here_none (start-top-of c.before).pre.0
+returns-then-then-top : tie.Need-returns-then-then-top
+returns-then-then-top c = λ ks k. here_none (start-top_of c.before).pre.0
 
-returns-3 : tie.Need-returns-3
-returns-3 c = λ ks k. here_none (start-else2 c.before).pre.0
+returns-then-then-lt8 : tie.Need-returns-then-then-lt8
+returns-then-then-lt8 c = λ ks k. here_none (start-else2 c.before).pre.0
 
-returns-4 : tie.Need-returns-4
-returns-4 c = λ ks k. here_none (start-else3 c.before).pre.0
+returns-then-then-ne2 : tie.Need-returns-then-then-ne2
+returns-then-then-ne2 c = λ ks k. here_none (start-else3 c.before).pre.0
 
-add-bits : tie.Need-overflow-add-bits
-add-bits c = search rules
+overflow_add-bits : tie.Need-overflow_add-bits
+overflow_add-bits c = search rules
 
-mul-bits : tie.Need-overflow-mul-bits
-mul-bits c = search rules
+overflow_mul-bits : tie.Need-overflow_mul-bits
+overflow_mul-bits c = search rules
 
-sub-bits : tie.Need-overflow-sub-bits
-sub-bits c = search rules
+overflow_sub-bits : tie.Need-overflow_sub-bits
+overflow_sub-bits c = search rules
 
-add-bits-2 : tie.Need-overflow-add-bits-2
-add-bits-2 c = search rules
+overflow_add-bits-2 : tie.Need-overflow_add-bits-2
+overflow_add-bits-2 c = search rules
 
-mul-bits-2 : tie.Need-overflow-mul-bits-2
-mul-bits-2 c = search rules
+overflow_mul-bits-2 : tie.Need-overflow_mul-bits-2
+overflow_mul-bits-2 c = search rules
 
-add-bits-3 : tie.Need-overflow-add-bits-3
-add-bits-3 c = search rules
+overflow_add-bits-3 : tie.Need-overflow_add-bits-3
+overflow_add-bits-3 c = search rules
 
-add-bits-4 : tie.Need-overflow-add-bits-4
-add-bits-4 c = search rules
+overflow_add-bits-4 : tie.Need-overflow_add-bits-4
+overflow_add-bits-4 c = search rules
 
-cast-put-in : tie.Need-overflow-cast-put-in
-cast-put-in c = search rules
+overflow_cast-bits : tie.Need-overflow_cast-bits
+overflow_cast-bits c = search rules
 
-mul-put-in : tie.Need-overflow-mul-put-in
-mul-put-in c = search rules
+overflow_mul-bits-3 : tie.Need-overflow_mul-bits-3
+overflow_mul-bits-3 c = search rules
 
-cast-put-in-2 : tie.Need-overflow-cast-put-in-2
-cast-put-in-2 c = search rules
+overflow_cast-response : tie.Need-overflow_cast-response
+overflow_cast-response c = search rules
 
-add-put-in : tie.Need-overflow-add-put-in
-add-put-in c = search rules
+overflow_add-bits-5 : tie.Need-overflow_add-bits-5
+overflow_add-bits-5 c = search rules
 
-put-in-requires : tie.Need-put-in-requires
-put-in-requires c κs = (
+put_in-put-requires : tie.Need-put_in-put-requires
+put_in-put-requires c κs = (
   omega (arith, (start-else4 c.before).pre.0.few),
   omega arith,
   (status-says (start-else4 c.before).pre.0
-      (start-else4 c.before).pre.1 (omega (arith, (before-top-of (before-else2 (before-else3 (before-else4 c.before)))).if1.left))
-      (before-else2 (before-else3 (before-else4 c.before))).top_of.ensures.0 (before-else3 (before-else4 c.before)).if2.left
-      (before-else4 c.before).if3.left c.before.if4.false).fits,
+      (start-else4 c.before).pre.1 (omega (arith, (before-top_of (before-else2 (before-else3 (before-else4 c.before)))).if-response-ge10000.left))
+      (before-else2 (before-else3 (before-else4 c.before))).top_of-then.ensures.0 (before-else3 (before-else4 c.before)).if-then-top.left
+      (before-else4 c.before).if-then-lt8.left c.before.if-then-ne2.false).fits,
   omega (arith, (start-else4 c.before).pre.0.room),
 )
 
-add-behind : tie.Need-overflow-add-behind
-add-behind c = omega (arith, (start-put-in c.before.before.before).pre.0.five)
+overflow_add-behind : tie.Need-overflow_add-behind
+overflow_add-behind c = omega (arith, (start-put_in c.before.before.before).pre.0.five)
 
-same_length : tie.Need-same-length
-same_length c = search rules
+shape_of-out : tie.Need-shape_of-out
+shape_of-out c = search rules
 
-returns-5 : tie.Need-returns-5
-returns-5 c = λ ks k. status-taken (start-put-in c.before.before.before).pre.0 (start-put-in c.before.before.before).pre.1
-    (omega (arith, (before-top-of (before-else2 (before-else3 (before-else4 (before-put-in c.before.before.before))))).if1.left))
-    (before-else2 (before-else3 (before-else4 (before-put-in c.before.before.before)))).top_of.ensures.0
-    (before-else3 (before-else4 (before-put-in c.before.before.before))).if2.left (before-else4 (before-put-in c.before.before.before)).if3.left
-    (before-put-in c.before.before.before).if4.left ks k c.before.before.before.put_in.ensures
+returns : tie.Need-returns
+returns c = λ ks k. status-taken (start-put_in c.before.before.before).pre.0 (start-put_in c.before.before.before).pre.1
+    (omega (arith, (before-top_of (before-else2 (before-else3 (before-else4 (before-put_in c.before.before.before))))).if-response-ge10000.left))
+    (before-else2 (before-else3 (before-else4 (before-put_in c.before.before.before)))).top_of-then.ensures.0
+    (before-else3 (before-else4 (before-put_in c.before.before.before))).if-then-top.left (before-else4 (before-put_in c.before.before.before)).if-then-lt8.left
+    (before-put_in c.before.before.before).if-then-ne2.left ks k c.before.before.before.put_in-put.ensures
 
 pub status_at_spec : {M : Type 1} → statement M
 status_at_spec =
     tie.close
     (tie.spec
-    returns
-    add-status
-    mul-status
-    shared-slice-read-status
-    top-of-requires
-    returns-2
-    returns-3
-    returns-4
-    add-bits
-    mul-bits
-    sub-bits
-    add-bits-2
-    mul-bits-2
-    add-bits-3
-    add-bits-4
-    cast-put-in
-    mul-put-in
-    cast-put-in-2
-    add-put-in
-    put-in-requires
-    add-behind
-    same_length
-    returns-5)
+    returns-then-response-ge10000
+    overflow_add-status
+    offset_bounds-row-from
+    bounds-row-from
+    top_of-then-requires
+    returns-then-then-top
+    returns-then-then-lt8
+    returns-then-then-ne2
+    overflow_add-bits
+    overflow_mul-bits
+    overflow_sub-bits
+    overflow_add-bits-2
+    overflow_mul-bits-2
+    overflow_add-bits-3
+    overflow_add-bits-4
+    overflow_cast-bits
+    overflow_mul-bits-3
+    overflow_cast-response
+    overflow_add-bits-5
+    put_in-put-requires
+    overflow_add-behind
+    shape_of-out
+    returns)

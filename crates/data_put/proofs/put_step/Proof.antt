@@ -6,15 +6,15 @@ use borrow.Author.Rules.{rules}
 use Rattle.data_put.proofs.put_step.Statement.{statement}
 use Rattle.data_put.proofs.put_step.Tie as tie
 
-put-requires : tie.Need-put-requires
-put-requires c κs = search rules
+put-half-requires : tie.Need-put-half-requires
+put-half-requires c κs = search rules
 
-put-requires-2 : tie.Need-put-requires-2
+put-requires : tie.Need-put-requires
 unfolding pen_put
-put-requires-2 c κs = let s = c.before.before.before.before.before.before.requires.1 in (
+put-requires c κs = let s = c.before.before.before.before.before.before.requires.1 in (
   omega (
     arith,
-    ap (λ (x : Pen). x.bits) c.before.before.before.put.ensures.0,
+    ap (λ (x : Pen). x.bits) c.before.before.before.put-half.ensures.0,
     c.before.before.before.before.before.before.requires.0,
     s.first_short,
     s.second_short,
@@ -23,16 +23,16 @@ put-requires-2 c κs = let s = c.before.before.before.before.before.before.requi
   omega (arith, s.first_fits, s.second_fits),
 )
 
-same_length : tie.Need-same-length
-same_length c = search rules
+shape_of-out : tie.Need-shape_of-out
+shape_of-out c = search rules
 
 returns : tie.Need-returns
 returns c = (
-  rw (← c.before.before.before.before.before.before.put.ensures.0) c.before.before.put2.ensures.0,
+  rw (← c.before.before.before.before.before.before.put-half.ensures.0) c.before.before.put.ensures.0,
   rw
-      (← c.before.before.before.before.before.before.put.ensures.0, ← c.before.before.before.before.before.before.put.ensures.1)
-      c.before.before.put2.ensures.1,
+      (← c.before.before.before.before.before.before.put-half.ensures.0, ← c.before.before.before.before.before.before.put-half.ensures.1)
+      c.before.before.put.ensures.1,
 )
 
 pub put_step_spec : {M : Type 1} → statement M
-put_step_spec = tie.close (tie.spec put-requires put-requires-2 same_length returns)
+put_step_spec = tie.close (tie.spec put-half-requires put-requires shape_of-out returns)

@@ -3,17 +3,17 @@ use mathlib.Core.Path.{refl}
 use Rattle.data_run.proofs.are_fill.Statement.{statement}
 use Rattle.data_run.proofs.are_fill.Tie as tie
 
+returns-then-one-blank : tie.Need-returns-then-one-blank
+returns-then-one-blank c = rw (ne_eqb _ _ c.if-one-blank.true) refl
+
+returns-then-two-blank : tie.Need-returns-then-two-blank
+returns-then-two-blank c = rw (eq-eqb _ _ c.before.if-one-blank.false, ne_eqb _ _ c.if-two-blank.true) refl
+
+returns-then-three-blank : tie.Need-returns-then-three-blank
+returns-then-three-blank c = rw (eq-eqb _ _ c.before.before.if-one-blank.false, eq-eqb _ _ c.before.if-two-blank.false, ne_eqb _ _ c.if-three-blank.true) refl
+
 returns : tie.Need-returns
-returns c = rw (ne_eqb _ _ c.if1.true) refl
-
-returns-2 : tie.Need-returns-2
-returns-2 c = rw (eq-eqb _ _ c.before.if1.false, ne_eqb _ _ c.if2.true) refl
-
-returns-3 : tie.Need-returns-3
-returns-3 c = rw (eq-eqb _ _ c.before.before.if1.false, eq-eqb _ _ c.before.if2.false, ne_eqb _ _ c.if3.true) refl
-
-returns-4 : tie.Need-returns-4
-returns-4 c = rw (eq-eqb _ _ c.before.before.if1.false, eq-eqb _ _ c.before.if2.false, eq-eqb _ _ c.if3.false) refl
+returns c = rw (eq-eqb _ _ c.before.before.if-one-blank.false, eq-eqb _ _ c.before.if-two-blank.false, eq-eqb _ _ c.if-three-blank.false) refl
 
 pub are_fill_spec : {M : Type 1} → statement M
-are_fill_spec = tie.close (tie.spec returns returns-2 returns-3 returns-4)
+are_fill_spec = tie.close (tie.spec returns-then-one-blank returns-then-two-blank returns-then-three-blank returns)

@@ -8,70 +8,70 @@ use borrow.Author.Rules.{rules}
 use Rattle.data_run.proofs.items_from.Statement.{statement}
 use Rattle.data_run.proofs.items_from.Tie as tie
 
-abbrev before-words-in : tie.After-words-in → tie.Then1
-before-words-in c = c.before
+abbrev before-words_in : tie.After-words_in → tie.Then-held-eq0
+before-words_in c = c.before
 
-abbrev before-least : tie.After-least → tie.After-words-in
+abbrev before-least : tie.After-least-end → tie.After-words_in
 before-least c = c.before
 
-abbrev before-take : tie.After-take → tie.After-least
+abbrev before-take : tie.After-take → tie.After-least-end
 before-take c = c.before.before.before
 
-abbrev start-words-in : tie.After-words-in → tie.Start
-start-words-in c = c.before.before.before.before.before.before.before
+abbrev start-words_in : tie.After-words_in → tie.Start
+start-words_in c = c.before.before.before.before.before.before.before
 
-abbrev start-least : tie.After-least → tie.Start
+abbrev start-least : tie.After-least-end → tie.Start
 start-least c = c.before.before.before.before.before.before.before.before
 
 abbrev start-take : tie.After-take → tie.Start
 start-take c = c.before.before.before.before.before.before.before.before.before.before.before
 
-words-in-requires : tie.Need-words-in-requires
-words-in-requires c κs = search rules
+words_in-requires : tie.Need-words_in-requires
+words_in-requires c κs = search rules
 
-add-least : tie.Need-overflow-add-least
-add-least c = omega (arith, c.words-in.ensures, (start-words-in c).pre.1, (start-words-in c).pre.2)
+overflow_add-i : tie.Need-overflow_add-i
+overflow_add-i c = omega (arith, c.words_in.ensures, (start-words_in c).pre.1, (start-words_in c).pre.2)
 
-least-requires : tie.Need-least-requires
-least-requires c κs = search rules
+least-end-requires : tie.Need-least-end-requires
+least-end-requires c κs = search rules
 
-slice-aggregate-take : tie.Need-slice-aggregate-take
-slice-aggregate-take c = sym (length-take-le _ (start-least c.before).args.row.now
-    (least_le (length (start-least c.before).args.row.now) ((start-least c.before).args.i + (before-least c.before).words-in.result)
-    c.before.least.ensures))
+slice_bounds-take-end : tie.Need-slice_bounds-take-end
+slice_bounds-take-end c = sym (length-take-le _ (start-least c.before).args.row.now
+    (least_le (length (start-least c.before).args.row.now) ((start-least c.before).args.i + (before-least c.before).words_in.result)
+    c.before.least-end.ensures))
 
 take-requires : tie.Need-take-requires
 take-requires c κs = (
   words_front (start-least c.before.before).args.row.now _
       (least_le (length (start-least c.before.before).args.row.now) ((start-least c.before.before).args.i +
-      (before-least c.before.before).words-in.result) c.before.before.least.ensures) (start-least c.before.before).pre.0,
+      (before-least c.before.before).words_in.result) c.before.before.least-end.ensures) (start-least c.before.before).pre.0,
   front_roomy
       (start-least c.before.before).args.row.now (start-least c.before.before).args.pass (start-least c.before.before).args.i
-      (start-least c.before.before).args.out.now (start-least c.before.before).pre.1 (start-least c.before.before).pre.2
-      (start-least c.before.before).pre.3 c.before.before.least.ensures (before-least c.before.before).words-in.ensures,
+      (start-least c.before.before).args.out-1.now (start-least c.before.before).pre.1 (start-least c.before.before).pre.2
+      (start-least c.before.before).pre.3 c.before.before.least-end.ensures (before-least c.before.before).words_in.ensures,
 )
 
-same_length : tie.Need-same-length
-same_length c = search rules
+shape_of-out-then-held-eq0 : tie.Need-shape_of-out-then-held-eq0
+shape_of-out-then-held-eq0 c = search rules
+
+returns-then-held-eq0 : tie.Need-returns-then-held-eq0
+returns-then-held-eq0 c = from_front _ _ (start-take c.before.before).args.row.now (start-take c.before.before).args.pass (start-take c.before.before).args.i
+    (least_le (length (start-take c.before.before).args.row.now) ((start-take c.before.before).args.i +
+    (before-least (before-take c.before.before)).words_in.result) (before-take c.before.before).least-end.ensures)
+    (before-words_in (before-least (before-take c.before.before))).if-held-eq0.taken c.before.before.take.ensures
 
 returns : tie.Need-returns
-returns c = from_front _ _ (start-take c.before.before).args.row.now (start-take c.before.before).args.pass (start-take c.before.before).args.i
-    (least_le (length (start-take c.before.before).args.row.now) ((start-take c.before.before).args.i +
-    (before-least (before-take c.before.before)).words-in.result) (before-take c.before.before).least.ensures)
-    (before-words-in (before-least (before-take c.before.before))).if1.taken c.before.before.take.ensures
-
-returns-2 : tie.Need-returns-2
-returns-2 c = from_none c.before.before.before.before.before.before.requires.1
+returns c = from_none c.before.before.before.before.before.before.requires.1
 
 pub items_from_spec : {M : Type 1} → statement M
 items_from_spec =
     tie.close
     (tie.spec
-    words-in-requires
-    add-least
-    least-requires
-    slice-aggregate-take
+    words_in-requires
+    overflow_add-i
+    least-end-requires
+    slice_bounds-take-end
     take-requires
-    same_length
-    returns
-    returns-2)
+    shape_of-out-then-held-eq0
+    returns-then-held-eq0
+    returns)

@@ -3,11 +3,11 @@ use mathlib.Core.Path.{refl}
 use Rattle.data_run.proofs.least.Statement.{statement}
 use Rattle.data_run.proofs.least.Tie as tie
 
-returns : tie.Need-returns
-returns c = rw (le-leb _ _ c.if1.true) refl
+returns-then-a-b : tie.Need-returns-then-a-b
+returns-then-a-b c = rw (le-leb _ _ c.if-a-b.true) refl
 
-returns-2 : tie.Need-returns-2
-returns-2 c = rw (lt-leb _ _ c.if1.false) refl
+returns-else-a-b : tie.Need-returns-else-a-b
+returns-else-a-b c = rw (lt-leb _ _ c.if-a-b.false) refl
 
 pub least_spec : {M : Type 1} → statement M
-least_spec = tie.close (tie.spec returns returns-2)
+least_spec = tie.close (tie.spec returns-then-a-b returns-else-a-b)

@@ -4,43 +4,43 @@ use borrow.Author.Rules.{rules}
 use Rattle.data_run.proofs.on_step.Statement.{statement}
 use Rattle.data_run.proofs.on_step.Tie as tie
 
-begun-requires : tie.Need-begun-requires
-begun-requires c κs = c.before.before.before.before.before.requires.0.sane
+begun-since-requires : tie.Need-begun-since-requires
+begun-since-requires c κs = c.before.before.before.before.before.requires.0.sane
 
-add-bad : tie.Need-overflow-add-bad
-add-bad c = omega (arith, c.before.before.before.before.before.before.requires.2)
+overflow_add-bad : tie.Need-overflow_add-bad
+overflow_add-bad c = omega (arith, c.before.before.before.before.before.before.requires.2)
+
+returns-then-step : tie.Need-returns-then-step
+returns-then-step c = (
+  rw (c.before.before.before.if-step.true, c.begun-since.ensures) refl,
+  rw c.before.before.before.if-step.true refl,
+)
+
+put_step-pen-requires : tie.Need-put_step-pen-requires
+put_step-pen-requires c κs = (c.before.before.before.before.before.requires.1, (c.before.before.before.before.before.requires.3 c.before.before.if-step.false).0)
+
+since-since-requires : tie.Need-since-since-requires
+since-since-requires c κs = (c.before.before.before.before.before.before.before.before.requires.3 c.before.before.before.before.before.if-step.false).1
+
+on_data-requires : tie.Need-on_data-requires
+on_data-requires c κs = search rules
+
+shape_of-out : tie.Need-shape_of-out
+shape_of-out c = search rules
 
 returns : tie.Need-returns
 returns c = (
-  rw (c.before.before.before.if1.true, c.begun.ensures) refl,
-  rw c.before.before.before.if1.true refl,
-)
-
-put-step-requires : tie.Need-put-step-requires
-put-step-requires c κs = (c.before.before.before.before.before.requires.1, (c.before.before.before.before.before.requires.3 c.before.before.if1.false).0)
-
-since-requires : tie.Need-since-requires
-since-requires c κs = (c.before.before.before.before.before.before.before.before.requires.3 c.before.before.before.before.before.if1.false).1
-
-on-data-requires : tie.Need-on-data-requires
-on-data-requires c κs = search rules
-
-same_length : tie.Need-same-length
-same_length c = search rules
-
-returns-2 : tie.Need-returns-2
-returns-2 c = (
   rw (
-    c.before.before.before.before.before.before.before.if1.false,
-    c.before.since.ensures,
-    c.before.before.before.before.put_step.ensures.0,
-    c.on-data.ensures,
+    c.before.before.before.before.before.before.before.if-step.false,
+    c.before.since-since.ensures,
+    c.before.before.before.before.put_step-pen.ensures.0,
+    c.on_data.ensures,
   ) refl,
-  rw c.before.before.before.before.before.before.before.if1.false
-      c.before.before.before.before.put_step.ensures.1,
+  rw c.before.before.before.before.before.before.before.if-step.false
+      c.before.before.before.before.put_step-pen.ensures.1,
 )
 
 pub on_step_spec : {M : Type 1} → statement M
 on_step_spec =
     tie.close
-    (tie.spec begun-requires add-bad returns put-step-requires since-requires on-data-requires same_length returns-2)
+    (tie.spec begun-since-requires overflow_add-bad returns-then-step put_step-pen-requires since-since-requires on_data-requires shape_of-out returns)

@@ -7,194 +7,194 @@ use borrow.Author.Rules.{rules}
 use Rattle.data_run.proofs.past_fill.Statement.{statement}
 use Rattle.data_run.proofs.past_fill.Tie as tie
 
-abbrev invariant-loop : tie.invariant-loop
-invariant-loop parity code row i slot₀ blank slot = Filled blank row i slot
+abbrev invariant-loop-slot : tie.invariant-loop-slot
+invariant-loop-slot parity code row i slot₀ blank slot = Filled blank row i slot
 
-abbrev decreases-loop : tie.decreases-loop
-decreases-loop parity code row i slot₀ blank slot = length row - slot
+abbrev decreases-loop-slot : tie.decreases-loop-slot
+decreases-loop-slot parity code row i slot₀ blank slot = length row - slot
 
-abbrev invariant-loop2 : tie.invariant-loop2
-invariant-loop2 parity code row i slot₀ blank slot = Filled blank row i slot
+abbrev invariant-loop-slot-2 : tie.invariant-loop-slot-2
+invariant-loop-slot-2 parity code row i slot₀ blank slot = Filled blank row i slot
 
-abbrev decreases-loop2 : tie.decreases-loop2
-decreases-loop2 parity code row i slot₀ blank slot = length row - slot
+abbrev decreases-loop-slot-2 : tie.decreases-loop-slot-2
+decreases-loop-slot-2 parity code row i slot₀ blank slot = length row - slot
 
-abbrev before-else1 : tie.Else1 invariant-loop decreases-loop invariant-loop2 decreases-loop2 → tie.Start invariant-loop decreases-loop invariant-loop2 decreases-loop2
+abbrev before-else1 : tie.Else-fills-eq0 invariant-loop-slot decreases-loop-slot invariant-loop-slot-2 decreases-loop-slot-2 → tie.Start invariant-loop-slot decreases-loop-slot invariant-loop-slot-2 decreases-loop-slot-2
 before-else1 c = c.before.before.before
 
-abbrev before-else2 : tie.Else2 invariant-loop decreases-loop invariant-loop2 decreases-loop2 → tie.Else1 invariant-loop decreases-loop invariant-loop2 decreases-loop2
+abbrev before-else2 : tie.Else-slot-eq0 invariant-loop-slot decreases-loop-slot invariant-loop-slot-2 decreases-loop-slot-2 → tie.Else-fills-eq0 invariant-loop-slot decreases-loop-slot invariant-loop-slot-2 decreases-loop-slot-2
 before-else2 c = c.before
 
-abbrev before-fill : tie.After-fill invariant-loop decreases-loop invariant-loop2 decreases-loop2 → tie.Else2 invariant-loop decreases-loop invariant-loop2 decreases-loop2
+abbrev before-fill : tie.After-fill-blank invariant-loop-slot decreases-loop-slot invariant-loop-slot-2 decreases-loop-slot-2 → tie.Else-slot-eq0 invariant-loop-slot decreases-loop-slot invariant-loop-slot-2 decreases-loop-slot-2
 before-fill c = c.before
 
-abbrev filled : tie.At-loop invariant-loop decreases-loop invariant-loop2 decreases-loop2 → tie.After-fill invariant-loop decreases-loop invariant-loop2 decreases-loop2
+abbrev filled : tie.At-loop-slot invariant-loop-slot decreases-loop-slot invariant-loop-slot-2 decreases-loop-slot-2 → tie.After-fill-blank invariant-loop-slot decreases-loop-slot invariant-loop-slot-2 decreases-loop-slot-2
 filled c = c.before
 
-abbrev before_at : tie.At-loop invariant-loop decreases-loop invariant-loop2 decreases-loop2 → tie.Else2 invariant-loop decreases-loop invariant-loop2 decreases-loop2
+abbrev before_at : tie.At-loop-slot invariant-loop-slot decreases-loop-slot invariant-loop-slot-2 decreases-loop-slot-2 → tie.Else-slot-eq0 invariant-loop-slot decreases-loop-slot invariant-loop-slot-2 decreases-loop-slot-2
 before_at c = before-fill (filled c)
 
-abbrev before-in : tie.In-loop invariant-loop decreases-loop invariant-loop2 decreases-loop2 → tie.At-loop invariant-loop decreases-loop invariant-loop2 decreases-loop2
+abbrev before-in : tie.In-loop-slot invariant-loop-slot decreases-loop-slot invariant-loop-slot-2 decreases-loop-slot-2 → tie.At-loop-slot invariant-loop-slot decreases-loop-slot invariant-loop-slot-2 decreases-loop-slot-2
 before-in c = c.before
 
-abbrev before-are-fill : tie.After-are-fill invariant-loop decreases-loop invariant-loop2 decreases-loop2 → tie.In-loop invariant-loop decreases-loop invariant-loop2 decreases-loop2
-before-are-fill c = c.before.before.before.before.before
+abbrev before-are_fill : tie.After-are_fill invariant-loop-slot decreases-loop-slot invariant-loop-slot-2 decreases-loop-slot-2 → tie.In-loop-slot invariant-loop-slot decreases-loop-slot invariant-loop-slot-2 decreases-loop-slot-2
+before-are_fill c = c.before.before.before.before.before
 
-abbrev before-at2 : tie.At-loop2 invariant-loop decreases-loop invariant-loop2 decreases-loop2 → tie.At-loop invariant-loop decreases-loop invariant-loop2 decreases-loop2
+abbrev before-at2 : tie.At-loop-slot-2 invariant-loop-slot decreases-loop-slot invariant-loop-slot-2 decreases-loop-slot-2 → tie.At-loop-slot invariant-loop-slot decreases-loop-slot invariant-loop-slot-2 decreases-loop-slot-2
 before-at2 c = c.before.before
 
-abbrev before-in2 : tie.In-loop2 invariant-loop decreases-loop invariant-loop2 decreases-loop2 → tie.At-loop2 invariant-loop decreases-loop invariant-loop2 decreases-loop2
+abbrev before-in2 : tie.In-loop-slot-2 invariant-loop-slot decreases-loop-slot invariant-loop-slot-2 decreases-loop-slot-2 → tie.At-loop-slot-2 invariant-loop-slot decreases-loop-slot invariant-loop-slot-2 decreases-loop-slot-2
 before-in2 c = c.before
 
-abbrev before-else4 : tie.Else4 invariant-loop decreases-loop invariant-loop2 decreases-loop2 → tie.In-loop2 invariant-loop decreases-loop invariant-loop2 decreases-loop2
+abbrev before-else4 : tie.Else-row-slot invariant-loop-slot decreases-loop-slot invariant-loop-slot-2 decreases-loop-slot-2 → tie.In-loop-slot-2 invariant-loop-slot decreases-loop-slot invariant-loop-slot-2 decreases-loop-slot-2
 before-else4 c = c.before.before
 
-abbrev before-then4 : tie.Then4 invariant-loop decreases-loop invariant-loop2 decreases-loop2 → tie.In-loop2 invariant-loop decreases-loop invariant-loop2 decreases-loop2
+abbrev before-then4 : tie.Then-row-slot invariant-loop-slot decreases-loop-slot invariant-loop-slot-2 decreases-loop-slot-2 → tie.In-loop-slot-2 invariant-loop-slot decreases-loop-slot invariant-loop-slot-2 decreases-loop-slot-2
 before-then4 c = c.before.before
 
-abbrev start-else2 : tie.Else2 invariant-loop decreases-loop invariant-loop2 decreases-loop2 → tie.Start invariant-loop decreases-loop invariant-loop2 decreases-loop2
+abbrev start-else2 : tie.Else-slot-eq0 invariant-loop-slot decreases-loop-slot invariant-loop-slot-2 decreases-loop-slot-2 → tie.Start invariant-loop-slot decreases-loop-slot invariant-loop-slot-2 decreases-loop-slot-2
 start-else2 c = c.before.before.before.before
 
-abbrev start_at : tie.At-loop invariant-loop decreases-loop invariant-loop2 decreases-loop2 → tie.Start invariant-loop decreases-loop invariant-loop2 decreases-loop2
+abbrev start_at : tie.At-loop-slot invariant-loop-slot decreases-loop-slot invariant-loop-slot-2 decreases-loop-slot-2 → tie.Start invariant-loop-slot decreases-loop-slot invariant-loop-slot-2 decreases-loop-slot-2
 start_at c = start-else2 (before_at c)
 
-abbrev entry : tie.In-loop invariant-loop decreases-loop invariant-loop2 decreases-loop2 → tie.Start invariant-loop decreases-loop invariant-loop2 decreases-loop2
+abbrev entry : tie.In-loop-slot invariant-loop-slot decreases-loop-slot invariant-loop-slot-2 decreases-loop-slot-2 → tie.Start invariant-loop-slot decreases-loop-slot invariant-loop-slot-2 decreases-loop-slot-2
 entry c = start_at (before-in c)
 
-abbrev start-in2 : tie.In-loop2 invariant-loop decreases-loop invariant-loop2 decreases-loop2 → tie.Start invariant-loop decreases-loop invariant-loop2 decreases-loop2
+abbrev start-in2 : tie.In-loop-slot-2 invariant-loop-slot decreases-loop-slot invariant-loop-slot-2 decreases-loop-slot-2 → tie.Start invariant-loop-slot decreases-loop-slot invariant-loop-slot-2 decreases-loop-slot-2
 start-in2 c = start_at (before-at2 (before-in2 c))
 
-abbrev start-else4 : tie.Else4 invariant-loop decreases-loop invariant-loop2 decreases-loop2 → tie.Start invariant-loop decreases-loop invariant-loop2 decreases-loop2
+abbrev start-else4 : tie.Else-row-slot invariant-loop-slot decreases-loop-slot invariant-loop-slot-2 decreases-loop-slot-2 → tie.Start invariant-loop-slot decreases-loop-slot invariant-loop-slot-2 decreases-loop-slot-2
 start-else4 c = start-in2 (before-else4 c)
 
-returns : tie.Need-returns invariant-loop decreases-loop invariant-loop2 decreases-loop2
-returns c = past_first _ _ _ _ c.before.before.before.requires.0 c.if1.true
+returns-then-fills-eq0 : tie.Need-returns-then-fills-eq0 invariant-loop-slot decreases-loop-slot invariant-loop-slot-2 decreases-loop-slot-2
+returns-then-fills-eq0 c = past_first _ _ _ _ c.before.before.before.requires.0 c.if-fills-eq0.true
 
-returns-2 : tie.Need-returns-2 invariant-loop decreases-loop invariant-loop2 decreases-loop2
-returns-2 c = past_front _ _ _ _ (before-else1 c.before).pre.0 c.if2.true
+returns-then-slot-eq0 : tie.Need-returns-then-slot-eq0 invariant-loop-slot decreases-loop-slot invariant-loop-slot-2 decreases-loop-slot-2
+returns-then-slot-eq0 c = past_front _ _ _ _ (before-else1 c.before).pre.0 c.if-slot-eq0.true
 
-fill-requires : tie.Need-fill-requires invariant-loop decreases-loop invariant-loop2 decreases-loop2
-fill-requires c κs = (start-else2 c).pre.2
+fill-blank-requires : tie.Need-fill-blank-requires invariant-loop-slot decreases-loop-slot invariant-loop-slot-2 decreases-loop-slot-2
+fill-blank-requires c κs = (start-else2 c).pre.2
 
-loop-holds : tie.Need-loop-init invariant-loop decreases-loop invariant-loop2 decreases-loop2
-loop-holds c = filled_none _ _ _ (start-else2 (before-fill c)).pre.0
+loop-slot-init : tie.Need-loop-slot-init invariant-loop-slot decreases-loop-slot invariant-loop-slot-2 decreases-loop-slot-2
+loop-slot-init c = filled_none _ _ _ (start-else2 (before-fill c)).pre.0
 
-add-loop : tie.Need-overflow-add-loop invariant-loop decreases-loop invariant-loop2 decreases-loop2
-add-loop c = omega (arith, c.loop.invariant.room, (start_at c).pre.1)
+overflow_add-slot : tie.Need-overflow_add-slot invariant-loop-slot decreases-loop-slot invariant-loop-slot-2 decreases-loop-slot-2
+overflow_add-slot c = omega (arith, c.loop-slot.invariant.room, (start_at c).pre.1)
 
-mul-are-fill : tie.Need-overflow-mul-are-fill invariant-loop decreases-loop invariant-loop2 decreases-loop2
-mul-are-fill c = omega (arith, c.loop-test.true, (entry c).pre.1)
+offset_bounds-row-slot : tie.Need-offset_bounds-row-slot invariant-loop-slot decreases-loop-slot invariant-loop-slot-2 decreases-loop-slot-2
+offset_bounds-row-slot c = omega (arith, c.loop-slot-test.true, (entry c).pre.1)
 
-shared-slice-read-are-fill : tie.Need-shared-slice-read-are-fill invariant-loop decreases-loop invariant-loop2 decreases-loop2
-shared-slice-read-are-fill c = omega (arith, c.before.loop-test.true, (entry c.before).pre.1)
+bounds-row-slot : tie.Need-bounds-row-slot invariant-loop-slot decreases-loop-slot invariant-loop-slot-2 decreases-loop-slot-2
+bounds-row-slot c = omega (arith, c.before.loop-slot-test.true, (entry c.before).pre.1)
 
-add-are-fill : tie.Need-overflow-add-are-fill invariant-loop decreases-loop invariant-loop2 decreases-loop2
-add-are-fill c = omega (arith, c.before.loop-test.true, (entry c.before).pre.1)
+overflow_add-slot-in-loop-slot : tie.Need-overflow_add-slot-in-loop-slot invariant-loop-slot decreases-loop-slot invariant-loop-slot-2 decreases-loop-slot-2
+overflow_add-slot-in-loop-slot c = omega (arith, c.before.loop-slot-test.true, (entry c.before).pre.1)
 
-mul-are-fill-2 : tie.Need-overflow-mul-are-fill-2 invariant-loop decreases-loop invariant-loop2 decreases-loop2
-mul-are-fill-2 c = omega (arith, c.before.loop-test.true, (entry c.before).pre.1)
+offset_bounds-row-slot-in-loop-slot : tie.Need-offset_bounds-row-slot-in-loop-slot invariant-loop-slot decreases-loop-slot invariant-loop-slot-2 decreases-loop-slot-2
+offset_bounds-row-slot-in-loop-slot c = omega (arith, c.before.loop-slot-test.true, (entry c.before).pre.1)
 
 shared-slice-read-are-fill-2 :
-    tie.Need-shared-slice-read-are-fill-2 invariant-loop decreases-loop invariant-loop2 decreases-loop2
-shared-slice-read-are-fill-2 c = omega (arith, c.before.before.loop-test.true, (entry c.before.before).pre.1)
+    tie.Need-shared_slice_read-are_fill-2 invariant-loop-slot decreases-loop-slot invariant-loop-slot-2 decreases-loop-slot-2
+shared-slice-read-are-fill-2 c = omega (arith, c.before.before.loop-slot-test.true, (entry c.before.before).pre.1)
 
-add-are-fill-2 : tie.Need-overflow-add-are-fill-2 invariant-loop decreases-loop invariant-loop2 decreases-loop2
-add-are-fill-2 c = omega (arith, c.before.before.loop-test.true, (entry c.before.before).pre.1)
+overflow_add-slot-in-loop-slot-2 : tie.Need-overflow_add-slot-in-loop-slot-2 invariant-loop-slot decreases-loop-slot invariant-loop-slot-2 decreases-loop-slot-2
+overflow_add-slot-in-loop-slot-2 c = omega (arith, c.before.before.loop-slot-test.true, (entry c.before.before).pre.1)
 
-mul-are-fill-3 : tie.Need-overflow-mul-are-fill-3 invariant-loop decreases-loop invariant-loop2 decreases-loop2
-mul-are-fill-3 c = omega (arith, c.before.before.loop-test.true, (entry c.before.before).pre.1)
+offset_bounds-row-slot-in-loop-slot-2 : tie.Need-offset_bounds-row-slot-in-loop-slot-2 invariant-loop-slot decreases-loop-slot invariant-loop-slot-2 decreases-loop-slot-2
+offset_bounds-row-slot-in-loop-slot-2 c = omega (arith, c.before.before.loop-slot-test.true, (entry c.before.before).pre.1)
 
 shared-slice-read-are-fill-3 :
-    tie.Need-shared-slice-read-are-fill-3 invariant-loop decreases-loop invariant-loop2 decreases-loop2
-shared-slice-read-are-fill-3 c = omega (arith, c.before.before.before.loop-test.true, (entry c.before.before.before).pre.1)
+    tie.Need-shared_slice_read-are_fill-3 invariant-loop-slot decreases-loop-slot invariant-loop-slot-2 decreases-loop-slot-2
+shared-slice-read-are-fill-3 c = omega (arith, c.before.before.before.loop-slot-test.true, (entry c.before.before.before).pre.1)
 
-add-are-fill-3 : tie.Need-overflow-add-are-fill-3 invariant-loop decreases-loop invariant-loop2 decreases-loop2
-add-are-fill-3 c = omega (arith, c.before.before.before.loop-test.true, (entry c.before.before.before).pre.1)
+overflow_add-slot-in-loop-slot-3 : tie.Need-overflow_add-slot-in-loop-slot-3 invariant-loop-slot decreases-loop-slot invariant-loop-slot-2 decreases-loop-slot-2
+overflow_add-slot-in-loop-slot-3 c = omega (arith, c.before.before.before.loop-slot-test.true, (entry c.before.before.before).pre.1)
 
-mul-are-fill-4 : tie.Need-overflow-mul-are-fill-4 invariant-loop decreases-loop invariant-loop2 decreases-loop2
-mul-are-fill-4 c = omega (arith, c.before.before.before.loop-test.true, (entry c.before.before.before).pre.1)
+offset_bounds-row-slot-in-loop-slot-3 : tie.Need-offset_bounds-row-slot-in-loop-slot-3 invariant-loop-slot decreases-loop-slot invariant-loop-slot-2 decreases-loop-slot-2
+offset_bounds-row-slot-in-loop-slot-3 c = omega (arith, c.before.before.before.loop-slot-test.true, (entry c.before.before.before).pre.1)
 
 shared-slice-read-are-fill-4 :
-    tie.Need-shared-slice-read-are-fill-4 invariant-loop decreases-loop invariant-loop2 decreases-loop2
-shared-slice-read-are-fill-4 c = omega (arith, c.before.before.before.before.loop-test.true, (entry c.before.before.before.before).pre.1)
+    tie.Need-shared_slice_read-are_fill-4 invariant-loop-slot decreases-loop-slot invariant-loop-slot-2 decreases-loop-slot-2
+shared-slice-read-are-fill-4 c = omega (arith, c.before.before.before.before.loop-slot-test.true, (entry c.before.before.before.before).pre.1)
 
-are-fill-requires : tie.Need-are-fill-requires invariant-loop decreases-loop invariant-loop2 decreases-loop2
-are-fill-requires c κs = search rules
+are_fill-requires : tie.Need-are_fill-requires invariant-loop-slot decreases-loop-slot invariant-loop-slot-2 decreases-loop-slot-2
+are_fill-requires c κs = search rules
 
-add-slot : tie.Need-overflow-add-slot invariant-loop decreases-loop invariant-loop2 decreases-loop2
-add-slot c = omega (arith, (before-are-fill c.before).loop-test.taken, (entry (before-are-fill c.before)).pre.1)
+overflow_add-slot-then-are_fill : tie.Need-overflow_add-slot-then-are_fill invariant-loop-slot decreases-loop-slot invariant-loop-slot-2 decreases-loop-slot-2
+overflow_add-slot-then-are_fill c = omega (arith, (before-are_fill c.before).loop-slot-test.taken, (entry (before-are_fill c.before)).pre.1)
 
-loop-less : tie.Need-loop-smaller invariant-loop decreases-loop invariant-loop2 decreases-loop2
-loop-less c = omega (arith, (before-are-fill c.before).loop-test.taken)
+loop-slot-smaller : tie.Need-loop-slot-smaller invariant-loop-slot decreases-loop-slot invariant-loop-slot-2 decreases-loop-slot-2
+loop-slot-smaller c = omega (arith, (before-are_fill c.before).loop-slot-test.taken)
 
-loop-again : tie.Need-loop-preserved invariant-loop decreases-loop invariant-loop2 decreases-loop2
-loop-again c = filled_four _ (before-in (before-are-fill c.before)).loop.inv (before-are-fill c.before).loop-test.taken
-    (sym c.if3.true ∙ c.before.are-fill.ensures)
+loop-slot-preserved : tie.Need-loop-slot-preserved invariant-loop-slot decreases-loop-slot invariant-loop-slot-2 decreases-loop-slot-2
+loop-slot-preserved c = filled_four _ (before-in (before-are_fill c.before)).loop-slot.inv (before-are_fill c.before).loop-slot-test.taken
+    (sym c.if-are_fill.true ∙ c.before.are_fill.ensures)
 
-loop2-holds : tie.Need-loop2-init invariant-loop decreases-loop invariant-loop2 decreases-loop2
-loop2-holds c = c.before.loop.invariant
+loop-slot-2-init : tie.Need-loop-slot-2-init invariant-loop-slot decreases-loop-slot invariant-loop-slot-2 decreases-loop-slot-2
+loop-slot-2-init c = c.before.loop-slot.invariant
 
-mul-if4 : tie.Need-overflow-mul-if4 invariant-loop decreases-loop invariant-loop2 decreases-loop2
-mul-if4 c = omega (arith, c.loop2-test.true, (start-in2 c).pre.1)
+offset_bounds-row-slot-in-loop-slot-2-2 : tie.Need-offset_bounds-row-slot-in-loop-slot-2-2 invariant-loop-slot decreases-loop-slot invariant-loop-slot-2 decreases-loop-slot-2
+offset_bounds-row-slot-in-loop-slot-2-2 c = omega (arith, c.loop-slot-2-test.true, (start-in2 c).pre.1)
 
-shared-slice-read-if4 : tie.Need-shared-slice-read-if4 invariant-loop decreases-loop invariant-loop2 decreases-loop2
-shared-slice-read-if4 c = c.before.loop2-test.true
+bounds-row-slot-in-loop-slot-2-2 : tie.Need-bounds-row-slot-in-loop-slot-2-2 invariant-loop-slot decreases-loop-slot invariant-loop-slot-2 decreases-loop-slot-2
+bounds-row-slot-in-loop-slot-2-2 c = c.before.loop-slot-2-test.true
 
-add-slot-2 : tie.Need-overflow-add-slot-2 invariant-loop decreases-loop invariant-loop2 decreases-loop2
-add-slot-2 c = omega (arith, (before-else4 c).loop2-test.taken, (start-else4 c).pre.1)
+overflow_add-slot-in-loop-slot-2-2 : tie.Need-overflow_add-slot-in-loop-slot-2-2 invariant-loop-slot decreases-loop-slot invariant-loop-slot-2 decreases-loop-slot-2
+overflow_add-slot-in-loop-slot-2-2 c = omega (arith, (before-else4 c).loop-slot-2-test.taken, (start-else4 c).pre.1)
 
-loop2-less : tie.Need-loop2-smaller invariant-loop decreases-loop invariant-loop2 decreases-loop2
-loop2-less c = omega (arith, (before-else4 c).loop2-test.taken)
+loop-slot-2-smaller : tie.Need-loop-slot-2-smaller invariant-loop-slot decreases-loop-slot invariant-loop-slot-2 decreases-loop-slot-2
+loop-slot-2-smaller c = omega (arith, (before-else4 c).loop-slot-2-test.taken)
 
-loop2-again : tie.Need-loop2-preserved invariant-loop decreases-loop invariant-loop2 decreases-loop2
-loop2-again c = filled_one _ (before-in2 (before-else4 c)).loop2.inv (before-else4 c).loop2-test.taken
-    c.if4.false
+loop-slot-2-preserved : tie.Need-loop-slot-2-preserved invariant-loop-slot decreases-loop-slot invariant-loop-slot-2 decreases-loop-slot-2
+loop-slot-2-preserved c = filled_one _ (before-in2 (before-else4 c)).loop-slot-2.inv (before-else4 c).loop-slot-2-test.taken
+    c.if-row-slot.false
 
-returns-3 : tie.Need-returns-3 invariant-loop decreases-loop invariant-loop2 decreases-loop2
-returns-3 c =
+returns-after-loop-slot-2 : tie.Need-returns-after-loop-slot-2 invariant-loop-slot decreases-loop-slot invariant-loop-slot-2 decreases-loop-slot-2
+returns-after-loop-slot-2 c =
     let l = before-at2 c.before in
-    rw (← (filled l).fill.ensures.0) (past_some _ _ _ c.before.loop2.invariant (before-else2 (before_at l)).if1.left (before_at l).if2.left
-    (λ h. absurd (omega (arith, h, c.loop2-test.false))))
+    rw (← (filled l).fill-blank.ensures.0) (past_some _ _ _ c.before.loop-slot-2.invariant (before-else2 (before_at l)).if-fills-eq0.left (before_at l).if-slot-eq0.left
+    (λ h. absurd (omega (arith, h, c.loop-slot-2-test.false))))
 
-returns-4 : tie.Need-returns-4 invariant-loop decreases-loop invariant-loop2 decreases-loop2
-returns-4 c =
+returns-then-row-slot : tie.Need-returns-then-row-slot invariant-loop-slot decreases-loop-slot invariant-loop-slot-2 decreases-loop-slot-2
+returns-then-row-slot c =
     let o = before-in2 (before-then4 c) in
     let l = before-at2 o in
-    rw (← (filled l).fill.ensures.0) (past_some _ _ _ o.loop2.inv (before-else2 (before_at l)).if1.left (before_at l).if2.left (λ h z. c.if4.true z))
+    rw (← (filled l).fill-blank.ensures.0) (past_some _ _ _ o.loop-slot-2.inv (before-else2 (before_at l)).if-fills-eq0.left (before_at l).if-slot-eq0.left (λ h z. c.if-row-slot.true z))
 
 pub past_fill_spec : {M : Type 1} → statement M
 past_fill_spec =
     tie.close
     (tie.spec
-    invariant-loop
-    decreases-loop
-    invariant-loop2
-    decreases-loop2
-    returns
-    returns-2
-    fill-requires
-    loop-holds
-    add-loop
-    mul-are-fill
-    shared-slice-read-are-fill
-    add-are-fill
-    mul-are-fill-2
+    invariant-loop-slot
+    decreases-loop-slot
+    invariant-loop-slot-2
+    decreases-loop-slot-2
+    returns-then-fills-eq0
+    returns-then-slot-eq0
+    fill-blank-requires
+    loop-slot-init
+    overflow_add-slot
+    offset_bounds-row-slot
+    bounds-row-slot
+    overflow_add-slot-in-loop-slot
+    offset_bounds-row-slot-in-loop-slot
     shared-slice-read-are-fill-2
-    add-are-fill-2
-    mul-are-fill-3
+    overflow_add-slot-in-loop-slot-2
+    offset_bounds-row-slot-in-loop-slot-2
     shared-slice-read-are-fill-3
-    add-are-fill-3
-    mul-are-fill-4
+    overflow_add-slot-in-loop-slot-3
+    offset_bounds-row-slot-in-loop-slot-3
     shared-slice-read-are-fill-4
-    are-fill-requires
-    add-slot
-    loop-less
-    loop-again
-    loop2-holds
-    mul-if4
-    shared-slice-read-if4
-    add-slot-2
-    loop2-less
-    loop2-again
-    returns-3
-    returns-4)
+    are_fill-requires
+    overflow_add-slot-then-are_fill
+    loop-slot-smaller
+    loop-slot-preserved
+    loop-slot-2-init
+    offset_bounds-row-slot-in-loop-slot-2-2
+    bounds-row-slot-in-loop-slot-2-2
+    overflow_add-slot-in-loop-slot-2-2
+    loop-slot-2-smaller
+    loop-slot-2-preserved
+    returns-after-loop-slot-2
+    returns-then-row-slot)

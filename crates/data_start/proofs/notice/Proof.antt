@@ -6,26 +6,26 @@ use borrow.Author.Rules.{rules}
 use Rattle.data_start.proofs.notice.Statement.{statement}
 use Rattle.data_start.proofs.notice.Tie as tie
 
-sub-channel : tie.Need-overflow-sub-channel
-sub-channel c = let k = pair_labels (c.args.information / 4096) (c.args.information / 256 % 16) (omega arith) c.requires.2 in search (rules, k.0)
+overflow_sub-channel : tie.Need-overflow_sub-channel
+overflow_sub-channel c = let k = pair_labels (c.args.information / 4096) (c.args.information / 256 % 16) (omega arith) c.requires.2 in search (rules, k.0)
 
-add-ends : tie.Need-overflow-add-ends
-add-ends c = search rules
+overflow_add-bus : tie.Need-overflow_add-bus
+overflow_add-bus c = search rules
 
-mul-ends : tie.Need-overflow-mul-ends
-mul-ends c = search rules
+overflow_mul-bus : tie.Need-overflow_mul-bus
+overflow_mul-bus c = search rules
 
-add-ends-2 : tie.Need-overflow-add-ends-2
-add-ends-2 c = search rules
+overflow_add-bus-2 : tie.Need-overflow_add-bus-2
+overflow_add-bus-2 c = search rules
 
-mul-ends-2 : tie.Need-overflow-mul-ends-2
-mul-ends-2 c = search rules
+overflow_mul-bus-2 : tie.Need-overflow_mul-bus-2
+overflow_mul-bus-2 c = search rules
 
-add-ends-3 : tie.Need-overflow-add-ends-3
-add-ends-3 c = search rules
+overflow_add-bus-3 : tie.Need-overflow_add-bus-3
+overflow_add-bus-3 c = search rules
 
-cast_ends : tie.Need-overflow-cast-ends
-cast_ends c = search rules
+overflow_cast-bus : tie.Need-overflow_cast-bus
+overflow_cast-bus c = search rules
 
 ends-requires : tie.Need-ends-requires
 ends-requires c κs = search rules
@@ -37,12 +37,12 @@ pub notice_spec : {M : Type 1} → statement M
 notice_spec =
     tie.close
     (tie.spec
-    sub-channel
-    add-ends
-    mul-ends
-    add-ends-2
-    mul-ends-2
-    add-ends-3
-    cast_ends
+    overflow_sub-channel
+    overflow_add-bus
+    overflow_mul-bus
+    overflow_add-bus-2
+    overflow_mul-bus-2
+    overflow_add-bus-3
+    overflow_cast-bus
     ends-requires
     returns)

@@ -6,24 +6,24 @@ use borrow.Author.Rules.{rules}
 use Rattle.data_start.proofs.one_word.Statement.{statement}
 use Rattle.data_start.proofs.one_word.Tie as tie
 
-mul-result : tie.Need-overflow-mul-result
-mul-result c = search rules
+overflow_mul-result : tie.Need-overflow_mul-result
+overflow_mul-result c = search rules
 
-shl-result : tie.Need-overflow-shl-result
-shl-result c = search rules
+overflow_shl-result : tie.Need-overflow_shl-result
+overflow_shl-result c = search rules
 
-add-result : tie.Need-overflow-add-result
-add-result c = search rules
+overflow_add-result : tie.Need-overflow_add-result
+overflow_add-result c = search rules
 
-mul-result-2 : tie.Need-overflow-mul-result-2
-mul-result-2 c = let m = moved (c.args.kind * 16) c.args.behind (omega (arith, c.requires.0)) c.requires.1 in omega (arith, m.0, m.1, c.requires.2)
+overflow_mul-result-2 : tie.Need-overflow_mul-result-2
+overflow_mul-result-2 c = let m = moved (c.args.kind * 16) c.args.behind (omega (arith, c.requires.0)) c.requires.1 in omega (arith, m.0, m.1, c.requires.2)
 
-add-result-2 : tie.Need-overflow-add-result-2
-add-result-2 c = let m = moved (c.args.kind * 16) c.args.behind (omega (arith, c.requires.0)) c.requires.1 in omega (arith, m.0, m.1, c.requires.1, c.requires.2)
+overflow_add-result-2 : tie.Need-overflow_add-result-2
+overflow_add-result-2 c = let m = moved (c.args.kind * 16) c.args.behind (omega (arith, c.requires.0)) c.requires.1 in omega (arith, m.0, m.1, c.requires.1, c.requires.2)
 
 returns : tie.Need-returns
 returns c = let m = moved (c.args.kind * 16) c.args.behind (omega (arith, c.requires.0)) c.requires.1 in rw m.0 refl
 
 pub one_word_spec : {M : Type 1} → statement M
 one_word_spec =
-    tie.close (tie.spec mul-result shl-result add-result mul-result-2 add-result-2 returns)
+    tie.close (tie.spec overflow_mul-result overflow_shl-result overflow_add-result overflow_mul-result-2 overflow_add-result-2 returns)

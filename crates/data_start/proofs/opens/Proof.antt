@@ -3,39 +3,39 @@ use borrow.Author.Rules.{rules}
 use Rattle.data_start.proofs.opens.Statement.{statement}
 use Rattle.data_start.proofs.opens.Tie as tie
 
-enum_told : tie.Need-enum-told
-enum_told c = search rules
+enum_told-1 : tie.Need-enum_told-1
+enum_told-1 c = search rules
 
-enum-told-2 : tie.Need-enum-told-2
-enum-told-2 c = search rules
+enum_told-in-Mil1553 : tie.Need-enum_told-in-Mil1553
+enum_told-in-Mil1553 c = search rules
 
-opens-on-1553-requires : tie.Need-opens-on-1553-requires
-opens-on-1553-requires c κs = search rules
+opens_on_1553-requires : tie.Need-opens_on_1553-requires
+opens_on_1553-requires c κs = search rules
 
-enum-told-3 : tie.Need-enum-told-3
-enum-told-3 c = search rules
+enum_told-in-Arinc429 : tie.Need-enum_told-in-Arinc429
+enum_told-in-Arinc429 c = search rules
 
-opens-on-429-requires : tie.Need-opens-on-429-requires
-opens-on-429-requires c κs = search rules
+opens_on_429-requires : tie.Need-opens_on_429-requires
+opens_on_429-requires c κs = search rules
 
-returns : tie.Need-returns
-returns c = none_on_unused _ c.before.before.requires c.enum_told.given.1
+returns-in-Unused : tie.Need-returns-in-Unused
+returns-in-Unused c = none_on_unused _ c.before.before.requires c.enum_told-1.given.1
 
-returns-2 : tie.Need-returns-2
-returns-2 c = rw c.before.enum-told2.given.1 c.opens-on-1553.ensures
+returns-in-Mil1553 : tie.Need-returns-in-Mil1553
+returns-in-Mil1553 c = rw c.before.enum_told-in-Mil1553-1.given.1 c.opens_on_1553.ensures
 
-returns-3 : tie.Need-returns-3
-returns-3 c = rw c.before.enum-told3.given.1 c.opens-on-429.ensures
+returns-in-Arinc429 : tie.Need-returns-in-Arinc429
+returns-in-Arinc429 c = rw c.before.enum_told-in-Arinc429-1.given.1 c.opens_on_429.ensures
 
 pub opens_spec : {M : Type 1} → statement M
 opens_spec =
     tie.close
     (tie.spec
-    enum_told
-    enum-told-2
-    opens-on-1553-requires
-    enum-told-3
-    opens-on-429-requires
-    returns
-    returns-2
-    returns-3)
+    enum_told-1
+    enum_told-in-Mil1553
+    opens_on_1553-requires
+    enum_told-in-Arinc429
+    opens_on_429-requires
+    returns-in-Unused
+    returns-in-Mil1553
+    returns-in-Arinc429)

@@ -6,52 +6,52 @@ use borrow.Author.Rules.{rules}
 use Rattle.data_start.proofs.opens_on_1553.Statement.{statement}
 use Rattle.data_start.proofs.opens_on_1553.Tie as tie
 
-returns : tie.Need-returns
+returns-then-label-eq4 : tie.Need-returns-then-label-eq4
 unfolding opens
-returns c = rw c.if2.true refl
+returns-then-label-eq4 c = rw c.if-label-eq4.true refl
 
-opens-on-either-requires : tie.Need-opens-on-either-requires
-opens-on-either-requires c κs = search rules
+opens_on_either-requires : tie.Need-opens_on_either-requires
+opens_on_either-requires c κs = search rules
 
-returns-2 : tie.Need-returns-2
-returns-2 c = c.opens-on-either.ensures.0
+returns-then-label-lt8 : tie.Need-returns-then-label-lt8
+returns-then-label-lt8 c = c.opens_on_either.ensures.0
 
-sub-down : tie.Need-overflow-sub-down
-sub-down c = search rules
+overflow_sub-down : tie.Need-overflow_sub-down
+overflow_sub-down c = search rules
 
-mul-one-word : tie.Need-overflow-mul-one-word
-mul-one-word c = search rules
+overflow_mul-down : tie.Need-overflow_mul-down
+overflow_mul-down c = search rules
 
-one-word-requires : tie.Need-one-word-requires
-one-word-requires c κs = search rules
+one_word-requires : tie.Need-one_word-requires
+one_word-requires c κs = search rules
 
-add-one-word : tie.Need-overflow-add-one-word
-add-one-word c = search rules
+overflow_add-down : tie.Need-overflow_add-down
+overflow_add-down c = search rules
 
-one-word-requires-2 : tie.Need-one-word-requires-2
-one-word-requires-2 c κs = search rules
+one_word-requires-in_default : tie.Need-one_word-requires-in_default
+one_word-requires-in_default c κs = search rules
 
-returns-3 : tie.Need-returns-3
-returns-3 c = on_1553_command _ (omega (arith, c.before.if1.false)) c.before.before.requires c.match.keys1
+returns-in-0 : tie.Need-returns-in-0
+returns-in-0 c = on_1553_command _ (omega (arith, c.before.if-label-lt8.false)) c.before.before.requires c.in_default.keys1
 
-returns-4 : tie.Need-returns-4
-returns-4 c = c.one_word.ensures ∙ on_1553_status _ (omega (arith, c.before.before.if1.false)) c.before.before.before.requires c.before.match.keys2
+returns-in-1 : tie.Need-returns-in-1
+returns-in-1 c = c.one_word.ensures ∙ on_1553_status _ (omega (arith, c.before.before.if-label-lt8.false)) c.before.before.before.requires c.before.in_default.keys2
 
-returns-5 : tie.Need-returns-5
-returns-5 c = c.one-word2.ensures ∙ on_1553_word _ (omega (arith, c.before.before.if1.false)) c.before.before.before.requires c.before.match.rest.0.1 c.before.match.rest.1
+returns-in_default : tie.Need-returns-in_default
+returns-in_default c = c.one_word-in_default.ensures ∙ on_1553_word _ (omega (arith, c.before.before.if-label-lt8.false)) c.before.before.before.requires c.before.in_default.rest.0.1 c.before.in_default.rest.1
 
 pub opens_on_1553_spec : {M : Type 1} → statement M
 opens_on_1553_spec =
     tie.close
     (tie.spec
-    returns
-    opens-on-either-requires
-    returns-2
-    sub-down
-    mul-one-word
-    one-word-requires
-    add-one-word
-    one-word-requires-2
-    returns-3
-    returns-4
-    returns-5)
+    returns-then-label-eq4
+    opens_on_either-requires
+    returns-then-label-lt8
+    overflow_sub-down
+    overflow_mul-down
+    one_word-requires
+    overflow_add-down
+    one_word-requires-in_default
+    returns-in-0
+    returns-in-1
+    returns-in_default)

@@ -6,22 +6,22 @@ use borrow.Author.Rules.{rules}
 use Rattle.data_start.proofs.opens_on_429.Statement.{statement}
 use Rattle.data_start.proofs.opens_on_429.Tie as tie
 
-returns : tie.Need-returns
+returns-then-label-eq4 : tie.Need-returns-then-label-eq4
 unfolding opens
-returns c = rw c.if2.true refl
+returns-then-label-eq4 c = rw c.if-label-eq4.true refl
 
-opens-on-either-requires : tie.Need-opens-on-either-requires
-opens-on-either-requires c κs = search rules
+opens_on_either-requires : tie.Need-opens_on_either-requires
+opens_on_either-requires c κs = search rules
 
-returns-2 : tie.Need-returns-2
-returns-2 c = c.opens-on-either.ensures.1
+returns-then-label-lt8 : tie.Need-returns-then-label-lt8
+returns-then-label-lt8 c = c.opens_on_either.ensures.1
 
-mul-result : tie.Need-overflow-mul-result
-mul-result c = search rules
+overflow_mul-result : tie.Need-overflow_mul-result
+overflow_mul-result c = search rules
 
-returns-3 : tie.Need-returns-3
-returns-3 c = on_429_syllable _ (omega (arith, c.if1.false)) c.before.requires
+returns : tie.Need-returns
+returns c = on_429_syllable _ (omega (arith, c.if-label-lt8.false)) c.before.requires
 
 pub opens_on_429_spec : {M : Type 1} → statement M
 opens_on_429_spec =
-    tie.close (tie.spec returns opens-on-either-requires returns-2 mul-result returns-3)
+    tie.close (tie.spec returns-then-label-eq4 opens_on_either-requires returns-then-label-lt8 overflow_mul-result returns)

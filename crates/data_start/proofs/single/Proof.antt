@@ -7,23 +7,23 @@ use borrow.Author.Rules.{rules}
 use Rattle.data_start.proofs.single.Statement.{statement}
 use Rattle.data_start.proofs.single.Tie as tie
 
-shl-head : tie.Need-overflow-shl-head
-shl-head c = search rules
+overflow_shl-head : tie.Need-overflow_shl-head
+overflow_shl-head c = search rules
 
-add-head : tie.Need-overflow-add-head
-add-head c = let m = moved c.args.bus (c.args.opening % 4) (omega (arith, c.requires.1)) (omega arith) in omega (arith, m.0, m.1)
+overflow_add-head : tie.Need-overflow_add-head
+overflow_add-head c = let m = moved c.args.bus (c.args.opening % 4) (omega (arith, c.requires.1)) (omega arith) in omega (arith, m.0, m.1)
 
-mul-ends : tie.Need-overflow-mul-ends
-mul-ends c = let m = moved c.args.bus (c.args.opening % 4) (omega (arith, c.requires.1)) (omega arith) in omega (arith, m.0, m.1)
+overflow_mul-head : tie.Need-overflow_mul-head
+overflow_mul-head c = let m = moved c.args.bus (c.args.opening % 4) (omega (arith, c.requires.1)) (omega arith) in omega (arith, m.0, m.1)
 
-add-ends : tie.Need-overflow-add-ends
-add-ends c = let m = moved c.args.bus (c.args.opening % 4) (omega (arith, c.requires.1)) (omega arith) in omega (arith, m.0, m.1)
+overflow_add-head-2 : tie.Need-overflow_add-head-2
+overflow_add-head-2 c = let m = moved c.args.bus (c.args.opening % 4) (omega (arith, c.requires.1)) (omega arith) in omega (arith, m.0, m.1)
 
-cast_ends : tie.Need-overflow-cast-ends
-cast_ends c = search rules
+overflow_cast-head : tie.Need-overflow_cast-head
+overflow_cast-head c = search rules
 
-add-ends-2 : tie.Need-overflow-add-ends-2
-add-ends-2 c = search rules
+overflow_add-behind : tie.Need-overflow_add-behind
+overflow_add-behind c = search rules
 
 ends-requires : tie.Need-ends-requires
 ends-requires c κs = search rules
@@ -37,4 +37,4 @@ returns c =
 pub single_spec : {M : Type 1} → statement M
 single_spec =
     tie.close
-    (tie.spec shl-head add-head mul-ends add-ends cast_ends add-ends-2 ends-requires returns)
+    (tie.spec overflow_shl-head overflow_add-head overflow_mul-head overflow_add-head-2 overflow_cast-head overflow_add-behind ends-requires returns)

@@ -5,35 +5,35 @@ use borrow.Author.Rules.{rules}
 use Rattle.data_start.proofs.syllable.Statement.{statement}
 use Rattle.data_start.proofs.syllable.Tie as tie
 
-add-bits : tie.Need-overflow-add-bits
-add-bits c = search rules
+overflow_add-bits : tie.Need-overflow_add-bits
+overflow_add-bits c = search rules
 
-mul-bits : tie.Need-overflow-mul-bits
-mul-bits c = search rules
+overflow_mul-bits : tie.Need-overflow_mul-bits
+overflow_mul-bits c = search rules
 
-sub-bits : tie.Need-overflow-sub-bits
-sub-bits c = search rules
+overflow_sub-bits : tie.Need-overflow_sub-bits
+overflow_sub-bits c = search rules
 
-add-bits-2 : tie.Need-overflow-add-bits-2
-add-bits-2 c = search rules
+overflow_add-bits-2 : tie.Need-overflow_add-bits-2
+overflow_add-bits-2 c = search rules
 
-cast-bits : tie.Need-overflow-cast-bits
-cast-bits c = search rules
+overflow_cast-bits : tie.Need-overflow_cast-bits
+overflow_cast-bits c = search rules
 
-mul-bits-2 : tie.Need-overflow-mul-bits-2
-mul-bits-2 c = search rules
+overflow_mul-bits-2 : tie.Need-overflow_mul-bits-2
+overflow_mul-bits-2 c = search rules
 
-add-bits-3 : tie.Need-overflow-add-bits-3
-add-bits-3 c = search rules
+overflow_add-bits-3 : tie.Need-overflow_add-bits-3
+overflow_add-bits-3 c = search rules
 
-mul_holds : tie.Need-overflow-mul-holds
-mul_holds c = search rules
+overflow_mul-bus : tie.Need-overflow_mul-bus
+overflow_mul-bus c = search rules
 
-sub_holds : tie.Need-overflow-sub-holds
-sub_holds c = search rules
+overflow_sub-label : tie.Need-overflow_sub-label
+overflow_sub-label c = search rules
 
-add_holds : tie.Need-overflow-add-holds
-add_holds c = search rules
+overflow_add-bus : tie.Need-overflow_add-bus
+overflow_add-bus c = search rules
 
 holds-requires : tie.Need-holds-requires
 holds-requires c κs = search rules
@@ -45,15 +45,15 @@ pub syllable_spec : {M : Type 1} → statement M
 syllable_spec =
     tie.close
     (tie.spec
-    add-bits
-    mul-bits
-    sub-bits
-    add-bits-2
-    cast-bits
-    mul-bits-2
-    add-bits-3
-    mul_holds
-    sub_holds
-    add_holds
+    overflow_add-bits
+    overflow_mul-bits
+    overflow_sub-bits
+    overflow_add-bits-2
+    overflow_cast-bits
+    overflow_mul-bits-2
+    overflow_add-bits-3
+    overflow_mul-bus
+    overflow_sub-label
+    overflow_add-bus
     holds-requires
     returns)

@@ -6,52 +6,52 @@ use borrow.Author.Rules.{rules}
 use Rattle.data_word.proofs.feed.Statement.{statement}
 use Rattle.data_word.proofs.feed.Tie as tie
 
-mul-if2 : tie.Need-overflow-mul-if2
-mul-if2 c = search rules
+overflow_mul-bus : tie.Need-overflow_mul-bus
+overflow_mul-bus c = search rules
 
-add-if2 : tie.Need-overflow-add-if2
-add-if2 c = search rules
+overflow_add-bus : tie.Need-overflow_add-bus
+overflow_add-bus c = search rules
 
-goes-on-requires : tie.Need-goes-on-requires
-goes-on-requires c κs = search rules
+goes_on-requires : tie.Need-goes_on-requires
+goes_on-requires c κs = search rules
 
-returns : tie.Need-returns
-returns c = c.goes_on.ensures _
+returns-then-awaits-bus : tie.Need-returns-then-awaits-bus
+returns-then-awaits-bus c = c.goes_on.ensures _
 
 answers-requires : tie.Need-answers-requires
 answers-requires c κs = search rules
 
-returns-2 : tie.Need-returns-2
-returns-2 c = c.answers.ensures _
+returns-then-awaits-ne7 : tie.Need-returns-then-awaits-ne7
+returns-then-awaits-ne7 c = c.answers.ensures _
 
-base-width-requires : tie.Need-base-width-requires
-base-width-requires c κs = search rules
+base_width-width-requires : tie.Need-base_width-width-requires
+base_width-width-requires c κs = search rules
 
-array-copy-out-starts : tie.Need-array-copy-out-starts
-array-copy-out-starts c = search rules
+bounds-kinds-bus : tie.Need-bounds-kinds-bus
+bounds-kinds-bus c = search rules
 
 starts-requires : tie.Need-starts-requires
 starts-requires c κs = search rules
 
-returns-3 : tie.Need-returns-3
-returns-3 c =
+returns : tie.Need-returns
+returns c =
     c.starts.ensures
     ∙ ⊎_elim
     (λ w. rw (w.4, w.3.ensures) (no_tag_follows _ _ _ _ (omega arith) (omega arith) _ c.before.before.before.requires.1 w.2.left w.1.left))
     (λ w. rw w.1 (nothing_held _ _ _ _ (omega arith) (omega arith) _ c.before.before.before.requires.1 w.0.left))
-    c.before.before.if1.branch
+    c.before.before.if-awaits-ne0.branch
 
 pub feed_spec : {M : Type 1} → statement M
 feed_spec =
     tie.close
     (tie.spec
-    mul-if2
-    add-if2
-    goes-on-requires
-    returns
+    overflow_mul-bus
+    overflow_add-bus
+    goes_on-requires
+    returns-then-awaits-bus
     answers-requires
-    returns-2
-    base-width-requires
-    array-copy-out-starts
+    returns-then-awaits-ne7
+    base_width-width-requires
+    bounds-kinds-bus
     starts-requires
-    returns-3)
+    returns)

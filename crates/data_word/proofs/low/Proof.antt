@@ -6,17 +6,17 @@ use borrow.Author.Rules.{rules}
 use Rattle.data_word.proofs.low.Statement.{statement}
 use Rattle.data_word.proofs.low.Tie as tie
 
-mul-bits : tie.Need-overflow-mul-bits
-mul-bits c = omega (arith, base_small _ c.before.requires.1.0)
+overflow_mul-bits : tie.Need-overflow_mul-bits
+overflow_mul-bits c = omega (arith, base_small _ c.before.requires.1.0)
 
-add-bits : tie.Need-overflow-add-bits
-add-bits c = omega (arith, base_small _ c.before.requires.1.0)
+overflow_add-bits : tie.Need-overflow_add-bits
+overflow_add-bits c = omega (arith, base_small _ c.before.requires.1.0)
 
-mul_holds : tie.Need-overflow-mul-holds
-mul_holds c = search rules
+overflow_mul-bus : tie.Need-overflow_mul-bus
+overflow_mul-bus c = search rules
 
-add_holds : tie.Need-overflow-add-holds
-add_holds c = search rules
+overflow_add-bus : tie.Need-overflow_add-bus
+overflow_add-bus c = search rules
 
 holds-requires : tie.Need-holds-requires
 holds-requires c κs = search rules
@@ -25,4 +25,4 @@ returns : tie.Need-returns
 returns c = λ kinds. c.holds.ensures ∙ half_goes_on kinds _ _ _ (omega arith) (omega arith) _ c.before.before.requires.1.0 c.before.before.requires.0.1 c.before.before.requires.1.1
 
 pub low_spec : {M : Type 1} → statement M
-low_spec = tie.close (tie.spec mul-bits add-bits mul_holds add_holds holds-requires returns)
+low_spec = tie.close (tie.spec overflow_mul-bits overflow_add-bits overflow_mul-bus overflow_add-bus holds-requires returns)

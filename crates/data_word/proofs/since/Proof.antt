@@ -4,20 +4,20 @@ use borrow.Author.Rules.{rules}
 use Rattle.data_word.proofs.since.Statement.{statement}
 use Rattle.data_word.proofs.since.Tie as tie
 
-returns : tie.Need-returns
-returns c = since_before_its_tag _ _ _ c.before.requires (omega arith) (omega arith)
+returns-then-stage-eq5 : tie.Need-returns-then-stage-eq5
+returns-then-stage-eq5 c = since_before_its_tag _ _ _ c.before.requires (omega arith) (omega arith)
 
-returns-2 : tie.Need-returns-2
-returns-2 c = since_before_its_tag _ _ _ c.before.before.requires (omega arith) (omega arith)
+returns-then-stage-eq6 : tie.Need-returns-then-stage-eq6
+returns-then-stage-eq6 c = since_before_its_tag _ _ _ c.before.before.requires (omega arith) (omega arith)
 
-returns-3 : tie.Need-returns-3
-returns-3 c = since_its_high_syllable _ _ _ c.before.before.before.before.requires c.before.if3.true c.if4.true
+returns-then-base-ge4294967296 : tie.Need-returns-then-base-ge4294967296
+returns-then-base-ge4294967296 c = since_its_high_syllable _ _ _ c.before.before.before.before.requires c.before.if-stage-eq7.true c.if-base-ge4294967296.true
 
-returns-4 : tie.Need-returns-4
-returns-4 c = since_the_command _ _ _ c.before.before.before.before.requires c.before.if3.true c.if4.false
+returns-else-base-ge4294967296 : tie.Need-returns-else-base-ge4294967296
+returns-else-base-ge4294967296 c = since_the_command _ _ _ c.before.before.before.before.requires c.before.if-stage-eq7.true c.if-base-ge4294967296.false
 
-returns-5 : tie.Need-returns-5
-returns-5 c = since_this_word _ _ _ c.before.before.before.requires c.before.before.if1.false c.before.if2.false c.if3.false
+returns-else-stage-eq7 : tie.Need-returns-else-stage-eq7
+returns-else-stage-eq7 c = since_this_word _ _ _ c.before.before.before.requires c.before.before.if-stage-eq5.false c.before.if-stage-eq6.false c.if-stage-eq7.false
 
 pub since_spec : {M : Type 1} → statement M
-since_spec = tie.close (tie.spec returns returns-2 returns-3 returns-4 returns-5)
+since_spec = tie.close (tie.spec returns-then-stage-eq5 returns-then-stage-eq6 returns-then-base-ge4294967296 returns-else-base-ge4294967296 returns-else-stage-eq7)

@@ -9,37 +9,37 @@ use borrow.Author.Rules.{rules}
 use Rattle.from_c.proofs.are_kinds.Statement.{statement}
 use Rattle.from_c.proofs.are_kinds.Tie as tie
 
-abbrev invariant-loop : tie.invariant-loop
-invariant-loop kinds good₀ bus₀ good bus = (bus ≤ length kinds) × (are_kinds kinds ≡ (good && are_kinds (drop bus kinds)))
+abbrev invariant-loop-bus : tie.invariant-loop-bus
+invariant-loop-bus kinds good₀ bus₀ good bus = (bus ≤ length kinds) × (are_kinds kinds ≡ (good && are_kinds (drop bus kinds)))
 
-abbrev decreases-loop : tie.decreases-loop
-decreases-loop kinds good₀ bus₀ good bus = length kinds - bus
+abbrev decreases-loop-bus : tie.decreases-loop-bus
+decreases-loop-bus kinds good₀ bus₀ good bus = length kinds - bus
 
-loop-holds : tie.Need-loop-init invariant-loop decreases-loop
-loop-holds c = (omega arith, refl)
+loop-bus-init : tie.Need-loop-bus-init invariant-loop-bus decreases-loop-bus
+loop-bus-init c = (omega arith, refl)
 
-shared-slice-read-both : tie.Need-shared-slice-read-both invariant-loop decreases-loop
-shared-slice-read-both c = search rules
+bounds-kinds-bus : tie.Need-bounds-kinds-bus invariant-loop-bus decreases-loop-bus
+bounds-kinds-bus c = search rules
 
-both-requires : tie.Need-both-requires invariant-loop decreases-loop
-both-requires c κs = search rules
+both-good-requires : tie.Need-both-good-requires invariant-loop-bus decreases-loop-bus
+both-good-requires c κs = search rules
 
-add-bus : tie.Need-overflow-add-bus invariant-loop decreases-loop
-add-bus c = search rules
+overflow_add-bus : tie.Need-overflow_add-bus invariant-loop-bus decreases-loop-bus
+overflow_add-bus c = search rules
 
-loop-less : tie.Need-loop-smaller invariant-loop decreases-loop
-loop-less c = search rules
+loop-bus-smaller : tie.Need-loop-bus-smaller invariant-loop-bus decreases-loop-bus
+loop-bus-smaller c = search rules
 
-loop-again : tie.Need-loop-preserved invariant-loop decreases-loop
-loop-again c =
+loop-bus-preserved : tie.Need-loop-bus-preserved invariant-loop-bus decreases-loop-bus
+loop-bus-preserved c =
     let i = c.before.before in
-    let o = i.before.loop in
-    (omega (arith, i.loop-test.true), kinds_so_far i.before.before.before.args.kinds.now o.bus o.good i.loop-test.true o.invariant.1 c.both.ensures)
+    let o = i.before.loop-bus in
+    (omega (arith, i.loop-bus-test.true), kinds_so_far i.before.before.before.args.kinds.now o.bus o.good i.loop-bus-test.true o.invariant.1 c.both-good.ensures)
 
-returns : tie.Need-returns invariant-loop decreases-loop
+returns : tie.Need-returns invariant-loop-bus decreases-loop-bus
 returns c =
-    let o = c.before.loop in
-    kinds_all c.before.before.before.args.kinds.now o.bus o.good c.loop-test.false o.invariant.1
+    let o = c.before.loop-bus in
+    kinds_all c.before.before.before.args.kinds.now o.bus o.good c.loop-bus-test.false o.invariant.1
 
 pub are_kinds_spec : {M : Type 1} → statement M
-are_kinds_spec = tie.close (tie.spec invariant-loop decreases-loop loop-holds shared-slice-read-both both-requires add-bus loop-less loop-again returns)
+are_kinds_spec = tie.close (tie.spec invariant-loop-bus decreases-loop-bus loop-bus-init bounds-kinds-bus both-good-requires overflow_add-bus loop-bus-smaller loop-bus-preserved returns)

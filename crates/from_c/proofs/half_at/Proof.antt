@@ -3,56 +3,56 @@ use borrow.Author.Rules.{rules}
 use Rattle.from_c.proofs.half_at.Statement.{statement}
 use Rattle.from_c.proofs.half_at.Tie as tie
 
-shared-slice-read-wide : tie.Need-shared-slice-read-wide
-shared-slice-read-wide c = search rules
+bounds-bytes-at : tie.Need-bounds-bytes-at
+bounds-bytes-at c = search rules
 
-wide-requires : tie.Need-wide-requires
-wide-requires c κs = search rules
+wide-first-requires : tie.Need-wide-first-requires
+wide-first-requires c κs = search rules
 
-add_wide : tie.Need-overflow-add-wide
-add_wide c = search rules
+overflow_add-at : tie.Need-overflow_add-at
+overflow_add-at c = search rules
 
-shared-slice-read-wide-2 : tie.Need-shared-slice-read-wide-2
-shared-slice-read-wide-2 c = search rules
+bounds-bytes-at-2 : tie.Need-bounds-bytes-at-2
+bounds-bytes-at-2 c = search rules
 
-wide-requires-2 : tie.Need-wide-requires-2
-wide-requires-2 c κs = search rules
+wide-second-requires : tie.Need-wide-second-requires
+wide-second-requires c κs = search rules
 
-add-wide-2 : tie.Need-overflow-add-wide-2
-add-wide-2 c = search rules
+overflow_add-at-2 : tie.Need-overflow_add-at-2
+overflow_add-at-2 c = search rules
 
-shared-slice-read-wide-3 : tie.Need-shared-slice-read-wide-3
-shared-slice-read-wide-3 c = search rules
+bounds-bytes-at-3 : tie.Need-bounds-bytes-at-3
+bounds-bytes-at-3 c = search rules
 
-wide-requires-3 : tie.Need-wide-requires-3
-wide-requires-3 c κs = search rules
+wide-third-requires : tie.Need-wide-third-requires
+wide-third-requires c κs = search rules
 
-add-wide-3 : tie.Need-overflow-add-wide-3
-add-wide-3 c = search rules
+overflow_add-at-3 : tie.Need-overflow_add-at-3
+overflow_add-at-3 c = search rules
 
-shared-slice-read-wide-4 : tie.Need-shared-slice-read-wide-4
-shared-slice-read-wide-4 c = search rules
+bounds-bytes-at-4 : tie.Need-bounds-bytes-at-4
+bounds-bytes-at-4 c = search rules
 
-wide-requires-4 : tie.Need-wide-requires-4
-wide-requires-4 c κs = search rules
+wide-fourth-requires : tie.Need-wide-fourth-requires
+wide-fourth-requires c κs = search rules
 
-mul-result : tie.Need-overflow-mul-result
-mul-result c = search rules
+overflow_mul-result : tie.Need-overflow_mul-result
+overflow_mul-result c = search rules
 
-mul-result-2 : tie.Need-overflow-mul-result-2
-mul-result-2 c = search rules
+overflow_mul-result-2 : tie.Need-overflow_mul-result-2
+overflow_mul-result-2 c = search rules
 
-add-result : tie.Need-overflow-add-result
-add-result c = search rules
+overflow_add-result : tie.Need-overflow_add-result
+overflow_add-result c = search rules
 
-mul-result-3 : tie.Need-overflow-mul-result-3
-mul-result-3 c = search rules
+overflow_mul-result-3 : tie.Need-overflow_mul-result-3
+overflow_mul-result-3 c = search rules
 
-add-result-2 : tie.Need-overflow-add-result-2
-add-result-2 c = search rules
+overflow_add-result-2 : tie.Need-overflow_add-result-2
+overflow_add-result-2 c = search rules
 
-add-result-3 : tie.Need-overflow-add-result-3
-add-result-3 c = search rules
+overflow_add-result-3 : tie.Need-overflow_add-result-3
+overflow_add-result-3 c = search rules
 
 returns : tie.Need-returns
 unfolding half_at
@@ -62,21 +62,21 @@ pub half_at_spec : {M : Type 1} → statement M
 half_at_spec =
     tie.close
     (tie.spec
-    shared-slice-read-wide
-    wide-requires
-    add_wide
-    shared-slice-read-wide-2
-    wide-requires-2
-    add-wide-2
-    shared-slice-read-wide-3
-    wide-requires-3
-    add-wide-3
-    shared-slice-read-wide-4
-    wide-requires-4
-    mul-result
-    mul-result-2
-    add-result
-    mul-result-3
-    add-result-2
-    add-result-3
+    bounds-bytes-at
+    wide-first-requires
+    overflow_add-at
+    bounds-bytes-at-2
+    wide-second-requires
+    overflow_add-at-2
+    bounds-bytes-at-3
+    wide-third-requires
+    overflow_add-at-3
+    bounds-bytes-at-4
+    wide-fourth-requires
+    overflow_mul-result
+    overflow_mul-result-2
+    overflow_add-result
+    overflow_mul-result-3
+    overflow_add-result-2
+    overflow_add-result-3
     returns)

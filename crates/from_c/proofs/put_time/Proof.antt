@@ -6,56 +6,56 @@ use borrow.Author.Rules.{rules}
 use Rattle.from_c.proofs.put_time.Statement.{statement}
 use Rattle.from_c.proofs.put_time.Tie as tie
 
-cast-bytes : tie.Need-overflow-cast-bytes
-cast-bytes c = search rules
+overflow_cast-bytes : tie.Need-overflow_cast-bytes
+overflow_cast-bytes c = search rules
 
-slice-write-bytes : tie.Need-slice-write-bytes
-slice-write-bytes c = search rules
+bounds-bytes-0 : tie.Need-bounds-bytes-0
+bounds-bytes-0 c = search rules
 
-cast-bytes-2 : tie.Need-overflow-cast-bytes-2
-cast-bytes-2 c = search rules
+overflow_cast-bytes-2 : tie.Need-overflow_cast-bytes-2
+overflow_cast-bytes-2 c = search rules
 
-slice-write-bytes-2 : tie.Need-slice-write-bytes-2
-slice-write-bytes-2 c = simp length-set (omega arith)
+bounds-bytes-1 : tie.Need-bounds-bytes-1
+bounds-bytes-1 c = simp length-set (omega arith)
 
-cast-bytes-3 : tie.Need-overflow-cast-bytes-3
-cast-bytes-3 c = search rules
+overflow_cast-bytes-3 : tie.Need-overflow_cast-bytes-3
+overflow_cast-bytes-3 c = search rules
 
-slice-write-bytes-3 : tie.Need-slice-write-bytes-3
-slice-write-bytes-3 c = simp length-set (omega arith)
+bounds-bytes-2 : tie.Need-bounds-bytes-2
+bounds-bytes-2 c = simp length-set (omega arith)
 
-cast-bytes-4 : tie.Need-overflow-cast-bytes-4
-cast-bytes-4 c = search rules
+overflow_cast-bytes-4 : tie.Need-overflow_cast-bytes-4
+overflow_cast-bytes-4 c = search rules
 
-slice-write-bytes-4 : tie.Need-slice-write-bytes-4
-slice-write-bytes-4 c = simp length-set (omega arith)
+bounds-bytes-3 : tie.Need-bounds-bytes-3
+bounds-bytes-3 c = simp length-set (omega arith)
 
-cast-bytes-5 : tie.Need-overflow-cast-bytes-5
-cast-bytes-5 c = search rules
+overflow_cast-bytes-5 : tie.Need-overflow_cast-bytes-5
+overflow_cast-bytes-5 c = search rules
 
-slice-write-bytes-5 : tie.Need-slice-write-bytes-5
-slice-write-bytes-5 c = simp length-set (omega arith)
+bounds-bytes-4 : tie.Need-bounds-bytes-4
+bounds-bytes-4 c = simp length-set (omega arith)
 
-cast-bytes-6 : tie.Need-overflow-cast-bytes-6
-cast-bytes-6 c = search rules
+overflow_cast-bytes-6 : tie.Need-overflow_cast-bytes-6
+overflow_cast-bytes-6 c = search rules
 
-slice-write-bytes-6 : tie.Need-slice-write-bytes-6
-slice-write-bytes-6 c = simp length-set (omega arith)
+bounds-bytes-5 : tie.Need-bounds-bytes-5
+bounds-bytes-5 c = simp length-set (omega arith)
 
-cast-bytes-7 : tie.Need-overflow-cast-bytes-7
-cast-bytes-7 c = search rules
+overflow_cast-bytes-7 : tie.Need-overflow_cast-bytes-7
+overflow_cast-bytes-7 c = search rules
 
-slice-write-bytes-7 : tie.Need-slice-write-bytes-7
-slice-write-bytes-7 c = simp length-set (omega arith)
+bounds-bytes-6 : tie.Need-bounds-bytes-6
+bounds-bytes-6 c = simp length-set (omega arith)
 
-cast-bytes-8 : tie.Need-overflow-cast-bytes-8
-cast-bytes-8 c = search rules
+overflow_cast-bytes-8 : tie.Need-overflow_cast-bytes-8
+overflow_cast-bytes-8 c = search rules
 
-slice-write-bytes-8 : tie.Need-slice-write-bytes-8
-slice-write-bytes-8 c = simp length-set (omega arith)
+bounds-bytes-7 : tie.Need-bounds-bytes-7
+bounds-bytes-7 c = simp length-set (omega arith)
 
-same_length : tie.Need-same-length
-same_length c = search rules
+shape_of-bytes : tie.Need-shape_of-bytes
+shape_of-bytes c = search rules
 
 returns : tie.Need-returns
 unfolding time_bytes
@@ -65,21 +65,21 @@ pub put_time_spec : {M : Type 1} → statement M
 put_time_spec =
     tie.close
     (tie.spec
-    cast-bytes
-    slice-write-bytes
-    cast-bytes-2
-    slice-write-bytes-2
-    cast-bytes-3
-    slice-write-bytes-3
-    cast-bytes-4
-    slice-write-bytes-4
-    cast-bytes-5
-    slice-write-bytes-5
-    cast-bytes-6
-    slice-write-bytes-6
-    cast-bytes-7
-    slice-write-bytes-7
-    cast-bytes-8
-    slice-write-bytes-8
-    same_length
+    overflow_cast-bytes
+    bounds-bytes-0
+    overflow_cast-bytes-2
+    bounds-bytes-1
+    overflow_cast-bytes-3
+    bounds-bytes-2
+    overflow_cast-bytes-4
+    bounds-bytes-3
+    overflow_cast-bytes-5
+    bounds-bytes-4
+    overflow_cast-bytes-6
+    bounds-bytes-5
+    overflow_cast-bytes-7
+    bounds-bytes-6
+    overflow_cast-bytes-8
+    bounds-bytes-7
+    shape_of-bytes
     returns)

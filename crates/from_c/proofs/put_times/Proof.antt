@@ -12,82 +12,82 @@ use borrow.Author.Rules.{rules}
 use Rattle.from_c.proofs.put_times.Statement.{statement}
 use Rattle.from_c.proofs.put_times.Tie as tie
 
-abbrev invariant-loop : tie.invariant-loop
-invariant-loop row number bytes₀ index₀ bytes index = (index ≤ number) × (number ≤ length row) × (8 * number ≤ length bytes₀) × Front (flat_map time_bytes (take index row)) bytes₀ bytes (8 * index)
+abbrev invariant-loop-index : tie.invariant-loop-index
+invariant-loop-index row number bytes₀ index₀ bytes index = (index ≤ number) × (number ≤ length row) × (8 * number ≤ length bytes₀) × Front (flat_map time_bytes (take index row)) bytes₀ bytes (8 * index)
 
-abbrev decreases-loop : tie.decreases-loop
-decreases-loop row number bytes₀ index₀ bytes index = number - index
+abbrev decreases-loop-index : tie.decreases-loop-index
+decreases-loop-index row number bytes₀ index₀ bytes index = number - index
 
-loop-holds : tie.Need-loop-init invariant-loop decreases-loop
+loop-index-init : tie.Need-loop-index-init invariant-loop-index decreases-loop-index
 unfolding flat_map
-loop-holds c = (omega arith, c.before.before.requires.0, c.before.before.requires.1, front_none _)
+loop-index-init c = (omega arith, c.before.before.requires.0, c.before.before.requires.1, front_none _)
 
-mul-start : tie.Need-overflow-mul-start invariant-loop decreases-loop
-mul-start c = search rules
+overflow_mul-start : tie.Need-overflow_mul-start invariant-loop-index decreases-loop-index
+overflow_mul-start c = search rules
 
-add-end : tie.Need-overflow-add-end invariant-loop decreases-loop
-add-end c = search rules
+overflow_add-end : tie.Need-overflow_add-end invariant-loop-index decreases-loop-index
+overflow_add-end c = search rules
 
-mul-put-time : tie.Need-overflow-mul-put-time invariant-loop decreases-loop
-mul-put-time c = search rules
+offset_bounds-row-index : tie.Need-offset_bounds-row-index invariant-loop-index decreases-loop-index
+offset_bounds-row-index c = search rules
 
-shared-slice-read-put-time : tie.Need-shared-slice-read-put-time invariant-loop decreases-loop
-shared-slice-read-put-time c = search rules
+bounds-row-index : tie.Need-bounds-row-index invariant-loop-index decreases-loop-index
+bounds-row-index c = search rules
 
-sub-put-time : tie.Need-overflow-sub-put-time invariant-loop decreases-loop
-sub-put-time c = search rules
+slice_bounds-put_time-count : tie.Need-slice_bounds-put_time-count invariant-loop-index decreases-loop-index
+slice_bounds-put_time-count c = search rules
 
-part-put-time-start : tie.Need-slice-bounds-put-time-start invariant-loop decreases-loop
-part-put-time-start c = search rules
+slice_bounds-put_time-start : tie.Need-slice_bounds-put_time-start invariant-loop-index decreases-loop-index
+slice_bounds-put_time-start c = search rules
 
-part-put-time-end : tie.Need-slice-bounds-put-time-end invariant-loop decreases-loop
-part-put-time-end c = omega (arith, front_long c.before.before.loop.invariant.3)
+slice_bounds-put_time-end : tie.Need-slice_bounds-put_time-end invariant-loop-index decreases-loop-index
+slice_bounds-put_time-end c = omega (arith, front_long c.before.before.loop-index.invariant.3)
 
-put-time-requires : tie.Need-put-time-requires invariant-loop decreases-loop
-put-time-requires c κs =
-    let o = c.before.before.before.loop in
+put_time-requires : tie.Need-put_time-requires invariant-loop-index decreases-loop-index
+put_time-requires c κs =
+    let o = c.before.before.before.loop-index in
     let e : 8 * o.index + 8 - 8 * o.index ≡ 8 = omega arith in
-    rw e (length-take-le 8 (drop (8 * o.index) o.bytes) (simp length-drop (omega (arith, front_long o.invariant.3))))
+    rw e (length-take-le 8 (drop (8 * o.index) o.bytes-1) (simp length-drop (omega (arith, front_long o.invariant.3))))
 
-add-index : tie.Need-overflow-add-index invariant-loop decreases-loop
-add-index c = search rules
+overflow_add-index : tie.Need-overflow_add-index invariant-loop-index decreases-loop-index
+overflow_add-index c = search rules
 
-loop-less : tie.Need-loop-smaller invariant-loop decreases-loop
-loop-less c = search rules
+loop-index-smaller : tie.Need-loop-index-smaller invariant-loop-index decreases-loop-index
+loop-index-smaller c = search rules
 
-loop-again : tie.Need-loop-preserved invariant-loop decreases-loop
-loop-again c =
-    let o = c.before.before.before.before.before.before.loop in
+loop-index-preserved : tie.Need-loop-index-preserved invariant-loop-index decreases-loop-index
+loop-index-preserved c =
+    let o = c.before.before.before.before.before.before.loop-index in
     let a = c.before.before.before.before.before.before.before.before.before.args in
-    (search rules, o.invariant.1, o.invariant.2, times_more a.row.now o.index (8 * o.index + 8 - 8 * o.index) o.invariant.3 (omega arith) (omega arith) (omega arith) c.before.before.put-time.ensures)
+    (search rules, o.invariant.1, o.invariant.2, times_more a.row.now o.index (8 * o.index + 8 - 8 * o.index) o.invariant.3 (omega arith) (omega arith) (omega arith) c.before.before.put_time.ensures)
 
-same_length : tie.Need-same-length invariant-loop decreases-loop
-same_length c = front_long c.before.loop.invariant.3
+shape_of-bytes : tie.Need-shape_of-bytes invariant-loop-index decreases-loop-index
+shape_of-bytes c = front_long c.before.loop-index.invariant.3
 
-returns : tie.Need-returns invariant-loop decreases-loop
+returns : tie.Need-returns invariant-loop-index decreases-loop-index
 returns c =
-    let o = c.before.loop in
+    let o = c.before.loop-index in
     let a = c.before.before.before.before.args in
     let e : o.index ≡ a.number = omega arith in
-    front_over o.invariant.3 ∙ ap (λ (k : ℕ). over (flat_map time_bytes (take k a.row.now)) a.bytes.now) e
+    front_over o.invariant.3 ∙ ap (λ (k : ℕ). over (flat_map time_bytes (take k a.row.now)) a.bytes-1.now) e
 
 pub put_times_spec : {M : Type 1} → statement M
 put_times_spec =
     tie.close
     (tie.spec
-    invariant-loop
-    decreases-loop
-    loop-holds
-    mul-start
-    add-end
-    mul-put-time
-    shared-slice-read-put-time
-    sub-put-time
-    part-put-time-start
-    part-put-time-end
-    put-time-requires
-    add-index
-    loop-less
-    loop-again
-    same_length
+    invariant-loop-index
+    decreases-loop-index
+    loop-index-init
+    overflow_mul-start
+    overflow_add-end
+    offset_bounds-row-index
+    bounds-row-index
+    slice_bounds-put_time-count
+    slice_bounds-put_time-start
+    slice_bounds-put_time-end
+    put_time-requires
+    overflow_add-index
+    loop-index-smaller
+    loop-index-preserved
+    shape_of-bytes
     returns)

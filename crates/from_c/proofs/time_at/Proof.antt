@@ -3,40 +3,40 @@ use borrow.Author.Rules.{rules}
 use Rattle.from_c.proofs.time_at.Statement.{statement}
 use Rattle.from_c.proofs.time_at.Tie as tie
 
-half-at-requires : tie.Need-half-at-requires
-half-at-requires c κs = search rules
+half_at-requires : tie.Need-half_at-requires
+half_at-requires c κs = search rules
 
-cast-result : tie.Need-overflow-cast-result
-cast-result c = search rules
+overflow_cast-result : tie.Need-overflow_cast-result
+overflow_cast-result c = search rules
 
-mul-result : tie.Need-overflow-mul-result
-mul-result c = search rules
+overflow_mul-result : tie.Need-overflow_mul-result
+overflow_mul-result c = search rules
 
-add-half-at : tie.Need-overflow-add-half-at
-add-half-at c = search rules
+overflow_add-at : tie.Need-overflow_add-at
+overflow_add-at c = search rules
 
-half-at-requires-2 : tie.Need-half-at-requires-2
-half-at-requires-2 c κs = search rules
+half_at-requires-2 : tie.Need-half_at-requires-2
+half_at-requires-2 c κs = search rules
 
-cast-result-2 : tie.Need-overflow-cast-result-2
-cast-result-2 c = search rules
+overflow_cast-result-2 : tie.Need-overflow_cast-result-2
+overflow_cast-result-2 c = search rules
 
-add-result : tie.Need-overflow-add-result
-add-result c = search rules
+overflow_add-result : tie.Need-overflow_add-result
+overflow_add-result c = search rules
 
 returns : tie.Need-returns
 unfolding time_at
-returns c = rw (c.before.half_at.ensures, c.half-at2.ensures)
+returns c = rw (c.before.half_at.ensures, c.half_at-2.ensures)
 
 pub time_at_spec : {M : Type 1} → statement M
 time_at_spec =
     tie.close
     (tie.spec
-    half-at-requires
-    cast-result
-    mul-result
-    add-half-at
-    half-at-requires-2
-    cast-result-2
-    add-result
+    half_at-requires
+    overflow_cast-result
+    overflow_mul-result
+    overflow_add-at
+    half_at-requires-2
+    overflow_cast-result-2
+    overflow_add-result
     returns)

@@ -12,43 +12,43 @@ use borrow.Author.Rules.{rules}
 use Rattle.from_c.proofs.times_from.Statement.{statement}
 use Rattle.from_c.proofs.times_from.Tie as tie
 
-abbrev invariant-loop : tie.invariant-loop
-invariant-loop bytes row₀ number index₀ row index = (index ≤ number) × (number ≡ length bytes / 8) × (length bytes ≤ 8 * length row₀) × Front (list (λ k. time_at bytes (8 * k)) 0 index) row₀ row index
+abbrev invariant-loop-index : tie.invariant-loop-index
+invariant-loop-index bytes row₀ number index₀ row index = (index ≤ number) × (number ≡ length bytes / 8) × (length bytes ≤ 8 * length row₀) × Front (list (λ k. time_at bytes (8 * k)) 0 index) row₀ row index
 
-abbrev decreases-loop : tie.decreases-loop
-decreases-loop bytes row₀ number index₀ row index = number - index
+abbrev decreases-loop-index : tie.decreases-loop-index
+decreases-loop-index bytes row₀ number index₀ row index = number - index
 
-loop-holds : tie.Need-loop-init invariant-loop decreases-loop
+loop-index-init : tie.Need-loop-index-init invariant-loop-index decreases-loop-index
 unfolding list
-loop-holds c = (omega arith, refl, c.before.before.requires, front_none _)
+loop-index-init c = (omega arith, refl, c.before.before.requires, front_none _)
 
-mul-time-at : tie.Need-overflow-mul-time-at invariant-loop decreases-loop
-mul-time-at c = search rules
+overflow_mul-index : tie.Need-overflow_mul-index invariant-loop-index decreases-loop-index
+overflow_mul-index c = search rules
 
-time-at-requires : tie.Need-time-at-requires invariant-loop decreases-loop
-time-at-requires c κs = search rules
+time_at-requires : tie.Need-time_at-requires invariant-loop-index decreases-loop-index
+time_at-requires c κs = search rules
 
-mul-row : tie.Need-overflow-mul-row invariant-loop decreases-loop
-mul-row c = search rules
+offset_bounds-row-index : tie.Need-offset_bounds-row-index invariant-loop-index decreases-loop-index
+offset_bounds-row-index c = search rules
 
-slice-write-row : tie.Need-slice-write-row invariant-loop decreases-loop
-slice-write-row c = omega (arith, front_long c.before.before.loop.invariant.3)
+bounds-row-index : tie.Need-bounds-row-index invariant-loop-index decreases-loop-index
+bounds-row-index c = omega (arith, front_long c.before.before.loop-index.invariant.3)
 
-add-index : tie.Need-overflow-add-index invariant-loop decreases-loop
-add-index c = search rules
+overflow_add-index : tie.Need-overflow_add-index invariant-loop-index decreases-loop-index
+overflow_add-index c = search rules
 
-loop-less : tie.Need-loop-smaller invariant-loop decreases-loop
-loop-less c = search rules
+loop-index-smaller : tie.Need-loop-index-smaller invariant-loop-index decreases-loop-index
+loop-index-smaller c = search rules
 
-loop-again : tie.Need-loop-preserved invariant-loop decreases-loop
-loop-again c = let o = c.before.before.loop in (omega arith, o.invariant.1, o.invariant.2, rw (list_more (λ k. time_at c.before.before.before.before.before.args.bytes.now (8 * k)) o.index, c.time_at.ensures) (front_more _ o.invariant.3 (omega arith)))
+loop-index-preserved : tie.Need-loop-index-preserved invariant-loop-index decreases-loop-index
+loop-index-preserved c = let o = c.before.before.loop-index in (omega arith, o.invariant.1, o.invariant.2, rw (list_more (λ k. time_at c.before.before.before.before.before.args.bytes.now (8 * k)) o.index, c.time_at.ensures) (front_more _ o.invariant.3 (omega arith)))
 
-same_length : tie.Need-same-length invariant-loop decreases-loop
-same_length c = front_long c.before.loop.invariant.3
+shape_of-row : tie.Need-shape_of-row invariant-loop-index decreases-loop-index
+shape_of-row c = front_long c.before.loop-index.invariant.3
 
-returns : tie.Need-returns invariant-loop decreases-loop
+returns : tie.Need-returns invariant-loop-index decreases-loop-index
 returns c =
-    let o = c.before.loop in
+    let o = c.before.loop-index in
     let a = c.before.before.before.before.args in
     let e : o.index ≡ length a.bytes.now / 8 = omega arith in
     front_over o.invariant.3 ∙ ap (λ (k : ℕ). over (list (λ j. time_at a.bytes.now (8 * j)) 0 k) a.row.now) e
@@ -57,15 +57,15 @@ pub times_from_spec : {M : Type 1} → statement M
 times_from_spec =
     tie.close
     (tie.spec
-    invariant-loop
-    decreases-loop
-    loop-holds
-    mul-time-at
-    time-at-requires
-    mul-row
-    slice-write-row
-    add-index
-    loop-less
-    loop-again
-    same_length
+    invariant-loop-index
+    decreases-loop-index
+    loop-index-init
+    overflow_mul-index
+    time_at-requires
+    offset_bounds-row-index
+    bounds-row-index
+    overflow_add-index
+    loop-index-smaller
+    loop-index-preserved
+    shape_of-row
     returns)

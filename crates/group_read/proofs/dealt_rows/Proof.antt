@@ -4,19 +4,19 @@ use borrow.Author.Rules.{rules}
 use Rattle.group_read.proofs.dealt_rows.Statement.{statement}
 use Rattle.group_read.proofs.dealt_rows.Tie as tie
 
-sub-result : tie.Need-overflow-sub-result
-sub-result c = search rules
+overflow_sub-result : tie.Need-overflow_sub-result
+overflow_sub-result c = search rules
 
-sub-result-2 : tie.Need-overflow-sub-result-2
-sub-result-2 c = search rules
+overflow_sub-result-else-plan : tie.Need-overflow_sub-result-else-plan
+overflow_sub-result-else-plan c = search rules
 
-returns : tie.Need-returns
+returns-then-plan : tie.Need-returns-then-plan
 unfolding rows
-returns c = rw c.before.if1.true (omega arith)
+returns-then-plan c = rw c.before.if-plan.true (omega arith)
 
-returns-2 : tie.Need-returns-2
+returns-else-plan : tie.Need-returns-else-plan
 unfolding rows
-returns-2 c = rw c.before.if1.false (omega arith)
+returns-else-plan c = rw c.before.if-plan.false (omega arith)
 
 pub dealt_rows_spec : {M : Type 1} → statement M
-dealt_rows_spec = tie.close (tie.spec sub-result sub-result-2 returns returns-2)
+dealt_rows_spec = tie.close (tie.spec overflow_sub-result overflow_sub-result-else-plan returns-then-plan returns-else-plan)

@@ -2,11 +2,11 @@ use borrow.Author.Tests.{eq-eqb, ne_eqb}
 use Rattle.group_read.proofs.earlier.Statement.{statement}
 use Rattle.group_read.proofs.earlier.Tie as tie
 
-returns : tie.Need-returns
-returns c = simp (eq-eqb _ _ c.if1.true)
+returns-then-first-eq0 : tie.Need-returns-then-first-eq0
+returns-then-first-eq0 c = simp (eq-eqb _ _ c.if-first-eq0.true)
 
-returns-2 : tie.Need-returns-2
-returns-2 c = simp (ne_eqb _ _ c.if1.false)
+returns-else-first-eq0 : tie.Need-returns-else-first-eq0
+returns-else-first-eq0 c = simp (ne_eqb _ _ c.if-first-eq0.false)
 
 pub earlier_spec : {M : Type 1} → statement M
-earlier_spec = tie.close (tie.spec returns returns-2)
+earlier_spec = tie.close (tie.spec returns-then-first-eq0 returns-else-first-eq0)

@@ -4,34 +4,34 @@ use borrow.Author.Rules.{rules}
 use Rattle.group_read.proofs.is_time_word.Statement.{statement}
 use Rattle.group_read.proofs.is_time_word.Tie as tie
 
-bus-of-requires : tie.Need-bus-of-requires
-bus-of-requires c κs = search rules
+bus_of-requires : tie.Need-bus_of-requires
+bus_of-requires c κs = search rules
+
+returns-then-bus_of-ne0 : tie.Need-returns-then-bus_of-ne0
+unfolding is_time_word
+returns-then-bus_of-ne0 c = rw (← c.before.bus_of.ensures, ne_eqb _ _ c.if-bus_of-ne0.true)
+
+label_of-requires : tie.Need-label_of-requires
+label_of-requires c κs = search rules
+
+returns-then-label_of-label : tie.Need-returns-then-label_of-label
+unfolding is_time_word
+returns-then-label_of-label c = rw (← c.before.before.before.bus_of.ensures, eq-eqb _ _ c.before.before.if-bus_of-ne0.false, ← c.before.label_of.ensures, ne_eqb _ _ c.if-label_of-label.true)
+
+information_of-requires : tie.Need-information_of-requires
+information_of-requires c κs = search rules
 
 returns : tie.Need-returns
 unfolding is_time_word
-returns c = rw (← c.before.bus-of.ensures, ne_eqb _ _ c.if1.true)
-
-label-of-requires : tie.Need-label-of-requires
-label-of-requires c κs = search rules
-
-returns-2 : tie.Need-returns-2
-unfolding is_time_word
-returns-2 c = rw (← c.before.before.before.bus-of.ensures, eq-eqb _ _ c.before.before.if1.false, ← c.before.label_of.ensures, ne_eqb _ _ c.if2.true)
-
-information-of-requires : tie.Need-information-of-requires
-information-of-requires c κs = search rules
-
-returns-3 : tie.Need-returns-3
-unfolding is_time_word
-returns-3 c = rw (← c.before.before.before.before.bus-of.ensures, eq-eqb _ _ c.before.before.before.if1.false, ← c.before.before.label_of.ensures, eq-eqb _ _ c.before.if2.false, ← c.information-of.ensures)
+returns c = rw (← c.before.before.before.before.bus_of.ensures, eq-eqb _ _ c.before.before.before.if-bus_of-ne0.false, ← c.before.before.label_of.ensures, eq-eqb _ _ c.before.if-label_of-label.false, ← c.information_of.ensures)
 
 pub is_time_word_spec : {M : Type 1} → statement M
 is_time_word_spec =
     tie.close
     (tie.spec
-    bus-of-requires
-    returns
-    label-of-requires
-    returns-2
-    information-of-requires
-    returns-3)
+    bus_of-requires
+    returns-then-bus_of-ne0
+    label_of-requires
+    returns-then-label_of-label
+    information_of-requires
+    returns)

@@ -3,13 +3,13 @@ use Rattle.format.specs.Plan.{lead}
 use Rattle.group_read.proofs.lead.Statement.{statement}
 use Rattle.group_read.proofs.lead.Tie as tie
 
-returns : tie.Need-returns
+returns-then-plan : tie.Need-returns-then-plan
 unfolding lead
-returns c = search rules
+returns-then-plan c = search rules
 
-returns-2 : tie.Need-returns-2
+returns-else-plan : tie.Need-returns-else-plan
 unfolding lead
-returns-2 c = search rules
+returns-else-plan c = search rules
 
 pub lead_spec : {M : Type 1} → statement M
-lead_spec = tie.close (tie.spec returns returns-2)
+lead_spec = tie.close (tie.spec returns-then-plan returns-else-plan)

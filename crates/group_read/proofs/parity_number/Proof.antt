@@ -2,17 +2,17 @@ use borrow.Author.Rules.{rules}
 use Rattle.group_read.proofs.parity_number.Statement.{statement}
 use Rattle.group_read.proofs.parity_number.Tie as tie
 
-is-odd-requires : tie.Need-is-odd-requires
-is-odd-requires c κs = search rules
+is_odd-requires : tie.Need-is_odd-requires
+is_odd-requires c κs = search rules
 
-returns : tie.Need-returns
-returns c = rw (c.before.before.if1.true, ← c.before.is_odd.ensures, c.if2.true)
+returns-then-is_odd : tie.Need-returns-then-is_odd
+returns-then-is_odd c = rw (c.before.before.if-parity.true, ← c.before.is_odd.ensures, c.if-is_odd.true)
 
-returns-2 : tie.Need-returns-2
-returns-2 c = rw (c.before.before.if1.true, ← c.before.is_odd.ensures, c.if2.false)
+returns-else-is_odd : tie.Need-returns-else-is_odd
+returns-else-is_odd c = rw (c.before.before.if-parity.true, ← c.before.is_odd.ensures, c.if-is_odd.false)
 
-returns-3 : tie.Need-returns-3
-returns-3 c = rw c.if1.false
+returns-else-parity : tie.Need-returns-else-parity
+returns-else-parity c = rw c.if-parity.false
 
 pub parity_number_spec : {M : Type 1} → statement M
-parity_number_spec = tie.close (tie.spec is-odd-requires returns returns-2 returns-3)
+parity_number_spec = tie.close (tie.spec is_odd-requires returns-then-is_odd returns-else-is_odd returns-else-parity)

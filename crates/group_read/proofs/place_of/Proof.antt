@@ -26,8 +26,8 @@ remainder-requires c κs = narrow c
 before : (c : tie.After-remainder) → c.remainder.result * c.before.args.plan.words ≡ c.before.args.dealt % c.before.args.plan.tracks * c.before.args.plan.words
 before c = ap (λ (k : ℕ). k * c.before.args.plan.words) c.remainder.ensures
 
-mul-result : tie.Need-overflow-mul-result
-mul-result c = let s = c.before.before in omega (arith, before c.before, low s, group_most s.args.plan s.requires.0)
+overflow_mul-result : tie.Need-overflow_mul-result
+overflow_mul-result c = let s = c.before.before in omega (arith, before c.before, low s, group_most s.args.plan s.requires.0)
 
 quotient-requires : tie.Need-quotient-requires
 quotient-requires c κs = narrow c.before.before
@@ -35,15 +35,15 @@ quotient-requires c κs = narrow c.before.before
 is_place : (c : tie.After-quotient) → c.before.before.remainder.result * c.before.before.before.args.plan.words + c.quotient.result + 1 ≡ place c.before.before.before
 is_place c = ap₂ (λ (a b : ℕ). a + b + 1) (before c.before.before) c.quotient.ensures
 
-add-result : tie.Need-overflow-add-result
-add-result c = let s = c.before.before.before in omega (arith, is_place c, low s, group_most s.args.plan s.requires.0)
+overflow_add-result : tie.Need-overflow_add-result
+overflow_add-result c = let s = c.before.before.before in omega (arith, is_place c, low s, group_most s.args.plan s.requires.0)
 
-add-result-2 : tie.Need-overflow-add-result-2
-add-result-2 c = let s = c.before.before.before in omega (arith, is_place c, low s, group_most s.args.plan s.requires.0)
+overflow_add-result-2 : tie.Need-overflow_add-result-2
+overflow_add-result-2 c = let s = c.before.before.before in omega (arith, is_place c, low s, group_most s.args.plan s.requires.0)
 
 returns : tie.Need-returns
 unfolding place_of
 returns c = let s = c.before.before.before in (is_place c, omega (arith, is_place c, low s))
 
 pub place_of_spec : {M : Type 1} → statement M
-place_of_spec = tie.close (tie.spec remainder-requires mul-result quotient-requires add-result add-result-2 returns)
+place_of_spec = tie.close (tie.spec remainder-requires overflow_mul-result quotient-requires overflow_add-result overflow_add-result-2 returns)

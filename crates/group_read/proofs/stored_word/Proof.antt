@@ -4,14 +4,14 @@ use borrow.Author.Rules.{rules}
 use Rattle.group_read.proofs.stored_word.Statement.{statement}
 use Rattle.group_read.proofs.stored_word.Tie as tie
 
-mul-word-at : tie.Need-overflow-mul-word-at
-mul-word-at c = search rules
+overflow_mul-place : tie.Need-overflow_mul-place
+overflow_mul-place c = search rules
 
-word-at-requires : tie.Need-word-at-requires
-word-at-requires c κs = search rules
+word_at-requires : tie.Need-word_at-requires
+word_at-requires c κs = search rules
 
 returns : tie.Need-returns
 returns c = (c.word_at.ensures.0 ∙ sym (word_at_is_three _ _), c.word_at.ensures.1)
 
 pub stored_word_spec : {M : Type 1} → statement M
-stored_word_spec = tie.close (tie.spec mul-word-at word-at-requires returns)
+stored_word_spec = tie.close (tie.spec overflow_mul-place word_at-requires returns)

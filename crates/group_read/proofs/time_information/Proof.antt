@@ -10,26 +10,26 @@ use Rattle.group_read.proofs.Places.{place_room}
 use Rattle.group_read.proofs.time_information.Statement.{statement}
 use Rattle.group_read.proofs.time_information.Tie as tie
 
-place-of-requires : tie.Need-place-of-requires
-place-of-requires c κs = let s = c.before in (s.requires.0, omega (arith, room s.args.plan s.requires.0, s.requires.2))
+place_of-requires : tie.Need-place_of-requires
+place_of-requires c κs = let s = c.before in (s.requires.0, omega (arith, room s.args.plan s.requires.0, s.requires.2))
 
-stored-word-requires : tie.Need-stored-word-requires
-stored-word-requires c κs = let s = c.before.before in place_room s.args.plan s.requires.0 _ s.requires.1 c.place_of.ensures.1
+stored_word-requires : tie.Need-stored_word-requires
+stored_word-requires c κs = let s = c.before.before in place_room s.args.plan s.requires.0 _ s.requires.1 c.place_of.ensures.1
 
-information-of-requires : tie.Need-information-of-requires
-information-of-requires c κs = search rules
+information_of-requires : tie.Need-information_of-requires
+information_of-requires c κs = search rules
 
-cast-result : tie.Need-overflow-cast-result
-cast-result c = omega (arith, c.information-of.ensures, info_low c.before.stored-word.result)
+overflow_cast-result : tie.Need-overflow_cast-result
+overflow_cast-result c = omega (arith, c.information_of.ensures, info_low c.before.stored_word.result)
 
 returns : tie.Need-returns
 returns c =
     let placed = c.before.before in
     let s = placed.before.before in
     let e : placed.place_of.result ≡ 0 + place_of s.args.plan s.args.dealt = omega (arith, placed.place_of.ensures.0) in
-    c.information-of.ensures ∙ ap info_of (c.before.stored-word.ensures.0 ∙ ap (word_at s.args.group.now) e)
+    c.information_of.ensures ∙ ap info_of (c.before.stored_word.ensures.0 ∙ ap (word_at s.args.group.now) e)
 
 pub time_information_spec : {M : Type 1} → statement M
 time_information_spec =
     tie.close
-    (tie.spec place-of-requires stored-word-requires information-of-requires cast-result returns)
+    (tie.spec place_of-requires stored_word-requires information_of-requires overflow_cast-result returns)

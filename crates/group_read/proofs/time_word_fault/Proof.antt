@@ -3,22 +3,22 @@ use borrow.Author.Rules.{rules}
 use Rattle.group_read.proofs.time_word_fault.Statement.{statement}
 use Rattle.group_read.proofs.time_word_fault.Tie as tie
 
-stored-word-requires : tie.Need-stored-word-requires
-stored-word-requires c κs = search rules
+stored_word-requires : tie.Need-stored_word-requires
+stored_word-requires c κs = search rules
 
-is-time-word-requires : tie.Need-is-time-word-requires
-is-time-word-requires c κs = search rules
+is_time_word-requires : tie.Need-is_time_word-requires
+is_time_word-requires c κs = search rules
 
-no-fault-requires : tie.Need-no-fault-requires
-no-fault-requires c κs = search rules
+no_fault-requires : tie.Need-no_fault-requires
+no_fault-requires c κs = search rules
+
+returns-then-is_time_word : tie.Need-returns-then-is_time_word
+returns-then-is_time_word c = c.no_fault.ensures ∙ rw (← c.before.before.before.stored_word.ensures.0, ← c.before.before.is_time_word.ensures, c.before.if-is_time_word.true)
 
 returns : tie.Need-returns
-returns c = c.no_fault.ensures ∙ rw (← c.before.before.before.stored-word.ensures.0, ← c.before.before.is-time-word.ensures, c.before.if1.true)
-
-returns-2 : tie.Need-returns-2
-returns-2 c = rw (← c.before.before.stored-word.ensures.0, ← c.before.is-time-word.ensures, c.if1.false)
+returns c = rw (← c.before.before.stored_word.ensures.0, ← c.before.is_time_word.ensures, c.if-is_time_word.false)
 
 pub time_word_fault_spec : {M : Type 1} → statement M
 time_word_fault_spec =
     tie.close
-    (tie.spec stored-word-requires is-time-word-requires no-fault-requires returns returns-2)
+    (tie.spec stored_word-requires is_time_word-requires no_fault-requires returns-then-is_time_word returns)

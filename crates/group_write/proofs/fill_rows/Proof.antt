@@ -8,38 +8,38 @@ use Rattle.group_write.proofs.Runs.{written_rows, written_row}
 use Rattle.group_write.proofs.fill_rows.Statement.{statement}
 use Rattle.group_write.proofs.fill_rows.Tie as tie
 
-abbrev invariant-loop : tie.invariant-loop
-invariant-loop out₀ fill rows row₀ out row = (row ≤ rows) × Written (same_rows fill row) row out₀ out
+abbrev invariant-loop-row : tie.invariant-loop-row
+invariant-loop-row out₀ fill rows row₀ out row = (row ≤ rows) × Written (same_rows fill row) row out₀ out
 
-abbrev decreases-loop : tie.decreases-loop
-decreases-loop out₀ fill rows row₀ out row = rows - row
+abbrev decreases-loop-row : tie.decreases-loop-row
+decreases-loop-row out₀ fill rows row₀ out row = rows - row
 
-loop-holds : tie.Need-loop-init invariant-loop decreases-loop
-loop-holds c = (omega arith, written_rows (λ r. c.before.args.fill) c.before.args.out.now)
+loop-row-init : tie.Need-loop-row-init invariant-loop-row decreases-loop-row
+loop-row-init c = (omega arith, written_rows (λ r. c.before.args.fill) c.before.args.out-1.now)
 
-mul-put-word : tie.Need-overflow-mul-put-word invariant-loop decreases-loop
-mul-put-word c = search rules
+overflow_mul-row : tie.Need-overflow_mul-row invariant-loop-row decreases-loop-row
+overflow_mul-row c = search rules
 
-put-word-requires : tie.Need-put-word-requires invariant-loop decreases-loop
-put-word-requires c κs = (omega (arith, written_length c.before.before.loop.invariant.1, c.before.before.before.before.requires.0), c.before.before.before.before.requires.2)
+put_word-requires : tie.Need-put_word-requires invariant-loop-row decreases-loop-row
+put_word-requires c κs = (omega (arith, written_length c.before.before.loop-row.invariant.1, c.before.before.before.before.requires.0), c.before.before.before.before.requires.2)
 
-add_row : tie.Need-overflow-add-row invariant-loop decreases-loop
-add_row c = search rules
+overflow_add-row : tie.Need-overflow_add-row invariant-loop-row decreases-loop-row
+overflow_add-row c = search rules
 
-loop-less : tie.Need-loop-smaller invariant-loop decreases-loop
-loop-less c = search rules
+loop-row-smaller : tie.Need-loop-row-smaller invariant-loop-row decreases-loop-row
+loop-row-smaller c = search rules
 
-loop-again : tie.Need-loop-preserved invariant-loop decreases-loop
-loop-again c = let s = c.before.before.before.before.before.before.before in
-    let o = c.before.before.before.before.before.loop in
+loop-row-preserved : tie.Need-loop-row-preserved invariant-loop-row decreases-loop-row
+loop-row-preserved c = let s = c.before.before.before.before.before.before.before in
+    let o = c.before.before.before.before.before.loop-row in
     (omega arith, written_row (λ r. s.args.fill) o.row s.args.fill o.invariant.1 refl (omega (arith, s.requires.0)) c.before.before.put_word.ensures)
 
-same_length : tie.Need-same-length invariant-loop decreases-loop
-same_length c = written_length c.before.loop.invariant.1
+shape_of-out : tie.Need-shape_of-out invariant-loop-row decreases-loop-row
+shape_of-out c = written_length c.before.loop-row.invariant.1
 
-returns : tie.Need-returns invariant-loop decreases-loop
-returns c = let e : c.before.loop.row ≡ c.before.before.before.args.rows = omega arith in
-    written_is c.before.loop.invariant.1 (ap (same_rows c.before.before.before.args.fill) e) e
+returns : tie.Need-returns invariant-loop-row decreases-loop-row
+returns c = let e : c.before.loop-row.row ≡ c.before.before.before.args.rows = omega arith in
+    written_is c.before.loop-row.invariant.1 (ap (same_rows c.before.before.before.args.fill) e) e
 
 pub fill_rows_spec : {M : Type 1} → statement M
-fill_rows_spec = tie.close (tie.spec invariant-loop decreases-loop loop-holds mul-put-word put-word-requires add_row loop-less loop-again same_length returns)
+fill_rows_spec = tie.close (tie.spec invariant-loop-row decreases-loop-row loop-row-init overflow_mul-row put_word-requires overflow_add-row loop-row-smaller loop-row-preserved shape_of-out returns)

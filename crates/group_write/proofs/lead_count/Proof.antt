@@ -4,13 +4,13 @@ use borrow.Author.Rules.{rules}
 use Rattle.group_write.proofs.lead_count.Statement.{statement}
 use Rattle.group_write.proofs.lead_count.Tie as tie
 
-returns : tie.Need-returns
+returns-then-plan : tie.Need-returns-then-plan
 unfolding lead
-returns c = (rw c.if1.true, omega arith)
+returns-then-plan c = (rw c.if-plan.true, omega arith)
 
-returns-2 : tie.Need-returns-2
+returns-else-plan : tie.Need-returns-else-plan
 unfolding lead
-returns-2 c = (rw c.if1.false, omega arith)
+returns-else-plan c = (rw c.if-plan.false, omega arith)
 
 pub lead_count_spec : {M : Type 1} → statement M
-lead_count_spec = tie.close (tie.spec returns returns-2)
+lead_count_spec = tie.close (tie.spec returns-then-plan returns-else-plan)

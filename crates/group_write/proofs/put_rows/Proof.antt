@@ -5,30 +5,30 @@ use Rattle.group_write.proofs.put_rows.Statement.{statement}
 use Rattle.group_write.proofs.put_rows.Tie as tie
 
 -- without CRC, the function's entry
-abbrev entry : tie.Else1 → tie.Start
+abbrev entry : tie.Else-plan → tie.Start
 entry c = c.before.before.before
 
-put-summed-requires : tie.Need-put-summed-requires
-put-summed-requires c κs = c.before.before.before.before.requires
+put_summed-requires : tie.Need-put_summed-requires
+put_summed-requires c κs = c.before.before.before.before.requires
 
-same_length : tie.Need-same-length
-same_length c = search rules
+shape_of-out-then-plan : tie.Need-shape_of-out-then-plan
+shape_of-out-then-plan c = search rules
+
+returns-then-plan : tie.Need-returns-then-plan
+returns-then-plan c = (summed_true c.before.before.before.before.if-plan.true c.before.before.put_summed.ensures.0, c.before.before.put_summed.ensures.1)
+
+put_plain-requires : tie.Need-put_plain-requires
+put_plain-requires c κs = (c.before.before.before.before.requires.0, c.before.before.before.before.requires.1)
+
+shape_of-out : tie.Need-shape_of-out
+shape_of-out c = search rules
 
 returns : tie.Need-returns
-returns c = (summed_true c.before.before.before.before.if1.true c.before.before.put-summed.ensures.0, c.before.before.put-summed.ensures.1)
-
-put-plain-requires : tie.Need-put-plain-requires
-put-plain-requires c κs = (c.before.before.before.before.requires.0, c.before.before.before.before.requires.1)
-
-same-length-2 : tie.Need-same-length-2
-same-length-2 c = search rules
-
-returns-2 : tie.Need-returns-2
-returns-2 c =
+returns c =
     let s = entry c.before.before.before.before in
-    (summed_false (sent_rows s.args.plan s.args.words.now s.args.first s.args.rows) c.before.before.before.before.if1.false s.pre.2, c.before.before.put-plain.ensures)
+    (summed_false (sent_rows s.args.plan s.args.words.now s.args.first s.args.rows) c.before.before.before.before.if-plan.false s.pre.2, c.before.before.put_plain.ensures)
 
 pub put_rows_spec : {M : Type 1} → statement M
 put_rows_spec =
     tie.close
-    (tie.spec put-summed-requires same_length returns put-plain-requires same-length-2 returns-2)
+    (tie.spec put_summed-requires shape_of-out-then-plan returns-then-plan put_plain-requires shape_of-out returns)

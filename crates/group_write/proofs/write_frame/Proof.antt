@@ -21,7 +21,7 @@ use Rattle.group_write.proofs.write_frame.Tie as tie
 
 -- where all but the check word is written: the function's entry, the words dealt, and those written
 abbrev Fronted : Type 0
-Fronted = tie.After-write-front
+Fronted = tie.After-write_front-sum
 
 abbrev entry : Fronted → tie.Start
 entry c = c.before.before.before.before
@@ -32,11 +32,11 @@ dealt c = take (lead (entry c).args.plan) (entry c).args.times.now ++ (entry c).
 abbrev written : Fronted → List ℕ
 written c = front (entry c).args.plan (dealt c) (entry c).args.track (rows (entry c).args.plan)
 
-fronted : (c : Fronted) → Written (written c) (1 + rows (entry c).args.plan) (entry c).args.out.now c.write-front.new.0
+fronted : (c : Fronted) → Written (written c) (1 + rows (entry c).args.plan) (entry c).args.out-1.now c.write_front-sum.new.0
 fronted c =
     let a = (entry c).args in
     record {
-      is = c.write-front.ensures.1;
+      is = c.write_front-sum.ensures.1;
       count = front_count a.plan (dealt c) a.track (rows a.plan);
       fits = omega (arith, (entry c).requires.1, rows_under a.plan (entry c).requires.0);
     }
@@ -45,10 +45,10 @@ fronted c =
 abbrev Joined : Type 0
 Joined = tie.After-join
 
-abbrev checked : tie.After-check → tie.Then1
+abbrev checked : tie.After-check → tie.Then-plan
 checked c = c.before
 
-abbrev at-check : tie.Then1 → Fronted
+abbrev at-check : tie.Then-plan → Fronted
 at-check c = c.before.before.before
 
 abbrev plan-of : tie.After-check → Plan
@@ -61,80 +61,80 @@ join_low : (c : Joined) → c.join.result < buses (plan-of c.before).parity * 2 
 join_low c = rw c.join.ensures (on_bus_0 (plan-of c.before).parity (plan-of c.before).crc_label c.before.check.result (label_low c.before) c.before.check.ensures.1)
 
 -- and where it is sent, and put
-abbrev sent-of : tie.After-put-word → tie.After-sent
+abbrev sent-of : tie.After-put_word → tie.After-sent-word
 sent-of c = c.before.before.before
 
-abbrev at-sent : tie.After-sent → tie.Then1
+abbrev at-sent : tie.After-sent-word → tie.Then-plan
 at-sent c = checked c.before.before
 
-check_is : (c : tie.After-sent) → c.sent.result ≡ check_word (plan-of c.before.before).parity (plan-of c.before.before).crc_label (written (at-check (at-sent c)))
+check_is : (c : tie.After-sent-word) → c.sent-word.result ≡ check_word (plan-of c.before.before).parity (plan-of c.before.before).crc_label (written (at-check (at-sent c)))
 check_is c =
     let t = at-sent c in
     let p = plan-of c.before.before in
-    c.sent.ensures ∙ ap (sent p.parity) c.before.join.ensures
-    ∙ sums_word {ws = written (at-check t)} p.parity p.crc_label c.before.before.check.result ((at-check t).write-front.ensures.0 t.if1.taken) c.before.before.check.ensures.0
+    c.sent-word.ensures ∙ ap (sent p.parity) c.before.join.ensures
+    ∙ sums_word {ws = written (at-check t)} p.parity p.crc_label c.before.before.check.result ((at-check t).write_front-sum.ensures.0 t.if-plan.taken) c.before.before.check.ensures.0
 
-write-front-requires : tie.Need-write-front-requires
-write-front-requires c κs = c.before.before.before.requires
+write_front-sum-requires : tie.Need-write_front-sum-requires
+write_front-sum-requires c κs = c.before.before.before.requires
 
 check-requires : tie.Need-check-requires
-check-requires c κs = ((at-check c).write-front.ensures.0 c.if1.true).small
+check-requires c κs = ((at-check c).write_front-sum.ensures.0 c.if-plan.true).small
 
 join-requires : tie.Need-join-requires
 join-requires c κs = (omega arith, label_low c, c.check.ensures.1)
 
-sent-requires : tie.Need-sent-requires
-sent-requires c κs = unsent_below (entry (at-check (checked c.before))).args.plan.parity c.join.result (join_low c)
+sent-word-requires : tie.Need-sent-word-requires
+sent-word-requires c κs = unsent_below (entry (at-check (checked c.before))).args.plan.parity c.join.result (join_low c)
 
-sub-put-word : tie.Need-overflow-sub-put-word
-sub-put-word c = omega (arith, (entry (at-check (at-sent c.before.before))).requires.0.words_least)
+overflow_sub-plan : tie.Need-overflow_sub-plan
+overflow_sub-plan c = omega (arith, (entry (at-check (at-sent c.before.before))).requires.0.words_least)
 
-mul-put-word : tie.Need-overflow-mul-put-word
-mul-put-word c = omega (arith, (entry (at-check (at-sent c.before.before))).requires.0.words_most)
+overflow_mul-plan : tie.Need-overflow_mul-plan
+overflow_mul-plan c = omega (arith, (entry (at-check (at-sent c.before.before))).requires.0.words_most)
 
-put-word-requires : tie.Need-put-word-requires
-put-word-requires c κs =
+put_word-requires : tie.Need-put_word-requires
+put_word-requires c κs =
     let f = at-check (at-sent c.before.before) in
     let s = entry f in (
       omega (arith, s.pre.1, s.pre.0.words_least, written_length (fronted f)),
-      rw c.before.before.sent.ensures (sent_below s.args.plan.parity c.before.before.before.join.result (join_low c.before.before.before)),
+      rw c.before.before.sent-word.ensures (sent_below s.args.plan.parity c.before.before.before.join.result (join_low c.before.before.before)),
     )
 
-same_length : tie.Need-same-length
-same_length c = search rules
+shape_of-out-then-plan : tie.Need-shape_of-out-then-plan
+shape_of-out-then-plan c = search rules
 
-returns : tie.Need-returns
-returns c =
+returns-then-plan : tie.Need-returns-then-plan
+returns-then-plan c =
     let k = sent-of c.before.before in
     let t = at-sent k in
     let f = at-check t in
     let s = entry f in
     let p = s.args.plan in
-    let e = rows_checked p s.pre.0 t.if1.taken in
-    let w = written_word (3 * (p.words - 1)) k.sent.result (fronted f) (omega arith) (omega (arith, s.pre.1, s.pre.0.words_least)) e c.before.before.put_word.ensures in
-    written_is w (ap (λ v. written f ++ (v ∷ [])) (check_is k) ∙ sym (frame_checked p (dealt f) s.args.track t.if1.taken)) refl
+    let e = rows_checked p s.pre.0 t.if-plan.taken in
+    let w = written_word (3 * (p.words - 1)) k.sent-word.result (fronted f) (omega arith) (omega (arith, s.pre.1, s.pre.0.words_least)) e c.before.before.put_word.ensures in
+    written_is w (ap (λ v. written f ++ (v ∷ [])) (check_is k) ∙ sym (frame_checked p (dealt f) s.args.track t.if-plan.taken)) refl
 
-same-length-2 : tie.Need-same-length-2
-same-length-2 c = search rules
+shape_of-out-else-plan : tie.Need-shape_of-out-else-plan
+shape_of-out-else-plan c = search rules
 
-returns-2 : tie.Need-returns-2
-returns-2 c =
+returns-else-plan : tie.Need-returns-else-plan
+returns-else-plan c =
     let f = c.before.before.before in
     let s = entry f in
-    written_is (fronted f) (sym (frame_plain s.args.plan (dealt f) s.args.track c.if1.false)) (rows_plain s.args.plan s.pre.0 c.if1.false)
+    written_is (fronted f) (sym (frame_plain s.args.plan (dealt f) s.args.track c.if-plan.false)) (rows_plain s.args.plan s.pre.0 c.if-plan.false)
 
 pub write_frame_spec : {M : Type 1} → statement M
 write_frame_spec =
     tie.close
     (tie.spec
-    write-front-requires
+    write_front-sum-requires
     check-requires
     join-requires
-    sent-requires
-    sub-put-word
-    mul-put-word
-    put-word-requires
-    same_length
-    returns
-    same-length-2
-    returns-2)
+    sent-word-requires
+    overflow_sub-plan
+    overflow_mul-plan
+    put_word-requires
+    shape_of-out-then-plan
+    returns-then-plan
+    shape_of-out-else-plan
+    returns-else-plan)

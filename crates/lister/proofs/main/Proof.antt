@@ -11,32 +11,32 @@ use Rattle.io.proofs.read_full.Reads as read-full-reads
 use Rattle.io.proofs.write_all.Reads as write-all-reads
 use Rattle.log_text.proofs.list.Reads as list-reads
 
-slice-aggregate-read-full : tie.Need-slice-aggregate-read-full
-slice-aggregate-read-full c = search rules
+slice_bounds-read_full-end : tie.Need-slice_bounds-read_full-end
+slice_bounds-read_full-end c = search rules
 
-read-full-requires : tie.Need-read-full-requires
-read-full-requires c κs = search rules
+read_full-size-requires : tie.Need-read_full-size-requires
+read_full-size-requires c κs = search rules
 
-slice-aggregate-list : tie.Need-slice-aggregate-list
-slice-aggregate-list c = search rules
+slice_bounds-list-end : tie.Need-slice_bounds-list-end
+slice_bounds-list-end c = search rules
 
-array-share-prefix-buffer : tie.Need-array-share-prefix-buffer
-array-share-prefix-buffer c = search rules
+slice_bounds-buffer-end : tie.Need-slice_bounds-buffer-end
+slice_bounds-buffer-end c = search rules
 
-slice-aggregate-list-2 : tie.Need-slice-aggregate-list-2
-slice-aggregate-list-2 c = search rules
+slice_bounds-list-end-2 : tie.Need-slice_bounds-list-end-2
+slice_bounds-list-end-2 c = search rules
 
-list-requires : tie.Need-list-requires
-list-requires c κs = search rules
+list-end-requires : tie.Need-list-end-requires
+list-end-requires c κs = search rules
 
-array-share-prefix-text : tie.Need-array-share-prefix-text
-array-share-prefix-text c = let f = c.before.list.ensures in omega (arith, f.fits, adds_long f)
+slice_bounds-text-end : tie.Need-slice_bounds-text-end
+slice_bounds-text-end c = let f = c.before.list-end.ensures in omega (arith, f.fits, adds_long f)
 
-slice-aggregate-write-all : tie.Need-slice-aggregate-write-all
-slice-aggregate-write-all c = let f = c.before.before.list.ensures in sym (length-take-le c.before.before.list.result c.before.before.list.new.0 (omega (arith, f.fits, adds_long f)))
+slice_bounds-write_all-end : tie.Need-slice_bounds-write_all-end
+slice_bounds-write_all-end c = let f = c.before.before.list-end.ensures in sym (length-take-le c.before.before.list-end.result c.before.before.list-end.new.0 (omega (arith, f.fits, adds_long f)))
 
-write-all-requires : tie.Need-write-all-requires
-write-all-requires c κs = search rules
+write_all-requires : tie.Need-write_all-requires
+write_all-requires c κs = search rules
 
 returns : tie.Need-returns
 returns c = search rules
@@ -45,13 +45,13 @@ pub main_spec : {M : Type 1} → statement M
 main_spec =
     tie.close
     (tie.spec
-    slice-aggregate-read-full
-    read-full-requires
-    slice-aggregate-list
-    array-share-prefix-buffer
-    slice-aggregate-list-2
-    list-requires
-    array-share-prefix-text
-    slice-aggregate-write-all
-    write-all-requires
+    slice_bounds-read_full-end
+    read_full-size-requires
+    slice_bounds-list-end
+    slice_bounds-buffer-end
+    slice_bounds-list-end-2
+    list-end-requires
+    slice_bounds-text-end
+    slice_bounds-write_all-end
+    write_all-requires
     returns)

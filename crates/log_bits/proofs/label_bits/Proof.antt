@@ -8,31 +8,31 @@ use Rattle.log_bits.proofs.four_bits.Reads as four-bits-reads
 use Rattle.log_bits.proofs.lower_bits.Reads as lower-bits-reads
 use Rattle.log_bits.proofs.upper_bits.Reads as upper-bits-reads
 
-upper-bits-requires : tie.Need-upper-bits-requires
-upper-bits-requires c κs = search rules
+upper_bits-requires : tie.Need-upper_bits-requires
+upper_bits-requires c κs = search rules
+
+returns-then-label-ge8 : tie.Need-returns-then-label-ge8
+returns-then-label-ge8 c = simp (le-leb _ _ c.before.if-label-ge8.true) c.upper_bits.ensures
+
+four_bits-requires : tie.Need-four_bits-requires
+four_bits-requires c κs = search rules
+
+returns-then-label-eq4 : tie.Need-returns-then-label-eq4
+returns-then-label-eq4 c = simp (lt-leb _ _ c.before.before.if-label-ge8.false, eq-eqb _ _ c.before.if-label-eq4.true) c.four_bits.ensures
+
+lower_bits-requires : tie.Need-lower_bits-requires
+lower_bits-requires c κs = search rules
 
 returns : tie.Need-returns
-returns c = simp (le-leb _ _ c.before.if1.true) c.upper-bits.ensures
-
-four-bits-requires : tie.Need-four-bits-requires
-four-bits-requires c κs = search rules
-
-returns-2 : tie.Need-returns-2
-returns-2 c = simp (lt-leb _ _ c.before.before.if1.false, eq-eqb _ _ c.before.if2.true) c.four-bits.ensures
-
-lower-bits-requires : tie.Need-lower-bits-requires
-lower-bits-requires c κs = search rules
-
-returns-3 : tie.Need-returns-3
-returns-3 c = simp (lt-leb _ _ c.before.before.if1.false, ne_eqb _ _ c.before.if2.false) c.lower-bits.ensures
+returns c = simp (lt-leb _ _ c.before.before.if-label-ge8.false, ne_eqb _ _ c.before.if-label-eq4.false) c.lower_bits.ensures
 
 pub label_bits_spec : {M : Type 1} → statement M
 label_bits_spec =
     tie.close
     (tie.spec
-    upper-bits-requires
-    returns
-    four-bits-requires
-    returns-2
-    lower-bits-requires
-    returns-3)
+    upper_bits-requires
+    returns-then-label-ge8
+    four_bits-requires
+    returns-then-label-eq4
+    lower_bits-requires
+    returns)

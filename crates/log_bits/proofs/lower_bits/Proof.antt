@@ -7,26 +7,26 @@ use Rattle.log_bits.proofs.lower_bits.Tie as tie
 use Rattle.log_bits.proofs.lower_bits.Reads as reads
 use Rattle.log_bits.proofs.lower_bits.Lts as lts
 
-returns : tie.Need-returns
-returns c = simp c.match.keys1
+returns-in-0 : tie.Need-returns-in-0
+returns-in-0 c = simp c.in_default.keys1
 
-returns-2 : tie.Need-returns-2
-returns-2 c = simp c.match.keys2
+returns-in-1 : tie.Need-returns-in-1
+returns-in-1 c = simp c.in_default.keys2
 
-returns-3 : tie.Need-returns-3
-returns-3 c = simp c.match.keys3
+returns-in-2 : tie.Need-returns-in-2
+returns-in-2 c = simp c.in_default.keys3
 
-returns-4 : tie.Need-returns-4
-returns-4 c = simp c.match.keys4
+returns-in-3 : tie.Need-returns-in-3
+returns-in-3 c = simp c.in_default.keys4
 
-returns-5 : tie.Need-returns-5
-returns-5 c = simp c.match.keys5
+returns-in-5 : tie.Need-returns-in-5
+returns-in-5 c = simp c.in_default.keys5
 
-returns-6 : tie.Need-returns-6
-returns-6 c =
-    let r = c.match.rest in
+returns-in_default : tie.Need-returns-in_default
+returns-in_default c =
+    let r = c.in_default.rest in
     let l = c.before.args.label in
     rw (ne_eqb l 0 r.0.0.0.0.1, le-ltb l 4 (omega (arith, r.0.0.0.0.1, r.0.0.0.1, r.0.0.1, r.0.1)), ne_eqb l 5 r.1)
 
 pub lower_bits_spec : {M : Type 1} → statement M
-lower_bits_spec = tie.close (tie.spec returns returns-2 returns-3 returns-4 returns-5 returns-6)
+lower_bits_spec = tie.close (tie.spec returns-in-0 returns-in-1 returns-in-2 returns-in-3 returns-in-5 returns-in_default)

@@ -5,31 +5,31 @@ use Rattle.log_bits.proofs.upper_bits.Tie as tie
 use Rattle.log_bits.proofs.upper_bits.Reads as reads
 use Rattle.log_bits.proofs.upper_bits.Lts as lts
 
-enum_told : tie.Need-enum-told
-enum_told c = search rules
+enum_told-1 : tie.Need-enum_told-1
+enum_told-1 c = search rules
 
-enum-told-2 : tie.Need-enum-told-2
-enum-told-2 c = search rules
+enum_told-in-Mil1553 : tie.Need-enum_told-in-Mil1553
+enum_told-in-Mil1553 c = search rules
 
-enum-told-3 : tie.Need-enum-told-3
-enum-told-3 c = search rules
+enum_told-in-Arinc429 : tie.Need-enum_told-in-Arinc429
+enum_told-in-Arinc429 c = search rules
 
-returns : tie.Need-returns
-returns c = simp c.enum_told.given.1
+returns-in-Unused : tie.Need-returns-in-Unused
+returns-in-Unused c = simp c.enum_told-1.given.1
 
-returns-2 : tie.Need-returns-2
-returns-2 c = simp (c.before.enum-told2.given.1, lt-ltb _ _ c.if1.true)
+returns-then-label-lt2 : tie.Need-returns-then-label-lt2
+returns-then-label-lt2 c = simp (c.before.enum_told-in-Mil1553-1.given.1, lt-ltb _ _ c.if-label-lt2.true)
 
-returns-3 : tie.Need-returns-3
-returns-3 c = simp (c.before.enum-told2.given.1, le-ltb _ _ c.if1.false)
+returns-else-label-lt2 : tie.Need-returns-else-label-lt2
+returns-else-label-lt2 c = simp (c.before.enum_told-in-Mil1553-1.given.1, le-ltb _ _ c.if-label-lt2.false)
 
-returns-4 : tie.Need-returns-4
-returns-4 c = simp (c.before.enum-told3.given.1, eq-eqb _ _ c.if2.true)
+returns-then-label-eq1 : tie.Need-returns-then-label-eq1
+returns-then-label-eq1 c = simp (c.before.enum_told-in-Arinc429-1.given.1, eq-eqb _ _ c.if-label-eq1.true)
 
-returns-5 : tie.Need-returns-5
-returns-5 c = simp (c.before.enum-told3.given.1, ne_eqb _ _ c.if2.false)
+returns-else-label-eq1 : tie.Need-returns-else-label-eq1
+returns-else-label-eq1 c = simp (c.before.enum_told-in-Arinc429-1.given.1, ne_eqb _ _ c.if-label-eq1.false)
 
 pub upper_bits_spec : {M : Type 1} → statement M
 upper_bits_spec =
     tie.close
-    (tie.spec enum_told enum-told-2 enum-told-3 returns returns-2 returns-3 returns-4 returns-5)
+    (tie.spec enum_told-1 enum_told-in-Mil1553 enum_told-in-Arinc429 returns-in-Unused returns-then-label-lt2 returns-else-label-lt2 returns-then-label-eq1 returns-else-label-eq1)

@@ -15,125 +15,125 @@ use Rattle.log_check.proofs.Judging.{Judging, judging_start, judging_more, judgi
 use Rattle.log_check.proofs.judge.Statement.{statement}
 use Rattle.log_check.proofs.judge.Tie as tie
 
-abbrev invariant-loop : tie.invariant-loop
-invariant-loop log at₀ seen₀ at seen = Judging log at.at seen
+abbrev invariant-loop-item : tie.invariant-loop-item
+invariant-loop-item log at₀ seen₀ at seen = Judging log at.at seen
 
-abbrev decreases-loop : tie.decreases-loop
-decreases-loop log at₀ seen₀ at seen = length log * 8 - at.at
+abbrev decreases-loop-item : tie.decreases-loop-item
+decreases-loop-item log at₀ seen₀ at seen = length log * 8 - at.at
 
 -- the loop's place, the log, and what stands there
 abbrev Loop : Type 0
-Loop = tie.At-loop invariant-loop decreases-loop
+Loop = tie.At-loop-item invariant-loop-item decreases-loop-item
 
 abbrev the_log : Loop → List ℕ
 the_log c = c.before.before.before.args.log.now
 
 abbrev next : Loop → Next
-next c = next_at (bytes_bits (the_log c)) c.loop.at.at
+next c = next_at (bytes_bits (the_log c)) c.loop-item.at.at
 
 -- in a turn: the item, the place behind it, and how it was judged
 abbrev Turn : Type 0
-Turn = tie.After-passes invariant-loop decreases-loop
+Turn = tie.After-passes invariant-loop-item decreases-loop-item
 
 abbrev at_turn : Turn → Loop
 at_turn c = c.before.before.before.before.before.before
 
 abbrev the_item : Turn → Item
-the_item c = c.before.before.before.item2.given.0.0
+the_item c = c.before.before.before.item-1.given.0.0
 
 abbrev behind : Turn → ℕ
-behind c = c.before.before.before.item2.given.0.1.0.at
+behind c = c.before.before.before.item-1.given.0.1.0.at
 
-here : (c : Turn) → Follows (the_log (at_turn c)) (at_turn c).loop.at.at (the_item c) (behind c)
+here : (c : Turn) → Follows (the_log (at_turn c)) (at_turn c).loop-item.at.at (the_item c) (behind c)
 here c =
-    let i = c.before.before.before.item2.given in
-    follows (the_log (at_turn c)) (at_turn c).loop.at.at c.before.before.before.before.before.item.result i.0.0 i.0.1.0
+    let i = c.before.before.before.item-1.given in
+    follows (the_log (at_turn c)) (at_turn c).loop-item.at.at c.before.before.before.before.before.item.result i.0.0 i.0.1.0
     c.before.before.before.before.before.item.ensures i.1
 
-judged : (c : Turn) → passes_by (at_turn c).loop.seen (role_of (the_item c)) ≡ c.passes.result
-judged c = ap (passes_by (at_turn c).loop.seen) (sym c.before.role-of.ensures) ∙ sym c.passes.ensures
+judged : (c : Turn) → passes_by (at_turn c).loop-item.seen (role_of (the_item c)) ≡ c.passes.result
+judged c = ap (passes_by (at_turn c).loop-item.seen) (sym c.before.role_of-role.ensures) ∙ sym c.passes.ensures
 
-nothing-requires : tie.Need-nothing-requires invariant-loop decreases-loop
-nothing-requires c κs = search rules
+nothing-seen-requires : tie.Need-nothing-seen-requires invariant-loop-item decreases-loop-item
+nothing-seen-requires c κs = search rules
 
-loop-holds : tie.Need-loop-init invariant-loop decreases-loop
-loop-holds c = rw c.nothing.ensures (judging_start c.before.before.args.log.now c.before.before.requires.0 c.before.before.requires.1)
+loop-item-init : tie.Need-loop-item-init invariant-loop-item decreases-loop-item
+loop-item-init c = rw c.nothing-seen.ensures (judging_start c.before.before.args.log.now c.before.before.requires.0 c.before.before.requires.1)
 
-item-requires : tie.Need-item-requires invariant-loop decreases-loop
+item-requires : tie.Need-item-requires invariant-loop-item decreases-loop-item
 item-requires c κs = search rules
 
-enum-known-item : tie.Need-enum-known-item invariant-loop decreases-loop
-enum-known-item c = search rules
+enum_known-item : tie.Need-enum_known-item invariant-loop-item decreases-loop-item
+enum_known-item c = search rules
 
-role-of-requires : tie.Need-role-of-requires invariant-loop decreases-loop
-role-of-requires c κs = search rules
+role_of-role-requires : tie.Need-role_of-role-requires invariant-loop-item decreases-loop-item
+role_of-role-requires c κs = search rules
 
-passes-requires : tie.Need-passes-requires invariant-loop decreases-loop
+passes-requires : tie.Need-passes-requires invariant-loop-item decreases-loop-item
 passes-requires c κs = search rules
 
-answer-requires : tie.Need-answer-requires invariant-loop decreases-loop
+answer-requires : tie.Need-answer-requires invariant-loop-item decreases-loop-item
 answer-requires c κs = search rules
 
-returns : tie.Need-returns invariant-loop decreases-loop
-returns c =
+returns-then-not-passes : tie.Need-returns-then-not-passes invariant-loop-item decreases-loop-item
+returns-then-not-passes c =
     let t : Turn = c.before.before in
-    rw (judging_breaks (the_item t) (behind t) (at_turn t).loop.invariant (here t) (judged t ∙ not_true t.passes.result c.before.if1.true))
+    rw (judging_breaks (the_item t) (behind t) (at_turn t).loop-item.invariant (here t) (judged t ∙ not_true t.passes.result c.before.if-not-passes.true))
     c.answer.ensures
 
-after-requires : tie.Need-after-requires invariant-loop decreases-loop
-after-requires c κs = search rules
+after-seen-requires : tie.Need-after-seen-requires invariant-loop-item decreases-loop-item
+after-seen-requires c κs = search rules
 
-loop-less : tie.Need-loop-smaller invariant-loop decreases-loop
-loop-less c = let f = here c.before.before in omega (arith, f.far, f.fits)
+loop-item-smaller : tie.Need-loop-item-smaller invariant-loop-item decreases-loop-item
+loop-item-smaller c = let f = here c.before.before in omega (arith, f.far, f.fits)
 
-loop-again : tie.Need-loop-preserved invariant-loop decreases-loop
-loop-again c =
+loop-item-preserved : tie.Need-loop-item-preserved invariant-loop-item decreases-loop-item
+loop-item-preserved c =
     let t : Turn = c.before.before in
-    rw (c.after.ensures, t.before.role-of.ensures)
-    (judging_more (the_item t) (behind t) (at_turn t).loop.invariant (here t) (judged t ∙ not_false t.passes.result c.before.if1.false))
+    rw (c.after-seen.ensures, t.before.role_of-role.ensures)
+    (judging_more (the_item t) (behind t) (at_turn t).loop-item.invariant (here t) (judged t ∙ not_false t.passes.result c.before.if-not-passes.false))
 
-enum_told : tie.Need-enum-told invariant-loop decreases-loop
-enum_told c = search rules
+enum_told-1 : tie.Need-enum_told-1 invariant-loop-item decreases-loop-item
+enum_told-1 c = search rules
 
-answer-requires-2 : tie.Need-answer-requires-2 invariant-loop decreases-loop
-answer-requires-2 c κs = search rules
+answer-requires-in-End : tie.Need-answer-requires-in-End invariant-loop-item decreases-loop-item
+answer-requires-in-End c κs = search rules
 
-returns-2 : tie.Need-returns-2 invariant-loop decreases-loop
-returns-2 c =
+returns-in-End : tie.Need-returns-in-End invariant-loop-item decreases-loop-item
+returns-in-End c =
     let o : Loop = c.before.before.before.before in
-    rw (judging_over o.loop.invariant (found_end (next o) (sym c.before.before.before.item.ensures ∙ c.before.enum_told.given.1))) c.answer2.ensures
+    rw (judging_over o.loop-item.invariant (found_end (next o) (sym c.before.before.before.item.ensures ∙ c.before.enum_told-1.given.1))) c.answer-in-End.ensures
 
-enum-told-2 : tie.Need-enum-told-2 invariant-loop decreases-loop
-enum-told-2 c = search rules
+enum_told-in-Wrong : tie.Need-enum_told-in-Wrong invariant-loop-item decreases-loop-item
+enum_told-in-Wrong c = search rules
 
-answer-requires-3 : tie.Need-answer-requires-3 invariant-loop decreases-loop
-answer-requires-3 c κs = search rules
+answer-requires-in-Wrong : tie.Need-answer-requires-in-Wrong invariant-loop-item decreases-loop-item
+answer-requires-in-Wrong c κs = search rules
 
-returns-3 : tie.Need-returns-3 invariant-loop decreases-loop
-returns-3 c =
+returns-in-Wrong : tie.Need-returns-in-Wrong invariant-loop-item decreases-loop-item
+returns-in-Wrong c =
     let o : Loop = c.before.before.before.before in
-    absurd (judging_never o.loop.invariant (found_wrong (next o) (sym c.before.before.before.item.ensures ∙ c.before.enum-told2.given.1)))
+    absurd (judging_never o.loop-item.invariant (found_wrong (next o) (sym c.before.before.before.item.ensures ∙ c.before.enum_told-in-Wrong-1.given.1)))
 
 pub judge_spec : {M : Type 1} → statement M
 judge_spec =
     tie.close
     (tie.spec
-    invariant-loop
-    decreases-loop
-    nothing-requires
-    loop-holds
+    invariant-loop-item
+    decreases-loop-item
+    nothing-seen-requires
+    loop-item-init
     item-requires
-    enum-known-item
-    role-of-requires
+    enum_known-item
+    role_of-role-requires
     passes-requires
     answer-requires
-    returns
-    after-requires
-    loop-less
-    loop-again
-    enum_told
-    answer-requires-2
-    returns-2
-    enum-told-2
-    answer-requires-3
-    returns-3)
+    returns-then-not-passes
+    after-seen-requires
+    loop-item-smaller
+    loop-item-preserved
+    enum_told-1
+    answer-requires-in-End
+    returns-in-End
+    enum_told-in-Wrong
+    answer-requires-in-Wrong
+    returns-in-Wrong)

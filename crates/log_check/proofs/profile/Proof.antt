@@ -8,43 +8,43 @@ use Rattle.log_check.proofs.profile.Statement.{statement}
 use Rattle.log_check.proofs.profile.Tie as tie
 
 -- where the log has no fault
-parses : (c : tie.After-enum-told) → let r = parsed on_no_plan c.before.before.before.before.args.log.now in r ≡ items (items_of r)
+parses : (c : tie.In-Items) → let r = parsed on_no_plan c.before.before.before.before.args.log.now in r ≡ items (items_of r)
 parses c =
-    tallied c.before.before.before.before.args.log.now c.before.before.parse.result _ _ c.before.before.parse.ensures
-    c.enum_told.given.1
+    tallied c.before.before.before.before.args.log.now c.before.before.parse-tally.result _ _ c.before.before.parse-tally.ensures
+    c.enum_told-1.given.1
 
-parse-requires : tie.Need-parse-requires
-parse-requires c κs = search rules
+parse-tally-requires : tie.Need-parse-tally-requires
+parse-tally-requires c κs = search rules
 
-enum_told : tie.Need-enum-told
-enum_told c = search rules
+enum_told-1 : tie.Need-enum_told-1
+enum_told-1 c = search rules
 
 judge-requires : tie.Need-judge-requires
 judge-requires c κs = (log_short c.before.before.before.before.args.log.now _ (parses c), parses c)
 
-enum-known-tally : tie.Need-enum-known-tally
-enum-known-tally c = search rules
+enum_known-tally : tie.Need-enum_known-tally
+enum_known-tally c = search rules
 
 answer-requires : tie.Need-answer-requires
 answer-requires c κs = search rules
 
-returns : tie.Need-returns
-returns c = rw (profiled_judged c.before.before.before.before.before.args.log.now (parses c.before)) c.judge.ensures
+returns-in-Items : tie.Need-returns-in-Items
+returns-in-Items c = rw (profiled_judged c.before.before.before.before.before.args.log.now (parses c.before)) c.judge.ensures
 
-returns-2 : tie.Need-returns-2
-returns-2 c =
-    let parse = c.before.before.before.before.parse in
-    rw (profiled_refused c.before.before.before.before.before.before.args.log.now _ _ parse.result parse.ensures c.before.before.tally.given.1)
+returns-in-Fault : tie.Need-returns-in-Fault
+returns-in-Fault c =
+    let parse = c.before.before.before.before.parse-tally in
+    rw (profiled_refused c.before.before.before.before.before.before.args.log.now _ _ parse.result parse.ensures c.before.before.tally-1.given.1)
     c.answer.ensures
 
 pub profile_spec : {M : Type 1} → statement M
 profile_spec =
     tie.close
     (tie.spec
-    parse-requires
-    enum_told
+    parse-tally-requires
+    enum_told-1
     judge-requires
-    enum-known-tally
+    enum_known-tally
     answer-requires
-    returns
-    returns-2)
+    returns-in-Items
+    returns-in-Fault)

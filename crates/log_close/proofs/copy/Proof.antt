@@ -7,47 +7,47 @@ use borrow.Author.Rules.{rules}
 use Rattle.log_close.proofs.copy.Statement.{statement}
 use Rattle.log_close.proofs.copy.Tie as tie
 
-abbrev invariant-loop : tie.invariant-loop
-invariant-loop to₀ from n i₀ to i = (i ≤ n) × Front (take i from) to₀ to i
+abbrev invariant-loop-i : tie.invariant-loop-i
+invariant-loop-i to₀ from n i₀ to i = (i ≤ n) × Front (take i from) to₀ to i
 
-abbrev decreases-loop : tie.decreases-loop
-decreases-loop to₀ from n i₀ to i = n - i
+abbrev decreases-loop-i : tie.decreases-loop-i
+decreases-loop-i to₀ from n i₀ to i = n - i
 
-loop-holds : tie.Need-loop-init invariant-loop decreases-loop
-loop-holds c = search rules
+loop-i-init : tie.Need-loop-i-init invariant-loop-i decreases-loop-i
+loop-i-init c = search rules
 
-shared-slice-read-to : tie.Need-shared-slice-read-to invariant-loop decreases-loop
-shared-slice-read-to c = search rules
+bounds-from-i : tie.Need-bounds-from-i invariant-loop-i decreases-loop-i
+bounds-from-i c = search rules
 
-slice-write-to : tie.Need-slice-write-to invariant-loop decreases-loop
-slice-write-to c = omega (arith, front_long c.before.before.loop.invariant.1)
+bounds-to-i : tie.Need-bounds-to-i invariant-loop-i decreases-loop-i
+bounds-to-i c = omega (arith, front_long c.before.before.loop-i.invariant.1)
 
-add-i : tie.Need-overflow-add-i invariant-loop decreases-loop
-add-i c = search rules
+overflow_add-i : tie.Need-overflow_add-i invariant-loop-i decreases-loop-i
+overflow_add-i c = search rules
 
-loop-less : tie.Need-loop-smaller invariant-loop decreases-loop
-loop-less c = search rules
+loop-i-smaller : tie.Need-loop-i-smaller invariant-loop-i decreases-loop-i
+loop-i-smaller c = search rules
 
-loop-again : tie.Need-loop-preserved invariant-loop decreases-loop
-loop-again c = (omega arith, rw (take_more c.before.before.before.args.from.now c.before.before.loop.i (omega arith)) (front_more _ c.before.before.loop.invariant.1 (omega arith)))
+loop-i-preserved : tie.Need-loop-i-preserved invariant-loop-i decreases-loop-i
+loop-i-preserved c = (omega arith, rw (take_more c.before.before.before.args.from.now c.before.before.loop-i.i (omega arith)) (front_more _ c.before.before.loop-i.invariant.1 (omega arith)))
 
-same_length : tie.Need-same-length invariant-loop decreases-loop
-same_length c = front_long c.before.loop.invariant.1
+shape_of-to : tie.Need-shape_of-to invariant-loop-i decreases-loop-i
+shape_of-to c = front_long c.before.loop-i.invariant.1
 
-returns : tie.Need-returns invariant-loop decreases-loop
-returns c = let e : c.before.loop.i ≡ c.before.before.args.n = omega arith in rw (← e) c.before.loop.invariant.1.is
+returns : tie.Need-returns invariant-loop-i decreases-loop-i
+returns c = let e : c.before.loop-i.i ≡ c.before.before.args.n = omega arith in rw (← e) c.before.loop-i.invariant.1.is
 
 pub copy_spec : {M : Type 1} → statement M
 copy_spec =
     tie.close
     (tie.spec
-    invariant-loop
-    decreases-loop
-    loop-holds
-    shared-slice-read-to
-    slice-write-to
-    add-i
-    loop-less
-    loop-again
-    same_length
+    invariant-loop-i
+    decreases-loop-i
+    loop-i-init
+    bounds-from-i
+    bounds-to-i
+    overflow_add-i
+    loop-i-smaller
+    loop-i-preserved
+    shape_of-to
     returns)

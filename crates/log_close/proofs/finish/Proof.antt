@@ -8,39 +8,39 @@ use Rattle.log_close.proofs.finish.Lts as lts
 use Rattle.log_close.proofs.give.Reads as give-reads
 use Rattle.log_close.proofs.refusal.Reads as refusal-reads
 
-enum-known-put : tie.Need-enum-known-put
-enum-known-put c = search rules
+enum_known-put : tie.Need-enum_known-put
+enum_known-put c = search rules
 
 give-requires : tie.Need-give-requires
-give-requires c κs = rw c.before.before.before.put.given.1 at c.before.before.before.before.before.before.before.requires
+give-requires c κs = rw c.before.before.before.put-1.given.1 at c.before.before.before.before.before.before.before.requires
 
-enum-known-put-2 : tie.Need-enum-known-put-2
-enum-known-put-2 c = search rules
+enum_known-put-in-Fault-1 : tie.Need-enum_known-put-in-Fault-1
+enum_known-put-in-Fault-1 c = search rules
 
 refusal-requires : tie.Need-refusal-requires
 refusal-requires c κs = search rules
 
-same_length : tie.Need-same-length
-same_length c = search rules
+shape_of-built : tie.Need-shape_of-built
+shape_of-built c = search rules
 
-same-length-2 : tie.Need-same-length-2
-same-length-2 c = search rules
+shape_of-out : tie.Need-shape_of-out
+shape_of-out c = search rules
 
-returns : tie.Need-returns
-returns c = λ row most s. all_made row most _ _ _ _ _ _ _ s c.before.before.before.before.before.before.before.before.put.given.1 c.before.before.before.before.give.ensures
+returns-in-All : tie.Need-returns-in-All
+returns-in-All c = λ row most s. all_made row most _ _ _ _ _ _ _ s c.before.before.before.before.before.before.before.before.put-1.given.1 c.before.before.before.before.give.ensures
 
-returns-2 : tie.Need-returns-2
-returns-2 c = λ row most s. fault_made row most _ _ _ _ _ _ _ s c.before.before.put2.given.1 c.refusal.ensures
+returns-in-Fault : tie.Need-returns-in-Fault
+returns-in-Fault c = λ row most s. fault_made row most _ _ _ _ _ _ _ s c.before.before.put-in-Fault-1.given.1 c.refusal.ensures
 
 pub finish_spec : {M : Type 1} → statement M
 finish_spec =
     tie.close
     (tie.spec
-    enum-known-put
+    enum_known-put
     give-requires
-    enum-known-put-2
+    enum_known-put-in-Fault-1
     refusal-requires
-    same_length
-    same-length-2
-    returns
-    returns-2)
+    shape_of-built
+    shape_of-out
+    returns-in-All
+    returns-in-Fault)

@@ -13,40 +13,40 @@ use Rattle.log_pass.proofs.pass.Reads as pass-reads
 pass-requires : tie.Need-pass-requires
 pass-requires c κs = search rules
 
-enum-known-one : tie.Need-enum-known-one
-enum-known-one c = search rules
+enum_known-one : tie.Need-enum_known-one
+enum_known-one c = search rules
 
-join-second-requires : tie.Need-join-second-requires
-join-second-requires c κs = let log = c.before.before.before.before.before.before.before.before.args.first.now in
-    good log _ _ (all_bytes log (λ i. omega (arith, c.before.before.before.before.before.before.before.shared-slice-known.given i)))
-    c.before.before.before.before.pass.ensures c.before.before.one.given.1
+join_second-requires : tie.Need-join_second-requires
+join_second-requires c κs = let log = c.before.before.before.before.before.before.before.before.args.first.now in
+    good log _ _ (all_bytes log (λ i. omega (arith, c.before.before.before.before.before.before.before.shared_slice_known-1.given i)))
+    c.before.before.before.before.pass.ensures c.before.before.one-1.given.1
 
-enum-known-number : tie.Need-enum-known-number
-enum-known-number c = search rules
+enum_known-number : tie.Need-enum_known-number
+enum_known-number c = search rules
 
 refusal-requires : tie.Need-refusal-requires
 refusal-requires c κs = search rules
 
-same_length : tie.Need-same-length
-same_length c = search rules
+shape_of-out : tie.Need-shape_of-out
+shape_of-out c = search rules
 
-returns : tie.Need-returns
-returns c = c.before.before.join_second.ensures
+returns-in-All : tie.Need-returns-in-All
+returns-in-All c = c.before.before.join_second.ensures
 
-returns-2 : tie.Need-returns-2
-returns-2 c = let a = c.before.before.before.before.before.before.before.before.args in
-    join_first a.first.now a.second.now _ _ _ a.out.now (bad a.first.now _ _ _ c.before.before.before.before.pass.ensures
-    c.before.before.number.given.1) c.refusal.ensures
+returns-in-Fault : tie.Need-returns-in-Fault
+returns-in-Fault c = let a = c.before.before.before.before.before.before.before.before.args in
+    join_first a.first.now a.second.now _ _ _ a.out-1.now (bad a.first.now _ _ _ c.before.before.before.before.pass.ensures
+    c.before.before.number-1.given.1) c.refusal.ensures
 
 pub join_spec : {M : Type 1} → statement M
 join_spec =
     tie.close
     (tie.spec
     pass-requires
-    enum-known-one
-    join-second-requires
-    enum-known-number
+    enum_known-one
+    join_second-requires
+    enum_known-number
     refusal-requires
-    same_length
-    returns
-    returns-2)
+    shape_of-out
+    returns-in-All
+    returns-in-Fault)

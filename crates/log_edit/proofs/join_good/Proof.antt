@@ -8,47 +8,47 @@ use Rattle.log_edit.proofs.join_good.Lts as lts
 use Rattle.log_close.proofs.refusal.Reads as refusal-reads
 use Rattle.log_edit.proofs.put_both.Reads as put-both-reads
 
-add-bytes : tie.Need-overflow-add-bytes
-add-bytes c = search rules
+overflow_add-bytes : tie.Need-overflow_add-bytes
+overflow_add-bytes c = search rules
 
-add-bytes-2 : tie.Need-overflow-add-bytes-2
-add-bytes-2 c = search rules
+overflow_add-bytes-2 : tie.Need-overflow_add-bytes-2
+overflow_add-bytes-2 c = search rules
 
 refusal-requires : tie.Need-refusal-requires
 refusal-requires c κs = search rules
 
+returns-then-bytes-gt32768 : tie.Need-returns-then-bytes-gt32768
+returns-then-bytes-gt32768 c = let a = c.before.before.before.before.before.args in joins_beyond a.first.now a.second.now a.one a.two _ a.out-1.now _ refl
+    c.before.if-bytes-gt32768.true c.refusal.ensures
+
+refusal-requires-then-out-bytes : tie.Need-refusal-requires-then-out-bytes
+refusal-requires-then-out-bytes c κs = search rules
+
+returns-then-out-bytes : tie.Need-returns-then-out-bytes
+returns-then-out-bytes c = let a = c.before.before.before.before.before.before.args in joins_short a.first.now a.second.now a.one a.two _
+    a.out-1.now _ refl c.before.before.if-bytes-gt32768.false c.before.if-out-bytes.true c.refusal-then-out-bytes.ensures
+
+put_both-requires : tie.Need-put_both-requires
+put_both-requires c κs = search rules
+
+shape_of-out : tie.Need-shape_of-out
+shape_of-out c = search rules
+
 returns : tie.Need-returns
-returns c = let a = c.before.before.before.before.before.args in joins_beyond a.first.now a.second.now a.one a.two _ a.out.now _ refl
-    c.before.if1.true c.refusal.ensures
-
-refusal-requires-2 : tie.Need-refusal-requires-2
-refusal-requires-2 c κs = search rules
-
-returns-2 : tie.Need-returns-2
-returns-2 c = let a = c.before.before.before.before.before.before.args in joins_short a.first.now a.second.now a.one a.two _
-    a.out.now _ refl c.before.before.if1.false c.before.if2.true c.refusal2.ensures
-
-put-both-requires : tie.Need-put-both-requires
-put-both-requires c κs = search rules
-
-same_length : tie.Need-same-length
-same_length c = search rules
-
-returns-3 : tie.Need-returns-3
-returns-3 c = let a = c.before.before.before.before.before.before.before.before.before.args in joins_all a.first.now a.second.now a.one
-    a.two _ a.out.now _ refl c.before.before.before.before.before.if1.false c.before.before.before.before.if2.false
+returns c = let a = c.before.before.before.before.before.before.before.before.before.args in joins_all a.first.now a.second.now a.one
+    a.two _ a.out-1.now _ refl c.before.before.before.before.before.if-bytes-gt32768.false c.before.before.before.before.if-out-bytes.false
     c.before.before.put_both.ensures
 
 pub join_good_spec : {M : Type 1} → statement M
 join_good_spec =
     tie.close
     (tie.spec
-    add-bytes
-    add-bytes-2
+    overflow_add-bytes
+    overflow_add-bytes-2
     refusal-requires
-    returns
-    refusal-requires-2
-    returns-2
-    put-both-requires
-    same_length
-    returns-3)
+    returns-then-bytes-gt32768
+    refusal-requires-then-out-bytes
+    returns-then-out-bytes
+    put_both-requires
+    shape_of-out
+    returns)

@@ -3,55 +3,55 @@ use borrow.Author.Rules.{rules}
 use Rattle.log_edit.proofs.pick.Statement.{statement}
 use Rattle.log_edit.proofs.pick.Tie as tie
 
-slice-aggregate-pick-in : tie.Need-slice-aggregate-pick-in
-slice-aggregate-pick-in c = search rules
+slice_bounds-pick_in-end : tie.Need-slice_bounds-pick_in-end
+slice_bounds-pick_in-end c = search rules
 
-pick-in-requires : tie.Need-pick-in-requires
-pick-in-requires c κs = λ h. omega arith
+pick_in-requires : tie.Need-pick_in-requires
+pick_in-requires c κs = λ h. omega arith
 
-same_length : tie.Need-same-length
-same_length c = search rules
+shape_of-out-then-log-le56 : tie.Need-shape_of-out-then-log-le56
+shape_of-out-then-log-le56 c = search rules
+
+returns-then-log-le56 : tie.Need-returns-then-log-le56
+returns-then-log-le56 c = c.before.before.before.pick_in.ensures
+
+slice_bounds-pick_in-end-then-log-le1024 : tie.Need-slice_bounds-pick_in-end-then-log-le1024
+slice_bounds-pick_in-end-then-log-le1024 c = search rules
+
+pick_in-requires-then-log-le1024 : tie.Need-pick_in-requires-then-log-le1024
+pick_in-requires-then-log-le1024 c κs = λ h. omega arith
+
+shape_of-out-then-log-le1024 : tie.Need-shape_of-out-then-log-le1024
+shape_of-out-then-log-le1024 c = search rules
+
+returns-then-log-le1024 : tie.Need-returns-then-log-le1024
+returns-then-log-le1024 c = c.before.before.before.pick_in-then-log-le1024.ensures
+
+slice_bounds-pick_in-end-2 : tie.Need-slice_bounds-pick_in-end-2
+slice_bounds-pick_in-end-2 c = search rules
+
+pick_in-requires-2 : tie.Need-pick_in-requires-2
+pick_in-requires-2 c κs = λ h. omega arith
+
+shape_of-out : tie.Need-shape_of-out
+shape_of-out c = search rules
 
 returns : tie.Need-returns
-returns c = c.before.before.before.pick-in.ensures
-
-slice-aggregate-pick-in-2 : tie.Need-slice-aggregate-pick-in-2
-slice-aggregate-pick-in-2 c = search rules
-
-pick-in-requires-2 : tie.Need-pick-in-requires-2
-pick-in-requires-2 c κs = λ h. omega arith
-
-same-length-2 : tie.Need-same-length-2
-same-length-2 c = search rules
-
-returns-2 : tie.Need-returns-2
-returns-2 c = c.before.before.before.pick-in2.ensures
-
-slice-aggregate-pick-in-3 : tie.Need-slice-aggregate-pick-in-3
-slice-aggregate-pick-in-3 c = search rules
-
-pick-in-requires-3 : tie.Need-pick-in-requires-3
-pick-in-requires-3 c κs = λ h. omega arith
-
-same-length-3 : tie.Need-same-length-3
-same-length-3 c = search rules
-
-returns-3 : tie.Need-returns-3
-returns-3 c = c.before.before.before.pick-in3.ensures
+returns c = c.before.before.before.pick_in-2.ensures
 
 pub pick_spec : {M : Type 1} → statement M
 pick_spec =
     tie.close
     (tie.spec
-    slice-aggregate-pick-in
-    pick-in-requires
-    same_length
-    returns
-    slice-aggregate-pick-in-2
-    pick-in-requires-2
-    same-length-2
-    returns-2
-    slice-aggregate-pick-in-3
-    pick-in-requires-3
-    same-length-3
-    returns-3)
+    slice_bounds-pick_in-end
+    pick_in-requires
+    shape_of-out-then-log-le56
+    returns-then-log-le56
+    slice_bounds-pick_in-end-then-log-le1024
+    pick_in-requires-then-log-le1024
+    shape_of-out-then-log-le1024
+    returns-then-log-le1024
+    slice_bounds-pick_in-end-2
+    pick_in-requires-2
+    shape_of-out
+    returns)

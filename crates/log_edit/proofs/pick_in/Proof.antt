@@ -12,26 +12,26 @@ use Rattle.log_edit.proofs.pick_in.Lts as lts
 use Rattle.log_close.proofs.finish.Reads as finish-reads
 use Rattle.log_put.proofs.put_items.Reads as put-items-reads
 
-put-items-requires : tie.Need-put-items-requires
-put-items-requires c κs = λ h. c.before.before.before.before.requires h
+put_items-put-requires : tie.Need-put_items-put-requires
+put_items-put-requires c κs = λ h. c.before.before.before.before.requires h
 
 finish-requires : tie.Need-finish-requires
 finish-requires c κs = let a = c.before.before.before.before.before.before.before.before.before.args in
-    told_finishes (parsed on_no_plan a.log.now) a.buses (length a.log.now) _ _ _ c.before.before.before.before.put-items.ensures (λ h. omega
-    (arith, c.before.before.before.before.before.before.before.before.before.requires h, c.before.before.before.built.given))
+    told_finishes (parsed on_no_plan a.log.now) a.buses (length a.log.now) _ _ _ c.before.before.before.before.put_items-put.ensures (λ h. omega
+    (arith, c.before.before.before.before.before.before.before.before.before.requires h, c.before.before.before.built-1.given))
 
-same_length : tie.Need-same-length
-same_length c = search rules
+shape_of-out : tie.Need-shape_of-out
+shape_of-out c = search rules
 
-same-length-2 : tie.Need-same-length-2
-same-length-2 c = search rules
+shape_of-built : tie.Need-shape_of-built
+shape_of-built c = search rules
 
 returns : tie.Need-returns
 returns c = let a = c.before.before.before.before.before.before.before.before.before.before.before.before.before.before.args in
     let row = picks_of a.buses (parsed on_no_plan a.log.now) in
     let t = told_stands (parsed on_no_plan a.log.now) a.buses (length a.log.now * 8) _ _
-    c.before.before.before.before.before.before.before.before.before.put-items.ensures in
-    rw (picked_is a.log.now a.buses (length a.out.now)) (c.before.before.before.before.finish.ensures row (length a.log.now * 8) t)
+    c.before.before.before.before.before.before.before.before.before.put_items-put.ensures in
+    rw (picked_is a.log.now a.buses (length a.out-1.now)) (c.before.before.before.before.finish.ensures row (length a.log.now * 8) t)
 
 pub pick_in_spec : {M : Type 1} → statement M
-pick_in_spec = tie.close (tie.spec put-items-requires finish-requires same_length same-length-2 returns)
+pick_in_spec = tie.close (tie.spec put_items-put-requires finish-requires shape_of-out shape_of-built returns)

@@ -11,54 +11,54 @@ use Rattle.log_edit.proofs.put_later.Reads as reads
 use Rattle.log_edit.proofs.put_later.Lts as lts
 use Rattle.log_edit.proofs.pair.Reads as Pair-reads
 
-abbrev invariant-loop : tie.invariant-loop
-invariant-loop out₀ before bytes shift last₀ i₀ out last i = (i ≤ length bytes) × (length bytes ≤ length out₀) × (shift < 8) × Goes shift before bytes out₀ out i last
+abbrev invariant-loop-i : tie.invariant-loop-i
+invariant-loop-i out₀ before bytes shift last₀ i₀ out last i = (i ≤ length bytes) × (length bytes ≤ length out₀) × (shift < 8) × Goes shift before bytes out₀ out i last
 
-abbrev decreases-loop : tie.decreases-loop
-decreases-loop out₀ before bytes shift last₀ i₀ out last i = length bytes - i
+abbrev decreases-loop-i : tie.decreases-loop-i
+decreases-loop-i out₀ before bytes shift last₀ i₀ out last i = length bytes - i
 
-loop-holds : tie.Need-loop-init invariant-loop decreases-loop
-loop-holds c = let q = c.before.before.requires in (omega arith, q.1, q.0, goes_start _ _ _ _)
+loop-i-init : tie.Need-loop-i-init invariant-loop-i decreases-loop-i
+loop-i-init c = let q = c.before.before.requires in (omega arith, q.1, q.0, goes_start _ _ _ _)
 
-shared-slice-read-next : tie.Need-shared-slice-read-next invariant-loop decreases-loop
-shared-slice-read-next c = search rules
+bounds-bytes-i : tie.Need-bounds-bytes-i invariant-loop-i decreases-loop-i
+bounds-bytes-i c = search rules
 
-pair-requires : tie.Need-pair-requires invariant-loop decreases-loop
-pair-requires c κs = c.before.before.loop.invariant.2
+pair-requires : tie.Need-pair-requires invariant-loop-i decreases-loop-i
+pair-requires c κs = c.before.before.loop-i.invariant.2
 
-slice-write-out : tie.Need-slice-write-out invariant-loop decreases-loop
-slice-write-out c = let o = c.before.before.before.loop.invariant in omega (arith, o.1, front_long o.3.front, c.before.before.loop-test.true)
+bounds-out-i : tie.Need-bounds-out-i invariant-loop-i decreases-loop-i
+bounds-out-i c = let o = c.before.before.before.loop-i.invariant in omega (arith, o.1, front_long o.3.front, c.before.before.loop-i-test.true)
 
-add-i : tie.Need-overflow-add-i invariant-loop decreases-loop
-add-i c = search rules
+overflow_add-i : tie.Need-overflow_add-i invariant-loop-i decreases-loop-i
+overflow_add-i c = search rules
 
-loop-less : tie.Need-loop-smaller invariant-loop decreases-loop
-loop-less c = search rules
+loop-i-smaller : tie.Need-loop-i-smaller invariant-loop-i decreases-loop-i
+loop-i-smaller c = search rules
 
-loop-again : tie.Need-loop-preserved invariant-loop decreases-loop
-loop-again c = let o = c.before.before.before.loop.invariant in
-    let t = c.before.before.loop-test.true in
+loop-i-preserved : tie.Need-loop-i-preserved invariant-loop-i decreases-loop-i
+loop-i-preserved c = let o = c.before.before.before.loop-i.invariant in
+    let t = c.before.before.loop-i-test.true in
     (omega (arith, t), o.1, o.2, rw c.pair.ensures (goes_more o.3 t o.1))
 
-same_length : tie.Need-same-length invariant-loop decreases-loop
-same_length c = front_long c.before.loop.invariant.3.front
+shape_of-out : tie.Need-shape_of-out invariant-loop-i decreases-loop-i
+shape_of-out c = front_long c.before.loop-i.invariant.3.front
 
-returns : tie.Need-returns invariant-loop decreases-loop
-returns c = let e : c.before.loop.i ≡ length c.before.before.before.before.args.bytes.now = omega
-    (arith, c.before.loop.invariant.0, c.loop-test.false) in goes_over c.before.loop.invariant.3 e
+returns : tie.Need-returns invariant-loop-i decreases-loop-i
+returns c = let e : c.before.loop-i.i ≡ length c.before.before.before.before.args.bytes.now = omega
+    (arith, c.before.loop-i.invariant.0, c.loop-i-test.false) in goes_over c.before.loop-i.invariant.3 e
 
 pub put_later_spec : {M : Type 1} → statement M
 put_later_spec =
     tie.close
     (tie.spec
-    invariant-loop
-    decreases-loop
-    loop-holds
-    shared-slice-read-next
+    invariant-loop-i
+    decreases-loop-i
+    loop-i-init
+    bounds-bytes-i
     pair-requires
-    slice-write-out
-    add-i
-    loop-less
-    loop-again
-    same_length
+    bounds-out-i
+    overflow_add-i
+    loop-i-smaller
+    loop-i-preserved
+    shape_of-out
     returns)

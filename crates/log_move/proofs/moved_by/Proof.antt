@@ -12,21 +12,21 @@ use Rattle.log_move.proofs.moved_by.Lts as lts
 use Rattle.log_move.proofs.sum.Reads as sum-reads
 use Rattle.log_move.proofs.time_of.Reads as time-of-reads
 
-returns : tie.Need-returns
-returns c = too_late c.before.args.time c.before.args.by c.if1.true c.before.requires
+returns-then-time-ge74572072960000 : tie.Need-returns-then-time-ge74572072960000
+returns-then-time-ge74572072960000 c = too_late c.before.args.time c.before.args.by c.if-time-ge74572072960000.true c.before.requires
 
 sum-requires : tie.Need-sum-requires
 sum-requires c κs = search rules
 
-time-of-requires : tie.Need-time-of-requires
-time-of-requires c κs = search rules
+time_of-requires : tie.Need-time_of-requires
+time_of-requires c κs = search rules
 
-returns-2 : tie.Need-returns-2
-returns-2 c =
+returns : tie.Need-returns
+returns c =
     let b = c.before.before.before in
     let e : c.before.sum.result ≡ pos b.args.time +ℤ b.args.by = rw (to_z-of_z b.ranges.by) at c.before.sum.ensures in
-    let f : SFits w64 c.before.sum.result = rw e (fits_sum b.args.time b.args.by c.before.before.if1.false b.requires) in
-    rw (to_z-of_z f, e) at c.time-of.ensures
+    let f : SFits w64 c.before.sum.result = rw e (fits_sum b.args.time b.args.by c.before.before.if-time-ge74572072960000.false b.requires) in
+    rw (to_z-of_z f, e) at c.time_of.ensures
 
 pub moved_by_spec : {M : Type 1} → statement M
-moved_by_spec = tie.close (tie.spec returns sum-requires time-of-requires returns-2)
+moved_by_spec = tie.close (tie.spec returns-then-time-ge74572072960000 sum-requires time_of-requires returns)

@@ -9,20 +9,20 @@ use Rattle.log_move.proofs.moved_tag.Reads as reads
 use Rattle.log_move.proofs.moved_tag.Lts as lts
 use Rattle.log_move.proofs.moved_by.Reads as moved-by-reads
 
+returns-then-item-ne46 : tie.Need-returns-then-item-ne46
+returns-then-item-ne46 c = rw (ne_eqb _ _ c.if-item-ne46.true) refl
+
+overflow_mul-item : tie.Need-overflow_mul-item
+overflow_mul-item c = search rules
+
+overflow_add-item : tie.Need-overflow_add-item
+overflow_add-item c = search rules
+
+moved_by-requires : tie.Need-moved_by-requires
+moved_by-requires c κs = search rules
+
 returns : tie.Need-returns
-returns c = rw (ne_eqb _ _ c.if1.true) refl
-
-mul-moved-by : tie.Need-overflow-mul-moved-by
-mul-moved-by c = search rules
-
-add-moved-by : tie.Need-overflow-add-moved-by
-add-moved-by c = search rules
-
-moved-by-requires : tie.Need-moved-by-requires
-moved-by-requires c κs = search rules
-
-returns-2 : tie.Need-returns-2
-returns-2 c = rw (eq-eqb _ _ c.before.before.before.if1.false) (rw (to_z-of_z c.before.before.before.before.before.ranges.by) at c.moved_by.ensures)
+returns c = rw (eq-eqb _ _ c.before.before.before.if-item-ne46.false) (rw (to_z-of_z c.before.before.before.before.before.ranges.by) at c.moved_by.ensures)
 
 pub moved_tag_spec : {M : Type 1} → statement M
-moved_tag_spec = tie.close (tie.spec returns mul-moved-by add-moved-by moved-by-requires returns-2)
+moved_tag_spec = tie.close (tie.spec returns-then-item-ne46 overflow_mul-item overflow_add-item moved_by-requires returns)

@@ -27,196 +27,196 @@ use Rattle.log_walk.proofs.in_time.Reads as in-time-reads
 use Rattle.log_walk.proofs.piece_at.Reads as piece-at-reads
 use Rattle.log_write.proofs.Pen.start.Reads as start-reads
 
-abbrev invariant-loop : tie.invariant-loop
-invariant-loop log by built₀ at₀ to₀ built at to =
+abbrev invariant-loop-item : tie.invariant-loop-item
+invariant-loop-item log by built₀ at₀ to₀ built at to =
     (length log ≤ 32768) × (length built ≡ length built₀) × Moving log (to_z w64 by) built at to × (length log + 8 ≤ length built₀)
 
-abbrev decreases-loop : tie.decreases-loop
-decreases-loop log by built₀ at₀ to₀ built at to = length log * 8 - at
+abbrev decreases-loop-item : tie.decreases-loop-item
+decreases-loop-item log by built₀ at₀ to₀ built at to = length log * 8 - at
 
-returns : tie.Need-returns invariant-loop decreases-loop
-returns c = rw (walk_long on_no_plan c.before.before.before.args.log.now c.if1.true) refl
+returns-then-log-gt32768 : tie.Need-returns-then-log-gt32768 invariant-loop-item decreases-loop-item
+returns-then-log-gt32768 c = rw (walk_long on_no_plan c.before.before.before.args.log.now c.if-log-gt32768.true) refl
 
-start-requires : tie.Need-start-requires invariant-loop decreases-loop
-start-requires c κs = search rules
+start-to-requires : tie.Need-start-to-requires invariant-loop-item decreases-loop-item
+start-to-requires c κs = search rules
 
-loop-holds : tie.Need-loop-init invariant-loop decreases-loop
-loop-holds c = (
-  c.before.if1.false,
+loop-item-init : tie.Need-loop-item-init invariant-loop-item decreases-loop-item
+loop-item-init c = (
+  c.before.if-log-gt32768.false,
   refl,
-  moving_start c.before.before.before.before.args.log.now _ _ _ c.before.if1.false
-      c.start.ensures,
-  c.before.before.before.before.requires.1 c.before.if1.false,
+  moving_start c.before.before.before.before.args.log.now _ _ _ c.before.if-log-gt32768.false
+      c.start-to.ensures,
+  c.before.before.before.before.requires.1 c.before.if-log-gt32768.false,
 )
 
-piece-at-requires : tie.Need-piece-at-requires invariant-loop decreases-loop
-piece-at-requires c κs = let o = c.loop.invariant in (o.2.walk.fits, omega (arith, o.0))
+piece_at-requires : tie.Need-piece_at-requires invariant-loop-item decreases-loop-item
+piece_at-requires c κs = let o = c.loop-item.invariant in (o.2.walk.fits, omega (arith, o.0))
 
-enum-known-item : tie.Need-enum-known-item invariant-loop decreases-loop
-enum-known-item c = search rules
+enum_known-item : tie.Need-enum_known-item invariant-loop-item decreases-loop-item
+enum_known-item c = search rules
 
-in-time-requires : tie.Need-in-time-requires invariant-loop decreases-loop
-in-time-requires c κs = search rules
+in_time-requires : tie.Need-in_time-requires invariant-loop-item decreases-loop-item
+in_time-requires c κs = search rules
 
-same_length : tie.Need-same-length invariant-loop decreases-loop
-same_length c = c.before.before.before.before.before.before.loop.invariant.1
+shape_of-built-then-not-in_time : tie.Need-shape_of-built-then-not-in_time invariant-loop-item decreases-loop-item
+shape_of-built-then-not-in_time c = c.before.before.before.before.before.before.loop-item.invariant.1
 
-returns-2 : tie.Need-returns-2 invariant-loop decreases-loop
-returns-2 c =
-    let o = c.before.before.before.before.before.before.loop in
-    let i = c.before.before.before.item.given in
+returns-then-not-in_time : tie.Need-returns-then-not-in_time invariant-loop-item decreases-loop-item
+returns-then-not-in_time c =
+    let o = c.before.before.before.before.before.before.loop-item in
+    let i = c.before.before.before.item-1.given in
     let h = holds c.before.before.before.before.before.before.before.before.before.before.before.args.log.now o.at
-    c.before.before.before.before.before.piece-at.result i.0.0 c.before.before.before.before.before.piece-at.ensures i.1 in
-    rw (walk_late o.invariant.2.walk h (sym c.before.in_time.ensures ∙ not_true _ c.if2.true)) refl
+    c.before.before.before.before.before.piece_at.result i.0.0 c.before.before.before.before.before.piece_at.ensures i.1 in
+    rw (walk_late o.invariant.2.walk h (sym c.before.in_time.ensures ∙ not_true _ c.if-not-in_time.true)) refl
 
-moved-tag-requires : tie.Need-moved-tag-requires invariant-loop decreases-loop
-moved-tag-requires c κs =
-    let o = c.before.before.before.before.before.before.loop in
-    let i = c.before.before.before.item.given in
+moved_tag-time-requires : tie.Need-moved_tag-time-requires invariant-loop-item decreases-loop-item
+moved_tag-time-requires c κs =
+    let o = c.before.before.before.before.before.before.loop-item in
+    let i = c.before.before.before.item-1.given in
     let h = holds c.before.before.before.before.before.before.before.before.before.before.before.args.log.now o.at
-    c.before.before.before.before.before.piece-at.result i.0.0 c.before.before.before.before.before.piece-at.ensures i.1 in (
+    c.before.before.before.before.before.piece_at.result i.0.0 c.before.before.before.before.before.piece_at.ensures i.1 in (
       rw (to_z-of_z c.before.before.before.before.before.before.before.before.before.before.before.ranges.by)
           c.before.before.before.before.before.before.before.before.before.before.before.requires.0,
       holds_fits h,
     )
 
-judged-requires : tie.Need-judged-requires invariant-loop decreases-loop
+judged-requires : tie.Need-judged-requires invariant-loop-item decreases-loop-item
 judged-requires c κs = search rules
 
-same-length-2 : tie.Need-same-length-2 invariant-loop decreases-loop
-same-length-2 c = c.before.before.before.before.before.before.before.before.before.loop.invariant.1
+shape_of-built-then-time-ge42949672960000 : tie.Need-shape_of-built-then-time-ge42949672960000 invariant-loop-item decreases-loop-item
+shape_of-built-then-time-ge42949672960000 c = c.before.before.before.before.before.before.before.before.before.loop-item.invariant.1
 
-returns-3 : tie.Need-returns-3 invariant-loop decreases-loop
-returns-3 c =
-    let o = c.before.before.before.before.before.before.before.before.before.loop in
-    let i = c.before.before.before.before.before.before.item.given in
+returns-then-time-ge42949672960000 : tie.Need-returns-then-time-ge42949672960000 invariant-loop-item decreases-loop-item
+returns-then-time-ge42949672960000 c =
+    let o = c.before.before.before.before.before.before.before.before.before.loop-item in
+    let i = c.before.before.before.before.before.before.item-1.given in
     let h = holds c.before.before.before.before.before.before.before.before.before.before.before.before.before.before.args.log.now o.at
-    c.before.before.before.before.before.before.before.before.piece-at.result i.0.0
-    c.before.before.before.before.before.before.before.before.piece-at.ensures i.1 in
-    let t = sym c.before.before.before.before.in_time.ensures ∙ not_false _ c.before.before.before.if2.false in
-    let f = cannot_move _ h _ c.before.before.moved-tag.ensures c.before.if3.true in
-    rw c.judged.ensures (rw (to_z-of_z c.before.before.before.before.before.before.before.before.before.before.before.before.before.before.ranges.by) at (moving-fails o.invariant.2 h t o.built f))
+    c.before.before.before.before.before.before.before.before.piece_at.result i.0.0
+    c.before.before.before.before.before.before.before.before.piece_at.ensures i.1 in
+    let t = sym c.before.before.before.before.in_time.ensures ∙ not_false _ c.before.before.before.if-not-in_time.false in
+    let f = cannot_move _ h _ c.before.before.moved_tag-time.ensures c.before.if-time-ge42949672960000.true in
+    rw c.judged.ensures (rw (to_z-of_z c.before.before.before.before.before.before.before.before.before.before.before.before.before.before.ranges.by) at (moving-fails o.invariant.2 h t o.built-1 f))
 
-with-time-requires : tie.Need-with-time-requires invariant-loop decreases-loop
-with-time-requires c κs = omega (arith, c.before.if3.false)
+with_time-requires : tie.Need-with_time-requires invariant-loop-item decreases-loop-item
+with_time-requires c κs = omega (arith, c.before.if-time-ge42949672960000.false)
 
-put-packed-requires : tie.Need-put-packed-requires invariant-loop decreases-loop
-put-packed-requires c κs =
-    let o = c.before.before.before.before.before.before.before.before.before.before.loop in
-    let i = c.before.before.before.before.before.before.before.item.given in
+put_packed-to-requires : tie.Need-put_packed-to-requires invariant-loop-item decreases-loop-item
+put_packed-to-requires c κs =
+    let o = c.before.before.before.before.before.before.before.before.before.before.loop-item in
+    let i = c.before.before.before.before.before.before.before.item-1.given in
     let h = holds c.before.before.before.before.before.before.before.before.before.before.before.before.before.before.before.args.log.now
-    o.at c.before.before.before.before.before.before.before.before.before.piece-at.result i.0.0
-    c.before.before.before.before.before.before.before.before.before.piece-at.ensures i.1 in
-    moving_room o.invariant.2 h _ _ _ c.with-time.ensures c.before.before.if3.false (omega (arith, o.invariant.1, o.invariant.3))
+    o.at c.before.before.before.before.before.before.before.before.before.piece_at.result i.0.0
+    c.before.before.before.before.before.before.before.before.before.piece_at.ensures i.1 in
+    moving_room o.invariant.2 h _ _ _ c.with_time.ensures c.before.before.if-time-ge42949672960000.false (omega (arith, o.invariant.1, o.invariant.3))
 
-add_at : tie.Need-overflow-add-at invariant-loop decreases-loop
-add_at c =
-    let o = c.before.before.before.before.before.before.before.before.before.before.before.before.before.before.loop in
-    let i = c.before.before.before.before.before.before.before.before.before.before.before.item.given in
+overflow_add-at : tie.Need-overflow_add-at invariant-loop-item decreases-loop-item
+overflow_add-at c =
+    let o = c.before.before.before.before.before.before.before.before.before.before.before.before.before.before.loop-item in
+    let i = c.before.before.before.before.before.before.before.before.before.before.before.item-1.given in
     let a = c.before.before.before.before.before.before.before.before.before.before.before.before.before in
-    let h = holds a.before.before.before.before.before.before.args.log.now o.at a.piece-at.result i.0.0 a.piece-at.ensures i.1 in
+    let h = holds a.before.before.before.before.before.before.args.log.now o.at a.piece_at.result i.0.0 a.piece_at.ensures i.1 in
     omega (arith, h.says.first_few, h.says.behind_few)
 
-cast-at : tie.Need-overflow-cast-at invariant-loop decreases-loop
-cast-at c = search rules
+overflow_cast-at : tie.Need-overflow_cast-at invariant-loop-item decreases-loop-item
+overflow_cast-at c = search rules
 
-add-at-2 : tie.Need-overflow-add-at-2 invariant-loop decreases-loop
-add-at-2 c =
-    let o = c.before.before.before.before.before.before.before.before.before.before.before.before.before.before.loop in
-    let i = c.before.before.before.before.before.before.before.before.before.before.before.item.given in
+overflow_add-at-in-Item : tie.Need-overflow_add-at-in-Item invariant-loop-item decreases-loop-item
+overflow_add-at-in-Item c =
+    let o = c.before.before.before.before.before.before.before.before.before.before.before.before.before.before.loop-item in
+    let i = c.before.before.before.before.before.before.before.before.before.before.before.item-1.given in
     let a = c.before.before.before.before.before.before.before.before.before.before.before.before.before in
-    let h = holds a.before.before.before.before.before.before.args.log.now o.at a.piece-at.result i.0.0 a.piece-at.ensures i.1 in
+    let h = holds a.before.before.before.before.before.before.args.log.now o.at a.piece_at.result i.0.0 a.piece_at.ensures i.1 in
     omega (arith, o.invariant.0, next_fits o.invariant.2.walk h)
 
 -- the item that was found, and what is put with it
-item_here : (c : tie.After-put-data-arg invariant-loop decreases-loop) → Holds
-    c.before.before.before.before.before.before.before.before.before.before.before.before.before.before.before.before.before.before.before.before.args.log.now c.before.before.before.before.before.before.before.before.before.before.before.before.before.before.before.loop.at
-    c.before.before.before.before.before.before.before.before.before.before.before.before.item.given.0.0
-item_here c = holds _ _ _ c.before.before.before.before.before.before.before.before.before.before.before.before.item.given.0.0
-    c.before.before.before.before.before.before.before.before.before.before.before.before.before.before.piece-at.ensures
-    c.before.before.before.before.before.before.before.before.before.before.before.before.item.given.1
+item_here : (c : tie.After-put_data-arg-1 invariant-loop-item decreases-loop-item) → Holds
+    c.before.before.before.before.before.before.before.before.before.before.before.before.before.before.before.before.before.before.before.before.args.log.now c.before.before.before.before.before.before.before.before.before.before.before.before.before.before.before.loop-item.at
+    c.before.before.before.before.before.before.before.before.before.before.before.before.item-1.given.0.0
+item_here c = holds _ _ _ c.before.before.before.before.before.before.before.before.before.before.before.before.item-1.given.0.0
+    c.before.before.before.before.before.before.before.before.before.before.before.before.before.before.piece_at.ensures
+    c.before.before.before.before.before.before.before.before.before.before.before.before.item-1.given.1
 
-moved_here : (c : tie.After-put-data-arg invariant-loop decreases-loop)
+moved_here : (c : tie.After-put_data-arg-1 invariant-loop-item decreases-loop-item)
     → Moving c.before.before.before.before.before.before.before.before.before.before.before.before.before.before.before.before.before.before.before.before.args.log.now (to_z w64 (of_z w64
-    c.before.before.before.before.before.before.before.before.before.before.before.before.before.before.before.before.before.before.before.before.args.by)) c.before.before.before.before.put-packed.new.1.0
-    (c.before.before.before.before.before.before.before.before.before.before.before.before.before.before.before.loop.at +
-    (c.before.before.before.before.before.before.before.before.before.before.before.before.item.given.0.0.first_bits + c.before.before.before.before.before.before.before.before.before.before.before.before.item.given.0.0.behind_bits))
-    c.before.before.before.before.put-packed.result
+    c.before.before.before.before.before.before.before.before.before.before.before.before.before.before.before.before.before.before.before.before.args.by)) c.before.before.before.before.put_packed-to.new.1.0
+    (c.before.before.before.before.before.before.before.before.before.before.before.before.before.before.before.loop-item.at +
+    (c.before.before.before.before.before.before.before.before.before.before.before.before.item-1.given.0.0.first_bits + c.before.before.before.before.before.before.before.before.before.before.before.before.item-1.given.0.0.behind_bits))
+    c.before.before.before.before.put_packed-to.result
 moved_here c =
     let h = item_here c in
     let t = sym c.before.before.before.before.before.before.before.before.before.before.in_time.ensures ∙ not_false _
-    c.before.before.before.before.before.before.before.before.before.if2.false in
-    let e = c.before.before.before.before.before.before.before.before.moved-tag.ensures in
-    let m = moved_is _ h _ e _ c.before.before.before.before.before.before.before.if3.false c.before.before.before.before.before.with-time.ensures in
-    let l = moved_size _ c.before.before.before.before.before.before.before.before.before.before.before.before.item.given.0.0 _
-    c.before.before.before.before.before.with-time.ensures in
-    moving-more c.before.before.before.before.before.before.before.before.before.before.before.before.before.before.before.loop.invariant.2 h t _
-    (can_move _ h _ e c.before.before.before.before.before.before.before.if3.false) m l c.before.before.before.before.put-packed.ensures
+    c.before.before.before.before.before.before.before.before.before.if-not-in_time.false in
+    let e = c.before.before.before.before.before.before.before.before.moved_tag-time.ensures in
+    let m = moved_is _ h _ e _ c.before.before.before.before.before.before.before.if-time-ge42949672960000.false c.before.before.before.before.before.with_time.ensures in
+    let l = moved_size _ c.before.before.before.before.before.before.before.before.before.before.before.before.item-1.given.0.0 _
+    c.before.before.before.before.before.with_time.ensures in
+    moving-more c.before.before.before.before.before.before.before.before.before.before.before.before.before.before.before.loop-item.invariant.2 h t _
+    (can_move _ h _ e c.before.before.before.before.before.before.before.if-time-ge42949672960000.false) m l c.before.before.before.before.put_packed-to.ensures
 
-put-data-requires : tie.Need-put-data-requires invariant-loop decreases-loop
-put-data-requires c κs = let o = c.before.before.before.before.before.before.before.before.before.before.before.before.before.before.before.loop.invariant in
+put_data-here-requires : tie.Need-put_data-here-requires invariant-loop-item decreases-loop-item
+put_data-here-requires c κs = let o = c.before.before.before.before.before.before.before.before.before.before.before.before.before.before.before.loop-item.invariant in
     let m = moved_here c in
-    (o.0, omega (arith, o.1, o.3, c.before.before.before.before.put-packed.ensures.long), m.few, m.walk.fits)
+    (o.0, omega (arith, o.1, o.3, c.before.before.before.before.put_packed-to.ensures.long), m.few, m.walk.fits)
 
-loop-less : tie.Need-loop-smaller invariant-loop decreases-loop
-loop-less c = let d = c.before.before.before.put-data.ensures in omega (arith, d.on, d.within, (item_here c.before.before.before.before).many)
+loop-item-smaller : tie.Need-loop-item-smaller invariant-loop-item decreases-loop-item
+loop-item-smaller c = let d = c.before.before.before.put_data-here.ensures in omega (arith, d.on, d.within, (item_here c.before.before.before.before).many)
 
-loop-again : tie.Need-loop-preserved invariant-loop decreases-loop
-loop-again c = let o = c.before.before.before.before.before.before.before.before.before.before.before.before.before.before.before.before.before.before.before.loop.invariant in (
+loop-item-preserved : tie.Need-loop-item-preserved invariant-loop-item decreases-loop-item
+loop-item-preserved c = let o = c.before.before.before.before.before.before.before.before.before.before.before.before.before.before.before.before.before.before.before.loop-item.invariant in (
   o.0,
-  c.before.before.built2.given ∙ c.before.before.before.before.before.before.before.before.put-packed.ensures.long ∙ o.1,
-  c.before.before.before.put-data.ensures.moves _ (moved_here c.before.before.before.before),
+  c.before.before.built-in-Item-1.given ∙ c.before.before.before.before.before.before.before.before.put_packed-to.ensures.long ∙ o.1,
+  c.before.before.before.put_data-here.ensures.moves _ (moved_here c.before.before.before.before),
   o.3,
 )
 
-enum_told : tie.Need-enum-told invariant-loop decreases-loop
-enum_told c = search rules
+enum_told-1 : tie.Need-enum_told-1 invariant-loop-item decreases-loop-item
+enum_told-1 c = search rules
 
-same-length-3 : tie.Need-same-length-3 invariant-loop decreases-loop
-same-length-3 c = c.before.before.before.loop.invariant.1
+shape_of-built-in-End : tie.Need-shape_of-built-in-End invariant-loop-item decreases-loop-item
+shape_of-built-in-End c = c.before.before.before.loop-item.invariant.1
 
-returns-4 : tie.Need-returns-4 invariant-loop decreases-loop
-returns-4 c = rw (to_z-of_z c.before.before.before.before.before.before.before.before.ranges.by) at (moving_over c.before.before.before.loop.invariant.2
-    (ends_there _ (sym c.before.before.piece-at.ensures ∙ c.enum_told.given.1)))
+returns-in-End : tie.Need-returns-in-End invariant-loop-item decreases-loop-item
+returns-in-End c = rw (to_z-of_z c.before.before.before.before.before.before.before.before.ranges.by) at (moving_over c.before.before.before.loop-item.invariant.2
+    (ends_there _ (sym c.before.before.piece_at.ensures ∙ c.enum_told-1.given.1)))
 
-enum-told-2 : tie.Need-enum-told-2 invariant-loop decreases-loop
-enum-told-2 c = search rules
+enum_told-in-Wrong : tie.Need-enum_told-in-Wrong invariant-loop-item decreases-loop-item
+enum_told-in-Wrong c = search rules
 
-same-length-4 : tie.Need-same-length-4 invariant-loop decreases-loop
-same-length-4 c = c.before.before.before.loop.invariant.1
+shape_of-built-in-Wrong : tie.Need-shape_of-built-in-Wrong invariant-loop-item decreases-loop-item
+shape_of-built-in-Wrong c = c.before.before.before.loop-item.invariant.1
 
-returns-5 : tie.Need-returns-5 invariant-loop decreases-loop
-returns-5 c = rw (walk-wrong on_no_plan _ c.before.before.before.loop.invariant.2.walk (wrong_there _ (sym c.before.before.piece-at.ensures ∙ c.enum-told2.given.1))) refl
+returns-in-Wrong : tie.Need-returns-in-Wrong invariant-loop-item decreases-loop-item
+returns-in-Wrong c = rw (walk-wrong on_no_plan _ c.before.before.before.loop-item.invariant.2.walk (wrong_there _ (sym c.before.before.piece_at.ensures ∙ c.enum_told-in-Wrong-1.given.1))) refl
 
 pub put_moved_spec : {M : Type 1} → statement M
 put_moved_spec =
     tie.close
     (tie.spec
-    invariant-loop
-    decreases-loop
-    returns
-    start-requires
-    loop-holds
-    piece-at-requires
-    enum-known-item
-    in-time-requires
-    same_length
-    returns-2
-    moved-tag-requires
+    invariant-loop-item
+    decreases-loop-item
+    returns-then-log-gt32768
+    start-to-requires
+    loop-item-init
+    piece_at-requires
+    enum_known-item
+    in_time-requires
+    shape_of-built-then-not-in_time
+    returns-then-not-in_time
+    moved_tag-time-requires
     judged-requires
-    same-length-2
-    returns-3
-    with-time-requires
-    put-packed-requires
-    add_at
-    cast-at
-    add-at-2
-    put-data-requires
-    loop-less
-    loop-again
-    enum_told
-    same-length-3
-    returns-4
-    enum-told-2
-    same-length-4
-    returns-5)
+    shape_of-built-then-time-ge42949672960000
+    returns-then-time-ge42949672960000
+    with_time-requires
+    put_packed-to-requires
+    overflow_add-at
+    overflow_cast-at
+    overflow_add-at-in-Item
+    put_data-here-requires
+    loop-item-smaller
+    loop-item-preserved
+    enum_told-1
+    shape_of-built-in-End
+    returns-in-End
+    enum_told-in-Wrong
+    shape_of-built-in-Wrong
+    returns-in-Wrong)

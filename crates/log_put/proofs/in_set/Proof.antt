@@ -3,11 +3,11 @@ use borrow.Author.Rules.{rules}
 use Rattle.log_put.proofs.in_set.Statement.{statement}
 use Rattle.log_put.proofs.in_set.Tie as tie
 
-cast-result : tie.Need-overflow-cast-result
-cast-result c = search rules
+overflow_cast-result-2 : tie.Need-overflow_cast-result-2
+overflow_cast-result-2 c = search rules
 
-shr-result : tie.Need-overflow-shr-result
-shr-result c = search rules
+overflow_shr-result : tie.Need-overflow_shr-result
+overflow_shr-result c = search rules
 
 returns : tie.Need-returns
 returns c = refl
@@ -16,6 +16,6 @@ pub in_set_spec : {M : Type 1} → statement M
 in_set_spec =
     tie.close
     (tie.spec
-    cast-result
-    shr-result
+    overflow_cast-result-2
+    overflow_shr-result
     returns)

@@ -9,28 +9,28 @@ use Rattle.log_put.proofs.in_set.Reads as in-set-reads
 use Rattle.log_put.proofs.put_packed.Reads as put-packed-reads
 use Rattle.log_walk.proofs.bus_in.Reads as bus-in-reads
 
-bus-in-requires : tie.Need-bus-in-requires
-bus-in-requires c κs = let f = c.before.requires.1 in (omega (arith, f.first_many), f.first_few)
+bus_in-requires : tie.Need-bus_in-requires
+bus_in-requires c κs = let f = c.before.requires.1 in (omega (arith, f.first_many), f.first_few)
 
-in-set-requires : tie.Need-in-set-requires
-in-set-requires c κs = search rules
+in_set-requires : tie.Need-in_set-requires
+in_set-requires c κs = search rules
 
-put-packed-requires : tie.Need-put-packed-requires
-put-packed-requires c κs = c.before.before.before.before.before.requires
+put_packed-requires : tie.Need-put_packed-requires
+put_packed-requires c κs = c.before.before.before.before.before.requires
 
-same_length : tie.Need-same-length
-same_length c = search rules
+shape_of-built-then-in_set : tie.Need-shape_of-built-then-in_set
+shape_of-built-then-in_set c = search rules
 
-returns : tie.Need-returns
-returns c =
+returns-then-in_set : tie.Need-returns-then-in_set
+returns-then-in_set c =
     let t = c.before.before.before.before in
     let s = t.before.before.before.before in
-    picked_yes s.args.buses _ s.args.item t.before.before.bus-in.ensures.0 t.before.in-set.ensures t.if1.true c.before.before.put-packed.ensures
+    picked_yes s.args.buses _ s.args.item t.before.before.bus_in.ensures.0 t.before.in_set.ensures t.if-in_set.true c.before.before.put_packed.ensures
 
-returns-2 : tie.Need-returns-2
-returns-2 c = picked_no c.before.before.before.before.args.buses _ c.before.before.before.before.args.item _ _ c.before.before.bus-in.ensures.0 c.before.in-set.ensures c.if1.false
+returns : tie.Need-returns
+returns c = picked_no c.before.before.before.before.args.buses _ c.before.before.before.before.args.item _ _ c.before.before.bus_in.ensures.0 c.before.in_set.ensures c.if-in_set.false
 
 pub put_if_spec : {M : Type 1} → statement M
 put_if_spec =
     tie.close
-    (tie.spec bus-in-requires in-set-requires put-packed-requires same_length returns returns-2)
+    (tie.spec bus_in-requires in_set-requires put_packed-requires shape_of-built-then-in_set returns-then-in_set returns)

@@ -18,160 +18,160 @@ use Rattle.log_walk.proofs.in_time.Reads as in-time-reads
 use Rattle.log_walk.proofs.item_in.Reads as item-in-reads
 use Rattle.log_walk.proofs.window_in.Reads as window-in-reads
 
-abbrev invariant-loop : tie.invariant-loop
-invariant-loop log buses built₀ at₀ to₀ stop built at to =
+abbrev invariant-loop-at : tie.invariant-loop-at
+invariant-loop-at log buses built₀ at₀ to₀ stop built at to =
     (length log ≤ 32768) × (length log + 8 ≤ length built₀) × (stop ≡ length log * 8) × (at₀ ≤ at) × (length built ≡ length built₀) × Picking log buses built at to
 
-abbrev decreases-loop : tie.decreases-loop
-decreases-loop log buses built₀ at₀ to₀ stop built at to = length log * 8 - at
+abbrev decreases-loop-at : tie.decreases-loop-at
+decreases-loop-at log buses built₀ at₀ to₀ stop built at to = length log * 8 - at
 
 -- a data word, and an item of any kind
-data_here : (c : tie.After-data-in invariant-loop decreases-loop) → Holds c.before.before.before.before.before.before.before.before.before.args.log.now
-    c.before.before.before.before.before.loop.at c.data-in.result
-data_here c = holds _ _ _ c.data-in.result c.data-in.ensures.0 refl
+data_here : (c : tie.After-data_in invariant-loop-at decreases-loop-at) → Holds c.before.before.before.before.before.before.before.before.before.args.log.now
+    c.before.before.before.before.before.loop-at.at c.data_in.result
+data_here c = holds _ _ _ c.data_in.result c.data_in.ensures.0 refl
 
-item_here : (c : tie.After-put-if-arg2 invariant-loop decreases-loop) → Holds
+item_here : (c : tie.After-put_if-arg-in-loop-at-1 invariant-loop-at decreases-loop-at) → Holds
     c.before.before.before.before.before.before.before.before.before.before.before.before.before.args.log.now
-    c.before.before.before.before.before.before.before.before.before.loop.at c.before.before.before.item_in.result
-item_here c = holds _ _ _ c.before.before.before.item_in.result c.before.before.before.item_in.ensures refl
+    c.before.before.before.before.before.before.before.before.before.loop-at.at c.before.before.before.item_in-item.result
+item_here c = holds _ _ _ c.before.before.before.item_in-item.result c.before.before.before.item_in-item.ensures refl
 
-mul-stop : tie.Need-overflow-mul-stop invariant-loop decreases-loop
-mul-stop c = search rules
+overflow_mul-stop : tie.Need-overflow_mul-stop invariant-loop-at decreases-loop-at
+overflow_mul-stop c = search rules
 
-loop-holds : tie.Need-loop-init invariant-loop decreases-loop
-loop-holds c = let q = c.before.before.before.requires in (q.0, q.1, refl, omega arith, refl, q.2)
+loop-at-init : tie.Need-loop-at-init invariant-loop-at decreases-loop-at
+loop-at-init c = let q = c.before.before.before.requires in (q.0, q.1, refl, omega arith, refl, q.2)
 
-add-loop : tie.Need-overflow-add-loop invariant-loop decreases-loop
-add-loop c = search rules
+overflow_add-at : tie.Need-overflow_add-at invariant-loop-at decreases-loop-at
+overflow_add-at c = search rules
 
-window-in-requires : tie.Need-window-in-requires invariant-loop decreases-loop
-window-in-requires c κs = search rules
+window_in-w-requires : tie.Need-window_in-w-requires invariant-loop-at decreases-loop-at
+window_in-w-requires c κs = search rules
 
-data-in-requires : tie.Need-data-in-requires invariant-loop decreases-loop
-data-in-requires c κs = (c.before.before.window-in.ensures, (omega (arith, c.before.before.before.loop-test.true), c.before.if1.true))
+data_in-requires : tie.Need-data_in-requires invariant-loop-at decreases-loop-at
+data_in-requires c κs = (c.before.before.window_in-w.ensures, (omega (arith, c.before.before.before.loop-at-test.true), c.before.if-kind-eq3.true))
 
-put-if-requires : tie.Need-put-if-requires invariant-loop decreases-loop
-put-if-requires c κs = let o = c.before.before.before.before.before.loop.invariant in picking-room o.5 (data_here c) _ o.0 (omega (arith, o.1, o.4))
+put_if-to-requires : tie.Need-put_if-to-requires invariant-loop-at decreases-loop-at
+put_if-to-requires c κs = let o = c.before.before.before.before.before.loop-at.invariant in picking-room o.5 (data_here c) _ o.0 (omega (arith, o.1, o.4))
 
-add_at : tie.Need-overflow-add-at invariant-loop decreases-loop
-add_at c = search rules
+overflow_add-at-then-kind-eq3 : tie.Need-overflow_add-at-then-kind-eq3 invariant-loop-at decreases-loop-at
+overflow_add-at-then-kind-eq3 c = search rules
 
-loop-less : tie.Need-loop-smaller invariant-loop decreases-loop
-loop-less c = omega (arith, c.before.before.before.before.before.before.before.loop-test.true)
+loop-at-smaller-then-kind-eq3 : tie.Need-loop-at-smaller-then-kind-eq3 invariant-loop-at decreases-loop-at
+loop-at-smaller-then-kind-eq3 c = omega (arith, c.before.before.before.before.before.before.before.loop-at-test.true)
 
-loop-again : tie.Need-loop-preserved invariant-loop decreases-loop
-loop-again c = let o = c.before.before.before.before.before.before.before.before.loop.invariant in
-    let d = c.before.before.before.data-in.ensures in (
+loop-at-preserved-then-kind-eq3 : tie.Need-loop-at-preserved-then-kind-eq3 invariant-loop-at decreases-loop-at
+loop-at-preserved-then-kind-eq3 c = let o = c.before.before.before.before.before.before.before.before.loop-at.invariant in
+    let d = c.before.before.before.data_in.ensures in (
       o.0,
       o.1,
       refl,
       omega (arith, o.3),
-      c.before.before.put_if.ensures.long ∙ o.4,
+      c.before.before.put_if-to.ensures.long ∙ o.4,
       picking-data o.5 (data_here c.before.before.before) d.1
-          d.2 d.3 c.before.before.put_if.ensures,
+          d.2 d.3 c.before.before.put_if-to.ensures,
     )
 
-item-in-requires : tie.Need-item-in-requires invariant-loop decreases-loop
-item-in-requires c κs = (
-  c.before.before.before.window-in.ensures,
+item_in-item-requires : tie.Need-item_in-item-requires invariant-loop-at decreases-loop-at
+item_in-item-requires c κs = (
+  c.before.before.before.window_in-w.ensures,
   (
-    omega (arith, c.before.before.before.before.loop-test.true),
+    omega (arith, c.before.before.before.before.loop-at-test.true),
     omega
-        (arith, c.before.before.before.before.before.loop.invariant.0),
-    pos_of _ c.before.if2.false,
-    c.if3.false,
+        (arith, c.before.before.before.before.before.loop-at.invariant.0),
+    pos_of _ c.before.if-kind-eq0.false,
+    c.if-kind-gt8.false,
   ),
 )
 
-in-time-requires : tie.Need-in-time-requires invariant-loop decreases-loop
-in-time-requires c κs = search rules
+in_time-requires : tie.Need-in_time-requires invariant-loop-at decreases-loop-at
+in_time-requires c κs = search rules
 
-put-if-requires-2 : tie.Need-put-if-requires-2 invariant-loop decreases-loop
-put-if-requires-2 c κs = let o = c.before.before.before.before.before.before.before.before.before.loop.invariant in picking-room o.5 (item_here c) _ o.0
+put_if-to-requires-in-loop-at : tie.Need-put_if-to-requires-in-loop-at invariant-loop-at decreases-loop-at
+put_if-to-requires-in-loop-at c κs = let o = c.before.before.before.before.before.before.before.before.before.loop-at.invariant in picking-room o.5 (item_here c) _ o.0
     (omega (arith, o.1, o.4))
 
-add-at-2 : tie.Need-overflow-add-at-2 invariant-loop decreases-loop
-add-at-2 c = let h = item_here c.before.before.before.before in omega (arith, h.says.first_few, h.says.behind_few)
+overflow_add-at-in-loop-at : tie.Need-overflow_add-at-in-loop-at invariant-loop-at decreases-loop-at
+overflow_add-at-in-loop-at c = let h = item_here c.before.before.before.before in omega (arith, h.says.first_few, h.says.behind_few)
 
-cast-at : tie.Need-overflow-cast-at invariant-loop decreases-loop
-cast-at c = search rules
+overflow_cast-at : tie.Need-overflow_cast-at invariant-loop-at decreases-loop-at
+overflow_cast-at c = search rules
 
-add-at-3 : tie.Need-overflow-add-at-3 invariant-loop decreases-loop
-add-at-3 c = let o = c.before.before.before.before.before.before.before.before.before.before.before.before.before.loop.invariant in omega
+overflow_add-at-in-loop-at-2 : tie.Need-overflow_add-at-in-loop-at-2 invariant-loop-at decreases-loop-at
+overflow_add-at-in-loop-at-2 c = let o = c.before.before.before.before.before.before.before.before.before.before.before.before.before.loop-at.invariant in omega
     (arith, o.0, next_fits o.5.walk (item_here c.before.before.before.before))
 
-loop-less-2 : tie.Need-loop-smaller-2 invariant-loop decreases-loop
-loop-less-2 c = let h = item_here c.before.before.before.before in omega (
+loop-at-smaller : tie.Need-loop-at-smaller invariant-loop-at decreases-loop-at
+loop-at-smaller c = let h = item_here c.before.before.before.before in omega (
   arith,
   h.many,
   next_fits
-      c.before.before.before.before.before.before.before.before.before.before.before.before.before.loop.invariant.5.walk h,
+      c.before.before.before.before.before.before.before.before.before.before.before.before.before.loop-at.invariant.5.walk h,
 )
 
-loop-again-2 : tie.Need-loop-preserved-2 invariant-loop decreases-loop
-loop-again-2 c = let o = c.before.before.before.before.before.before.before.before.before.before.before.before.before.loop.invariant in
-    let t = sym c.before.before.before.before.before.before.in_time.ensures ∙ not_false _ c.before.before.before.before.before.if4.false in (
+loop-at-preserved : tie.Need-loop-at-preserved invariant-loop-at decreases-loop-at
+loop-at-preserved c = let o = c.before.before.before.before.before.before.before.before.before.before.before.before.before.loop-at.invariant in
+    let t = sym c.before.before.before.before.before.before.in_time.ensures ∙ not_false _ c.before.before.before.before.before.if-not-in_time.false in (
       o.0,
       o.1,
       refl,
       omega (arith, o.3),
-      c.before.before.before.put-if2.ensures.long ∙ o.4,
+      c.before.before.before.put_if-to-in-loop-at.ensures.long ∙ o.4,
       picking-more o.5 (item_here
-          c.before.before.before.before) t c.before.before.before.put-if2.ensures,
+          c.before.before.before.before) t c.before.before.before.put_if-to-in-loop-at.ensures,
     )
 
-same_length : tie.Need-same-length invariant-loop decreases-loop
-same_length c = c.before.loop.invariant.4
+shape_of-built-after-loop-at : tie.Need-shape_of-built-after-loop-at invariant-loop-at decreases-loop-at
+shape_of-built-after-loop-at c = c.before.loop-at.invariant.4
 
-returns : tie.Need-returns invariant-loop decreases-loop
-returns c = (c.before.loop.invariant.3, c.before.loop.invariant.5)
+returns-after-loop-at : tie.Need-returns-after-loop-at invariant-loop-at decreases-loop-at
+returns-after-loop-at c = (c.before.loop-at.invariant.3, c.before.loop-at.invariant.5)
 
-same-length-2 : tie.Need-same-length-2 invariant-loop decreases-loop
-same-length-2 c = c.before.before.before.before.loop.invariant.4
+shape_of-built-then-kind-eq0 : tie.Need-shape_of-built-then-kind-eq0 invariant-loop-at decreases-loop-at
+shape_of-built-then-kind-eq0 c = c.before.before.before.before.loop-at.invariant.4
 
-returns-2 : tie.Need-returns-2 invariant-loop decreases-loop
-returns-2 c = (c.before.before.before.before.loop.invariant.3, c.before.before.before.before.loop.invariant.5)
+returns-then-kind-eq0 : tie.Need-returns-then-kind-eq0 invariant-loop-at decreases-loop-at
+returns-then-kind-eq0 c = (c.before.before.before.before.loop-at.invariant.3, c.before.before.before.before.loop-at.invariant.5)
 
-same-length-3 : tie.Need-same-length-3 invariant-loop decreases-loop
-same-length-3 c = c.before.before.before.before.before.loop.invariant.4
+shape_of-built-then-kind-gt8 : tie.Need-shape_of-built-then-kind-gt8 invariant-loop-at decreases-loop-at
+shape_of-built-then-kind-gt8 c = c.before.before.before.before.before.loop-at.invariant.4
 
-returns-3 : tie.Need-returns-3 invariant-loop decreases-loop
-returns-3 c = (c.before.before.before.before.before.loop.invariant.3, c.before.before.before.before.before.loop.invariant.5)
+returns-then-kind-gt8 : tie.Need-returns-then-kind-gt8 invariant-loop-at decreases-loop-at
+returns-then-kind-gt8 c = (c.before.before.before.before.before.loop-at.invariant.3, c.before.before.before.before.before.loop-at.invariant.5)
 
-same-length-4 : tie.Need-same-length-4 invariant-loop decreases-loop
-same-length-4 c = c.before.before.before.before.before.before.before.before.loop.invariant.4
+shape_of-built-then-not-in_time : tie.Need-shape_of-built-then-not-in_time invariant-loop-at decreases-loop-at
+shape_of-built-then-not-in_time c = c.before.before.before.before.before.before.before.before.loop-at.invariant.4
 
-returns-4 : tie.Need-returns-4 invariant-loop decreases-loop
-returns-4 c = (c.before.before.before.before.before.before.before.before.loop.invariant.3, c.before.before.before.before.before.before.before.before.loop.invariant.5)
+returns-then-not-in_time : tie.Need-returns-then-not-in_time invariant-loop-at decreases-loop-at
+returns-then-not-in_time c = (c.before.before.before.before.before.before.before.before.loop-at.invariant.3, c.before.before.before.before.before.before.before.before.loop-at.invariant.5)
 
 pub put_run_spec : {M : Type 1} → statement M
 put_run_spec =
     tie.close
     (tie.spec
-    invariant-loop
-    decreases-loop
-    mul-stop
-    loop-holds
-    add-loop
-    window-in-requires
-    data-in-requires
-    put-if-requires
-    add_at
-    loop-less
-    loop-again
-    item-in-requires
-    in-time-requires
-    put-if-requires-2
-    add-at-2
-    cast-at
-    add-at-3
-    loop-less-2
-    loop-again-2
-    same_length
-    returns
-    same-length-2
-    returns-2
-    same-length-3
-    returns-3
-    same-length-4
-    returns-4)
+    invariant-loop-at
+    decreases-loop-at
+    overflow_mul-stop
+    loop-at-init
+    overflow_add-at
+    window_in-w-requires
+    data_in-requires
+    put_if-to-requires
+    overflow_add-at-then-kind-eq3
+    loop-at-smaller-then-kind-eq3
+    loop-at-preserved-then-kind-eq3
+    item_in-item-requires
+    in_time-requires
+    put_if-to-requires-in-loop-at
+    overflow_add-at-in-loop-at
+    overflow_cast-at
+    overflow_add-at-in-loop-at-2
+    loop-at-smaller
+    loop-at-preserved
+    shape_of-built-after-loop-at
+    returns-after-loop-at
+    shape_of-built-then-kind-eq0
+    returns-then-kind-eq0
+    shape_of-built-then-kind-gt8
+    returns-then-kind-gt8
+    shape_of-built-then-not-in_time
+    returns-then-not-in_time)

@@ -11,75 +11,75 @@ use Rattle.log_replay.proofs.give.Statement.{statement}
 use Rattle.log_replay.proofs.give.Tie as tie
 
 -- how the log's length was judged
-abbrev close_of : tie.After-fits-in → tie.After-close
+abbrev close_of : tie.After-fits_in → tie.After-close-bytes
 close_of c = c.before.before.before
 
-judged : (c : tie.After-fits-in) → let bytes = (close_of c).close.result in
-    (leb bytes 32768 && leb bytes (length (close_of c).before.before.before.before.args.out.now)) ≡ c.fits_in.result
+judged : (c : tie.After-fits_in) → let bytes = (close_of c).close-bytes.result in
+    (leb bytes 32768 && leb bytes (length (close_of c).before.before.before.before.args.out-1.now)) ≡ c.fits_in.result
 judged c = sym c.fits_in.ensures
 
 -- where it fits, there is room for it everywhere
-room : (c : tie.Else1) → let start = c.before.before.before.before.before.before.before.before in let bytes = c.before.before.before.before.close.result in
-    (bytes ≤ length start.args.out.now) × (bytes + 7 ≤ length start.args.built.now)
+room : (c : tie.Else-not-fits_in) → let start = c.before.before.before.before.before.before.before.before in let bytes = c.before.before.before.before.close-bytes.result in
+    (bytes ≤ length start.args.out-1.now) × (bytes + 7 ≤ length start.args.built-1.now)
 room c =
     let start = c.before.before.before.before.before.before.before.before in
-    enough c.before.before.before.before.close.result (length start.args.out.now) (length start.args.built.now)
-    (judged c.before ∙ not_false c.before.fits_in.result c.if1.false)
+    enough c.before.before.before.before.close-bytes.result (length start.args.out-1.now) (length start.args.built-1.now)
+    (judged c.before ∙ not_false c.before.fits_in.result c.if-not-fits_in.false)
     start.requires.1
 
-close-requires : tie.Need-close-requires
-close-requires c κs = search rules
+close-bytes-requires : tie.Need-close-bytes-requires
+close-bytes-requires c κs = search rules
 
-fits-in-requires : tie.Need-fits-in-requires
-fits-in-requires c κs = search rules
+fits_in-requires : tie.Need-fits_in-requires
+fits_in-requires c κs = search rules
 
 deny-requires : tie.Need-deny-requires
 deny-requires c κs = search rules
 
-same_length : tie.Need-same-length
-same_length c = search rules
+shape_of-built-then-not-fits_in : tie.Need-shape_of-built-then-not-fits_in
+shape_of-built-then-not-fits_in c = search rules
 
-returns : tie.Need-returns
-returns c =
+returns-then-not-fits_in : tie.Need-returns-then-not-fits_in
+returns-then-not-fits_in c =
     let fits = c.before.before in
     let close = close_of fits in
     let a = close.before.before.before.before.args in
     λ s e.
-    gives_short s a.built.now a.level a.pen e close.close.result close.close.ensures.0 a.out.now _
-    (judged fits ∙ not_true fits.fits_in.result c.before.if1.true) c.deny.ensures
+    gives_short s a.built-1.now a.level a.pen e close.close-bytes.result close.close-bytes.ensures.0 a.out-1.now _
+    (judged fits ∙ not_true fits.fits_in.result c.before.if-not-fits_in.true) c.deny.ensures
 
-hand-over-requires : tie.Need-hand-over-requires
-hand-over-requires c κs =
+hand_over-requires : tie.Need-hand_over-requires
+hand_over-requires c κs =
     let test = c.before.before in
-    ((room test).0, omega (arith, c.before.before.before.before.before.built.given, (room test).1))
+    ((room test).0, omega (arith, c.before.before.before.before.before.built-1.given, (room test).1))
 
-same-length-2 : tie.Need-same-length-2
-same-length-2 c = search rules
+shape_of-built : tie.Need-shape_of-built
+shape_of-built c = search rules
 
-same-length-3 : tie.Need-same-length-3
-same-length-3 c = search rules
+shape_of-out : tie.Need-shape_of-out
+shape_of-out c = search rules
 
-returns-2 : tie.Need-returns-2
-returns-2 c =
+returns : tie.Need-returns
+returns c =
     let hand = c.before.before in
     let test = hand.before.before.before in
     let fits = test.before in
     let close = close_of fits in
     let a = close.before.before.before.before.args in
     λ s e.
-    gives_whole s a.built.now a.level a.pen e close.close.result close.close.ensures.0 a.out.now _ _ _
-    (judged fits ∙ not_false fits.fits_in.result test.if1.false) (room test).1 close.close.ensures.1 hand.hand-over.ensures
+    gives_whole s a.built-1.now a.level a.pen e close.close-bytes.result close.close-bytes.ensures.0 a.out-1.now _ _ _
+    (judged fits ∙ not_false fits.fits_in.result test.if-not-fits_in.false) (room test).1 close.close-bytes.ensures.1 hand.hand_over.ensures
 
 pub give_spec : {M : Type 1} → statement M
 give_spec =
     tie.close
     (tie.spec
-    close-requires
-    fits-in-requires
+    close-bytes-requires
+    fits_in-requires
     deny-requires
-    same_length
-    returns
-    hand-over-requires
-    same-length-2
-    same-length-3
-    returns-2)
+    shape_of-built-then-not-fits_in
+    returns-then-not-fits_in
+    hand_over-requires
+    shape_of-built
+    shape_of-out
+    returns)

@@ -6,20 +6,20 @@ use Rattle.log_replay.proofs.hand_over.Tie as tie
 copy-requires : tie.Need-copy-requires
 copy-requires c κs = search rules
 
-cast-t9 : tie.Need-overflow-cast-t9
-cast-t9 c = search rules
+overflow_cast-result : tie.Need-overflow_cast-result
+overflow_cast-result c = search rules
 
-cast-t10 : tie.Need-overflow-cast-t10
-cast-t10 c = search rules
+overflow_cast-result-2 : tie.Need-overflow_cast-result-2
+overflow_cast-result-2 c = search rules
 
-cast-t11 : tie.Need-overflow-cast-t11
-cast-t11 c = search rules
+overflow_cast-result-3 : tie.Need-overflow_cast-result-3
+overflow_cast-result-3 c = search rules
 
-same_length : tie.Need-same-length
-same_length c = search rules
+shape_of-out : tie.Need-shape_of-out
+shape_of-out c = search rules
 
 returns : tie.Need-returns
 returns c = (refl, c.before.before.before.before.before.copy.ensures)
 
 pub hand_over_spec : {M : Type 1} → statement M
-hand_over_spec = tie.close (tie.spec copy-requires cast-t9 cast-t10 cast-t11 same_length returns)
+hand_over_spec = tie.close (tie.spec copy-requires overflow_cast-result overflow_cast-result-2 overflow_cast-result-3 shape_of-out returns)

@@ -9,49 +9,49 @@ use borrow.Author.Rules.{rules}
 use Rattle.log_replay.proofs.replay.Statement.{statement}
 use Rattle.log_replay.proofs.replay.Tie as tie
 
-refused-by-requires : tie.Need-refused-by-requires
-refused-by-requires c κs = search rules
+refused_by-requires : tie.Need-refused_by-requires
+refused_by-requires c κs = search rules
 
-enum_told : tie.Need-enum-told
-enum_told c = search rules
+enum_told-1 : tie.Need-enum_told-1
+enum_told-1 c = search rules
 
-replay-sized-requires : tie.Need-replay-sized-requires
-replay-sized-requires c κs =
+replay_sized-requires : tie.Need-replay_sized-requires
+replay_sized-requires c κs =
     let verdict = c.before.before.before in
     let a = verdict.before.before.before.before.args in
     ready_of a.log.now a.events.now a.capacity a.slots
-    (may_none (refused_by a.events.now a.capacity a.slots (parsed on_no_plan a.log.now)) (sym c.before.enum_told.given.1 ∙ verdict.refused_by.ensures))
+    (may_none (refused_by a.events.now a.capacity a.slots (parsed on_no_plan a.log.now)) (sym c.before.enum_told-1.given.1 ∙ verdict.refused_by.ensures))
 
-enum-known-number : tie.Need-enum-known-number
-enum-known-number c = search rules
+enum_known-number : tie.Need-enum_known-number
+enum_known-number c = search rules
 
 deny-requires : tie.Need-deny-requires
 deny-requires c κs = search rules
 
-same_length : tie.Need-same-length
-same_length c = search rules
+shape_of-out : tie.Need-shape_of-out
+shape_of-out c = search rules
 
-returns : tie.Need-returns
-returns c = c.before.before.replay-sized.ensures
+returns-in-May : tie.Need-returns-in-May
+returns-in-May c = c.before.before.replay_sized.ensures
 
-returns-2 : tie.Need-returns-2
-returns-2 c =
+returns-in-Not : tie.Need-returns-in-Not
+returns-in-Not c =
     let verdict = c.before.before.before.before in
     let a = verdict.before.before.before.before.args in
     let by = refused_by a.events.now a.capacity a.slots (parsed on_no_plan a.log.now) in
-    let told : by ≡ found _ _ = not_found by _ _ (sym c.before.before.number.given.1 ∙ verdict.refused_by.ensures) in
-    rw (replayed_refused a.log.now a.events.now a.capacity a.slots (length a.out.now) _ _ told)
+    let told : by ≡ found _ _ = not_found by _ _ (sym c.before.before.number-1.given.1 ∙ verdict.refused_by.ensures) in
+    rw (replayed_refused a.log.now a.events.now a.capacity a.slots (length a.out-1.now) _ _ told)
     (c.deny.ensures, refl)
 
 pub replay_spec : {M : Type 1} → statement M
 replay_spec =
     tie.close
     (tie.spec
-    refused-by-requires
-    enum_told
-    replay-sized-requires
-    enum-known-number
+    refused_by-requires
+    enum_told-1
+    replay_sized-requires
+    enum_known-number
     deny-requires
-    same_length
-    returns
-    returns-2)
+    shape_of-out
+    returns-in-May
+    returns-in-Not)

@@ -7,72 +7,72 @@ use borrow.Author.Rules.{rules}
 use Rattle.log_replay.proofs.run.Statement.{statement}
 use Rattle.log_replay.proofs.run.Tie as tie
 
-abbrev invariant-loop : tie.invariant-loop
-invariant-loop log events capacity slots built₀ state₀ i₀ built state i = (i ≤ length events) × (length built ≡ length built₀) × Running log events capacity slots built state i
+abbrev invariant-loop-i : tie.invariant-loop-i
+invariant-loop-i log events capacity slots built₀ state₀ i₀ built state i = (i ≤ length events) × (length built ≡ length built₀) × Running log events capacity slots built state i
 
-abbrev decreases-loop : tie.decreases-loop
-decreases-loop log events capacity slots built₀ state₀ i₀ built state i = length events - i
+abbrev decreases-loop-i : tie.decreases-loop-i
+decreases-loop-i log events capacity slots built₀ state₀ i₀ built state i = length events - i
 
-start-requires : tie.Need-start-requires invariant-loop decreases-loop
-start-requires c κs = search rules
+start-state-requires : tie.Need-start-state-requires invariant-loop-i decreases-loop-i
+start-state-requires c κs = search rules
 
-loop-holds : tie.Need-loop-init invariant-loop decreases-loop
-loop-holds c =
+loop-i-init : tie.Need-loop-i-init invariant-loop-i decreases-loop-i
+loop-i-init c =
     let start = c.before.before.before.before in
     let a = start.args in
-    (omega arith, refl, rw c.start.ensures (running_start a.log.now a.events.now a.capacity a.slots start.requires a.built.now))
+    (omega arith, refl, rw c.start-state.ensures (running_start a.log.now a.events.now a.capacity a.slots start.requires a.built-1.now))
 
-shared-slice-read-turn : tie.Need-shared-slice-read-turn invariant-loop decreases-loop
-shared-slice-read-turn c = search rules
+bounds-events-i : tie.Need-bounds-events-i invariant-loop-i decreases-loop-i
+bounds-events-i c = search rules
 
-turn-requires : tie.Need-turn-requires invariant-loop decreases-loop
-turn-requires c κs =
+turn-state-requires : tie.Need-turn-state-requires invariant-loop-i decreases-loop-i
+turn-state-requires c κs =
     let o = c.before.before.before in
     let start = o.before.before.before.before.before in
     let a = start.args in
-    let h = running-small a.log.now a.events.now a.capacity a.slots start.requires o.loop.invariant.2 o.loop.invariant.0 in
+    let h = running-small a.log.now a.events.now a.capacity a.slots start.requires o.loop-i.invariant.2 o.loop-i.invariant.0 in
     (start.requires.0, h.0, h.1)
 
-add-i : tie.Need-overflow-add-i invariant-loop decreases-loop
-add-i c = search rules
+overflow_add-i : tie.Need-overflow_add-i invariant-loop-i decreases-loop-i
+overflow_add-i c = search rules
 
-loop-less : tie.Need-loop-smaller invariant-loop decreases-loop
-loop-less c = search rules
+loop-i-smaller : tie.Need-loop-i-smaller invariant-loop-i decreases-loop-i
+loop-i-smaller c = search rules
 
-loop-again : tie.Need-loop-preserved invariant-loop decreases-loop
-loop-again c =
+loop-i-preserved : tie.Need-loop-i-preserved invariant-loop-i decreases-loop-i
+loop-i-preserved c =
     let turn = c.before.before in
     let test = turn.before.before.before in
     let o = test.before in
     let start = o.before.before.before.before.before in
     let a = start.args in (
       omega arith,
-      c.before.built.given ∙ o.loop.invariant.1,
-      running_more a.log.now a.events.now a.capacity a.slots start.requires o.loop.invariant.2 _ _ test.loop-test.true turn.turn.ensures,
+      c.before.built-1.given ∙ o.loop-i.invariant.1,
+      running_more a.log.now a.events.now a.capacity a.slots start.requires o.loop-i.invariant.2 _ _ test.loop-i-test.true turn.turn-state.ensures,
     )
 
-same_length : tie.Need-same-length invariant-loop decreases-loop
-same_length c = c.before.loop.invariant.1
+shape_of-built : tie.Need-shape_of-built invariant-loop-i decreases-loop-i
+shape_of-built c = c.before.loop-i.invariant.1
 
-returns : tie.Need-returns invariant-loop decreases-loop
+returns : tie.Need-returns invariant-loop-i decreases-loop-i
 returns c =
     let o = c.before in
     let start = o.before.before.before.before.before in
     let a = start.args in
-    running-over a.log.now a.events.now a.capacity a.slots start.requires o.loop.invariant.2 o.loop.invariant.0 c.loop-test.false
+    running-over a.log.now a.events.now a.capacity a.slots start.requires o.loop-i.invariant.2 o.loop-i.invariant.0 c.loop-i-test.false
 
 pub run_spec : {M : Type 1} → statement M
 run_spec =
     tie.close
     (tie.spec
-    invariant-loop
-    decreases-loop
-    start-requires
-    loop-holds
-    shared-slice-read-turn
-    turn-requires
-    add-i
-    loop-less
-    loop-again
-    same_length
+    invariant-loop-i
+    decreases-loop-i
+    start-state-requires
+    loop-i-init
+    bounds-events-i
+    turn-state-requires
+    overflow_add-i
+    loop-i-smaller
+    loop-i-preserved
+    shape_of-built
     returns)

@@ -17,61 +17,61 @@ use Rattle.log_shift.proofs.first_unmovable.Lts as lts
 use Rattle.log_move.proofs.moved_by.Reads as moved-by-reads
 use Rattle.log_shift.proofs.time_at.Reads as time-at-reads
 
-abbrev invariant-loop : tie.invariant-loop
-invariant-loop times by number index₀ index = (index ≤ number) × (number ≡ length times / 8) × (first_unmovable (to_z w64 by) (times_from times) ≡ unmovable_from (to_z w64 by) index (list (λ i. time_at times (8 * i)) index (number - index)))
+abbrev invariant-loop-index : tie.invariant-loop-index
+invariant-loop-index times by number index₀ index = (index ≤ number) × (number ≡ length times / 8) × (first_unmovable (to_z w64 by) (times_from times) ≡ unmovable_from (to_z w64 by) index (list (λ i. time_at times (8 * i)) index (number - index)))
 
-abbrev decreases-loop : tie.decreases-loop
-decreases-loop times by number index₀ index = number - index
+abbrev decreases-loop-index : tie.decreases-loop-index
+decreases-loop-index times by number index₀ index = number - index
 
-loop-holds : tie.Need-loop-init invariant-loop decreases-loop
-loop-holds c =
+loop-index-init : tie.Need-loop-index-init invariant-loop-index decreases-loop-index
+loop-index-init c =
     let n = length c.before.args.times.now / 8 in
     let e : n - 0 ≡ n = omega arith in
     (omega arith, refl, rw e refl)
 
-time-at-requires : tie.Need-time-at-requires invariant-loop decreases-loop
-time-at-requires c κs = omega (arith, c.loop-test.true, c.before.loop.invariant.1)
+time_at-requires : tie.Need-time_at-requires invariant-loop-index decreases-loop-index
+time_at-requires c κs = omega (arith, c.loop-index-test.true, c.before.loop-index.invariant.1)
 
-moved-by-requires : tie.Need-moved-by-requires invariant-loop decreases-loop
-moved-by-requires c κs = rw (to_z-of_z c.before.before.before.before.ranges.by) c.before.before.before.before.requires
+moved_by-requires : tie.Need-moved_by-requires invariant-loop-index decreases-loop-index
+moved_by-requires c κs = rw (to_z-of_z c.before.before.before.before.ranges.by) c.before.before.before.before.requires
 
-returns : tie.Need-returns invariant-loop decreases-loop
+returns-then-moved_by-ge42949672960000 : tie.Need-returns-then-moved_by-ge42949672960000 invariant-loop-index decreases-loop-index
+returns-then-moved_by-ge42949672960000 c =
+    let o = c.before.before.before.before.loop-index in
+    let f : ℕ → ℕ = λ i. time_at c.before.before.before.before.before.before.args.times.now (8 * i) in
+    let l = rw (c.before.moved_by.ensures, c.before.before.time_at.ensures) at c.if-moved_by-ge42949672960000.true in
+    rw (to_z-of_z c.before.before.before.before.before.before.ranges.by) at (sym (o.invariant.2 ∙ row_hit _ f o.index _ c.before.before.before.loop-index-test.true l))
+
+overflow_add-index : tie.Need-overflow_add-index invariant-loop-index decreases-loop-index
+overflow_add-index c = search rules
+
+loop-index-smaller : tie.Need-loop-index-smaller invariant-loop-index decreases-loop-index
+loop-index-smaller c = search rules
+
+loop-index-preserved : tie.Need-loop-index-preserved invariant-loop-index decreases-loop-index
+loop-index-preserved c =
+    let o = c.before.before.before.before.loop-index in
+    let f : ℕ → ℕ = λ i. time_at c.before.before.before.before.before.before.args.times.now (8 * i) in
+    let l = rw (c.before.moved_by.ensures, c.before.before.time_at.ensures) at c.if-moved_by-ge42949672960000.false in
+    (omega arith, o.invariant.1, o.invariant.2 ∙ row_miss _ f o.index _ c.before.before.before.loop-index-test.true l)
+
+returns : tie.Need-returns invariant-loop-index decreases-loop-index
 returns c =
-    let o = c.before.before.before.before.loop in
-    let f : ℕ → ℕ = λ i. time_at c.before.before.before.before.before.before.args.times.now (8 * i) in
-    let l = rw (c.before.moved_by.ensures, c.before.before.time_at.ensures) at c.if1.true in
-    rw (to_z-of_z c.before.before.before.before.before.before.ranges.by) at (sym (o.invariant.2 ∙ row_hit _ f o.index _ c.before.before.before.loop-test.true l))
-
-add-index : tie.Need-overflow-add-index invariant-loop decreases-loop
-add-index c = search rules
-
-loop-less : tie.Need-loop-smaller invariant-loop decreases-loop
-loop-less c = search rules
-
-loop-again : tie.Need-loop-preserved invariant-loop decreases-loop
-loop-again c =
-    let o = c.before.before.before.before.loop in
-    let f : ℕ → ℕ = λ i. time_at c.before.before.before.before.before.before.args.times.now (8 * i) in
-    let l = rw (c.before.moved_by.ensures, c.before.before.time_at.ensures) at c.if1.false in
-    (omega arith, o.invariant.1, o.invariant.2 ∙ row_miss _ f o.index _ c.before.before.before.loop-test.true l)
-
-returns-2 : tie.Need-returns-2 invariant-loop decreases-loop
-returns-2 c =
-    let o = c.before.loop in
+    let o = c.before.loop-index in
     let f : ℕ → ℕ = λ i. time_at c.before.before.before.args.times.now (8 * i) in
-    rw (to_z-of_z c.before.before.before.ranges.by) at (sym (o.invariant.2 ∙ row_end _ f o.index _ c.loop-test.false))
+    rw (to_z-of_z c.before.before.before.ranges.by) at (sym (o.invariant.2 ∙ row_end _ f o.index _ c.loop-index-test.false))
 
 pub first_unmovable_spec : {M : Type 1} → statement M
 first_unmovable_spec =
     tie.close
     (tie.spec
-    invariant-loop
-    decreases-loop
-    loop-holds
-    time-at-requires
-    moved-by-requires
-    returns
-    add-index
-    loop-less
-    loop-again
-    returns-2)
+    invariant-loop-index
+    decreases-loop-index
+    loop-index-init
+    time_at-requires
+    moved_by-requires
+    returns-then-moved_by-ge42949672960000
+    overflow_add-index
+    loop-index-smaller
+    loop-index-preserved
+    returns)

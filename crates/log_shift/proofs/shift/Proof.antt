@@ -13,58 +13,58 @@ use Rattle.log_move.proofs.in_limits.Reads as in-limits-reads
 use Rattle.log_move.proofs.judged.Reads as judged-reads
 use Rattle.log_shift.proofs.shift_moved.Reads as shift-moved-reads
 
-in-limits-requires : tie.Need-in-limits-requires
-in-limits-requires c κs = search rules
+in_limits-requires : tie.Need-in_limits-requires
+in_limits-requires c κs = search rules
 
-shift-moved-requires : tie.Need-shift-moved-requires
-shift-moved-requires c κs = rw (to_z-of_z c.before.before.before.before.before.before.before.ranges.by) (sym (rw (to_z-of_z c.before.before.before.before.before.before.before.ranges.by) at c.before.before.before.in_limits.ensures) ∙ c.before.before.if1.true)
+shift_moved-requires : tie.Need-shift_moved-requires
+shift_moved-requires c κs = rw (to_z-of_z c.before.before.before.before.before.before.before.ranges.by) (sym (rw (to_z-of_z c.before.before.before.before.before.before.before.ranges.by) at c.before.before.before.in_limits.ensures) ∙ c.before.before.if-in_limits.true)
 
-same_length : tie.Need-same-length
-same_length c = search rules
+shape_of-times-then-in_limits : tie.Need-shape_of-times-then-in_limits
+shape_of-times-then-in_limits c = search rules
 
-same-length-2 : tie.Need-same-length-2
-same-length-2 c = search rules
+shape_of-out-then-in_limits : tie.Need-shape_of-out-then-in_limits
+shape_of-out-then-in_limits c = search rules
 
-returns : tie.Need-returns
-returns c = rw (to_z-of_z c.before.before.before.before.before.before.before.before.before.before.before.before.ranges.by) at c.before.before.before.before.shift-moved.ensures
+returns-then-in_limits : tie.Need-returns-then-in_limits
+returns-then-in_limits c = rw (to_z-of_z c.before.before.before.before.before.before.before.before.before.before.before.before.ranges.by) at c.before.before.before.before.shift_moved.ensures
 
 judged-requires : tie.Need-judged-requires
 judged-requires c κs = search rules
 
-enum_told : tie.Need-enum-told
-enum_told c = search rules
+enum_told-1 : tie.Need-enum_told-1
+enum_told-1 c = search rules
 
 refusal-requires : tie.Need-refusal-requires
 refusal-requires c κs = search rules
 
-enum-known-number : tie.Need-enum-known-number
-enum-known-number c = search rules
+enum_known-number : tie.Need-enum_known-number
+enum_known-number c = search rules
 
-refusal-requires-2 : tie.Need-refusal-requires-2
-refusal-requires-2 c κs = search rules
+refusal-requires-in-Fault : tie.Need-refusal-requires-in-Fault
+refusal-requires-in-Fault c κs = search rules
 
-returns-2 : tie.Need-returns-2
-returns-2 c = never_all (parsed on_no_plan c.before.before.before.before.before.before.before.before.before.args.log.now) 0 _ _ c.before.before.before.judged.ensures c.before.enum_told.given.1
+returns-in-All : tie.Need-returns-in-All
+returns-in-All c = never_all (parsed on_no_plan c.before.before.before.before.before.before.before.before.before.args.log.now) 0 _ _ c.before.before.before.judged.ensures c.before.enum_told-1.given.1
 
-returns-3 : tie.Need-returns-3
-returns-3 c =
+returns-in-Fault : tie.Need-returns-in-Fault
+returns-in-Fault c =
     let a = c.before.before.before.before.before.before.before.before.before.before.args in
-    let l = sym (rw (to_z-of_z c.before.before.before.before.before.before.before.before.before.before.ranges.by) at c.before.before.before.before.before.before.in_limits.ensures) ∙ c.before.before.before.before.before.if1.false in
-    beyond_limits a.log.now _ a.by _ _ _ _ _ _ _ l c.before.before.before.before.judged.ensures c.before.before.number.given.1 c.refusal2.ensures
+    let l = sym (rw (to_z-of_z c.before.before.before.before.before.before.before.before.before.before.ranges.by) at c.before.before.before.before.before.before.in_limits.ensures) ∙ c.before.before.before.before.before.if-in_limits.false in
+    beyond_limits a.log.now _ a.by _ _ _ _ _ _ _ l c.before.before.before.before.judged.ensures c.before.before.number-1.given.1 c.refusal-in-Fault.ensures
 
 pub shift_spec : {M : Type 1} → statement M
 shift_spec =
     tie.close
     (tie.spec
-    in-limits-requires
-    shift-moved-requires
-    same_length
-    same-length-2
-    returns
+    in_limits-requires
+    shift_moved-requires
+    shape_of-times-then-in_limits
+    shape_of-out-then-in_limits
+    returns-then-in_limits
     judged-requires
-    enum_told
+    enum_told-1
     refusal-requires
-    enum-known-number
-    refusal-requires-2
-    returns-2
-    returns-3)
+    enum_known-number
+    refusal-requires-in-Fault
+    returns-in-All
+    returns-in-Fault)

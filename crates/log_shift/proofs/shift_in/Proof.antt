@@ -14,42 +14,42 @@ use Rattle.log_shift.proofs.shift_in.Lts as lts
 use Rattle.log_move.proofs.put_moved.Reads as put-moved-reads
 use Rattle.log_shift.proofs.shift_put.Reads as shift-put-reads
 
-put-moved-requires : tie.Need-put-moved-requires
-put-moved-requires c κs = (
+put_moved-put-requires : tie.Need-put_moved-put-requires
+put_moved-put-requires c κs = (
   rw (to_z-of_z c.before.before.before.before.before.ranges.by)
       c.before.before.before.before.before.requires.0,
   λ h. room_for _ _ c.before.before.before.before.before.requires.1 h,
 )
 
-shift-put-requires : tie.Need-shift-put-requires
-shift-put-requires c κs = let a = c.before.before.before.before.before.before.before.before.before.before.before.args in
+shift_put-requires : tie.Need-shift_put-requires
+shift_put-requires c κs = let a = c.before.before.before.before.before.before.before.before.before.before.before.args in
     let s = rw (to_z-of_z c.before.before.before.before.before.before.before.before.before.before.before.ranges.by) at
-    c.before.before.before.before.before.put-moved.ensures in (
+    c.before.before.before.before.before.put_moved-put.ensures in (
       rw (to_z-of_z c.before.before.before.before.before.before.before.before.before.before.before.ranges.by)
           c.before.before.before.before.before.before.before.before.before.before.before.requires.0,
       put_finishes (moved_row a.by (parsed on_no_plan a.log.now)) (length a.log.now) _ _ _ s
           (λ h. omega (
             arith,
             c.before.before.before.before.before.before.before.before.before.before.before.requires.1 (omega
-                (arith, h, c.before.before.before.before.built.given)),
-            c.before.before.before.before.built.given,
+                (arith, h, c.before.before.before.before.built-1.given)),
+            c.before.before.before.before.built-1.given,
           )),
     )
 
-same_length : tie.Need-same-length
-same_length c = search rules
+shape_of-times : tie.Need-shape_of-times
+shape_of-times c = search rules
 
-same-length-2 : tie.Need-same-length-2
-same-length-2 c = search rules
+shape_of-out : tie.Need-shape_of-out
+shape_of-out c = search rules
 
-same-length-3 : tie.Need-same-length-3
-same-length-3 c = search rules
+shape_of-built : tie.Need-shape_of-built
+shape_of-built c = search rules
 
 returns : tie.Need-returns
 returns c = let a = c.before.before.before.before.before.before.before.before.before.before.before.before.before.before.before.before.before.before.args in
-    let s = rw (to_z-of_z c.before.before.before.before.before.before.before.before.before.before.before.before.before.before.before.before.before.before.ranges.by) at c.before.before.before.before.before.before.before.before.before.before.before.before.put-moved.ensures in
-    let f = rw (to_z-of_z c.before.before.before.before.before.before.before.before.before.before.before.before.before.before.before.before.before.before.ranges.by) at c.before.before.before.before.before.before.shift-put.ensures in
-    rw (within_limits a.log.now (times_from a.times.now) a.by (length a.out.now)
+    let s = rw (to_z-of_z c.before.before.before.before.before.before.before.before.before.before.before.before.before.before.before.before.before.before.ranges.by) at c.before.before.before.before.before.before.before.before.before.before.before.before.put_moved-put.ensures in
+    let f = rw (to_z-of_z c.before.before.before.before.before.before.before.before.before.before.before.before.before.before.before.before.before.before.ranges.by) at c.before.before.before.before.before.before.shift_put.ensures in
+    rw (within_limits a.log.now (times_from a.times-1.now) a.by (length a.out-1.now)
     c.before.before.before.before.before.before.before.before.before.before.before.before.before.before.before.before.before.before.requires.0)
     (f (moved_row a.by (parsed on_no_plan a.log.now)) (length a.log.now * 8) s)
 
@@ -57,9 +57,9 @@ pub shift_in_spec : {M : Type 1} → statement M
 shift_in_spec =
     tie.close
     (tie.spec
-    put-moved-requires
-    shift-put-requires
-    same_length
-    same-length-2
-    same-length-3
+    put_moved-put-requires
+    shift_put-requires
+    shape_of-times
+    shape_of-out
+    shape_of-built
     returns)

@@ -7,82 +7,82 @@ use Rattle.log_shift.proofs.shift_moved.Reads as reads
 use Rattle.log_shift.proofs.shift_moved.Lts as lts
 use Rattle.log_shift.proofs.shift_in.Reads as shift-in-reads
 
-slice-aggregate-shift-in : tie.Need-slice-aggregate-shift-in
-slice-aggregate-shift-in c = search rules
+slice_bounds-shift_in-end : tie.Need-slice_bounds-shift_in-end
+slice_bounds-shift_in-end c = search rules
 
-shift-in-requires : tie.Need-shift-in-requires
-shift-in-requires c κs = (
+shift_in-requires : tie.Need-shift_in-requires
+shift_in-requires c κs = (
   rw (to_z-of_z c.before.before.before.before.before.before.before.ranges.by)
       c.before.before.before.before.before.before.before.requires,
   λ h. omega arith,
 )
 
-same_length : tie.Need-same-length
-same_length c = search rules
+shape_of-times-then-log-le56 : tie.Need-shape_of-times-then-log-le56
+shape_of-times-then-log-le56 c = search rules
 
-same-length-2 : tie.Need-same-length-2
-same-length-2 c = search rules
+shape_of-out-then-log-le56 : tie.Need-shape_of-out-then-log-le56
+shape_of-out-then-log-le56 c = search rules
 
-returns : tie.Need-returns
-returns c = rw (to_z-of_z c.before.before.before.before.before.before.before.before.before.before.before.before.before.ranges.by) at
+returns-then-log-le56 : tie.Need-returns-then-log-le56
+returns-then-log-le56 c = rw (to_z-of_z c.before.before.before.before.before.before.before.before.before.before.before.before.before.ranges.by) at
     c.before.before.before.before.before.shift_in.ensures
 
-slice-aggregate-shift-in-2 : tie.Need-slice-aggregate-shift-in-2
-slice-aggregate-shift-in-2 c = search rules
+slice_bounds-shift_in-end-then-log-le1024 : tie.Need-slice_bounds-shift_in-end-then-log-le1024
+slice_bounds-shift_in-end-then-log-le1024 c = search rules
 
-shift-in-requires-2 : tie.Need-shift-in-requires-2
-shift-in-requires-2 c κs = (
+shift_in-requires-then-log-le1024 : tie.Need-shift_in-requires-then-log-le1024
+shift_in-requires-then-log-le1024 c κs = (
   rw (to_z-of_z c.before.before.before.before.before.before.before.before.ranges.by)
       c.before.before.before.before.before.before.before.before.requires,
   λ h. omega arith,
 )
 
-same-length-3 : tie.Need-same-length-3
-same-length-3 c = search rules
+shape_of-times-then-log-le1024 : tie.Need-shape_of-times-then-log-le1024
+shape_of-times-then-log-le1024 c = search rules
 
-same-length-4 : tie.Need-same-length-4
-same-length-4 c = search rules
+shape_of-out-then-log-le1024 : tie.Need-shape_of-out-then-log-le1024
+shape_of-out-then-log-le1024 c = search rules
 
-returns-2 : tie.Need-returns-2
-returns-2 c = rw (to_z-of_z c.before.before.before.before.before.before.before.before.before.before.before.before.before.before.ranges.by) at
-    c.before.before.before.before.before.shift-in2.ensures
+returns-then-log-le1024 : tie.Need-returns-then-log-le1024
+returns-then-log-le1024 c = rw (to_z-of_z c.before.before.before.before.before.before.before.before.before.before.before.before.before.before.ranges.by) at
+    c.before.before.before.before.before.shift_in-then-log-le1024.ensures
 
-slice-aggregate-shift-in-3 : tie.Need-slice-aggregate-shift-in-3
-slice-aggregate-shift-in-3 c = search rules
+slice_bounds-shift_in-end-2 : tie.Need-slice_bounds-shift_in-end-2
+slice_bounds-shift_in-end-2 c = search rules
 
-shift-in-requires-3 : tie.Need-shift-in-requires-3
-shift-in-requires-3 c κs = (
+shift_in-requires-2 : tie.Need-shift_in-requires-2
+shift_in-requires-2 c κs = (
   rw (to_z-of_z c.before.before.before.before.before.before.before.before.ranges.by)
       c.before.before.before.before.before.before.before.before.requires,
   λ h. absurd (omega arith),
 )
 
-same-length-5 : tie.Need-same-length-5
-same-length-5 c = search rules
+shape_of-times : tie.Need-shape_of-times
+shape_of-times c = search rules
 
-same-length-6 : tie.Need-same-length-6
-same-length-6 c = search rules
+shape_of-out : tie.Need-shape_of-out
+shape_of-out c = search rules
 
-returns-3 : tie.Need-returns-3
-returns-3 c = rw (to_z-of_z c.before.before.before.before.before.before.before.before.before.before.before.before.before.before.ranges.by) at
-    c.before.before.before.before.before.shift-in3.ensures
+returns : tie.Need-returns
+returns c = rw (to_z-of_z c.before.before.before.before.before.before.before.before.before.before.before.before.before.before.ranges.by) at
+    c.before.before.before.before.before.shift_in-2.ensures
 
 pub shift_moved_spec : {M : Type 1} → statement M
 shift_moved_spec =
     tie.close
     (tie.spec
-    slice-aggregate-shift-in
-    shift-in-requires
-    same_length
-    same-length-2
-    returns
-    slice-aggregate-shift-in-2
-    shift-in-requires-2
-    same-length-3
-    same-length-4
-    returns-2
-    slice-aggregate-shift-in-3
-    shift-in-requires-3
-    same-length-5
-    same-length-6
-    returns-3)
+    slice_bounds-shift_in-end
+    shift_in-requires
+    shape_of-times-then-log-le56
+    shape_of-out-then-log-le56
+    returns-then-log-le56
+    slice_bounds-shift_in-end-then-log-le1024
+    shift_in-requires-then-log-le1024
+    shape_of-times-then-log-le1024
+    shape_of-out-then-log-le1024
+    returns-then-log-le1024
+    slice_bounds-shift_in-end-2
+    shift_in-requires-2
+    shape_of-times
+    shape_of-out
+    returns)

@@ -12,58 +12,58 @@ use Rattle.log_shift.proofs.shift_put.Lts as lts
 use Rattle.log_close.proofs.refusal.Reads as refusal-reads
 use Rattle.log_shift.proofs.shift_row.Reads as shift-row-reads
 
-abbrev all : tie.After-shift-row-arg3 → tie.After-put
+abbrev all : tie.After-shift_row-arg-in-All-2-1 → tie.In-All-2
 all c = c.before.before.before.before
 
-abbrev start : tie.After-put → tie.Start
+abbrev start : tie.In-All-2 → tie.Start
 start c = c.before.before.before.before.before
 
-enum-known-put : tie.Need-enum-known-put
-enum-known-put c = search rules
+enum_known-put : tie.Need-enum_known-put
+enum_known-put c = search rules
 
-shift-row-requires : tie.Need-shift-row-requires
-shift-row-requires c κs =
+shift_row-requires : tie.Need-shift_row-requires
+shift_row-requires c κs =
     let s = start (all c) in
-    (rw (to_z-of_z s.fits.by) s.pre.0, subst (λ (q : Put). Finishable q (length s.args.built.now)) (all c).put.given.1 s.pre.1)
+    (rw (to_z-of_z s.fits.by) s.pre.0, subst (λ (q : Put). Finishable q (length s.args.built-1.now)) (all c).put-1.given.1 s.pre.1)
 
-enum-known-put-2 : tie.Need-enum-known-put-2
-enum-known-put-2 c = search rules
+enum_known-put-in-Fault-1 : tie.Need-enum_known-put-in-Fault-1
+enum_known-put-in-Fault-1 c = search rules
 
 refusal-requires : tie.Need-refusal-requires
 refusal-requires c κs = search rules
 
-same_length : tie.Need-same-length
-same_length c = search rules
+shape_of-times : tie.Need-shape_of-times
+shape_of-times c = search rules
 
-same-length-2 : tie.Need-same-length-2
-same-length-2 c = search rules
+shape_of-out : tie.Need-shape_of-out
+shape_of-out c = search rules
 
-same-length-3 : tie.Need-same-length-3
-same-length-3 c = search rules
+shape_of-built : tie.Need-shape_of-built
+shape_of-built c = search rules
 
-returns : tie.Need-returns
-returns c =
+returns-in-All : tie.Need-returns-in-All
+returns-in-All c =
     let r = c.before.before.before.before.before.before in
     let p = all r.before in
-    let shifts = rw (to_z-of_z (start p).fits.by) at r.shift-row.ensures in
-    λ row most stands. put_all (start p).args.by row most _ _ _ _ _ _ _ _ _ stands p.put.given.1 shifts
+    let shifts = rw (to_z-of_z (start p).fits.by) at r.shift_row.ensures in
+    λ row most stands. put_all (start p).args.by row most _ _ _ _ _ _ _ _ _ stands p.put-1.given.1 shifts
 
-returns-2 : tie.Need-returns-2
-returns-2 c =
+returns-in-Fault : tie.Need-returns-in-Fault
+returns-in-Fault c =
     let p = c.before.before in
     let by = p.before.before.before.before.before.args.by in
-    λ row most stands. put_fault by row most _ _ _ _ _ _ _ _ stands p.put2.given.1 c.refusal.ensures
+    λ row most stands. put_fault by row most _ _ _ _ _ _ _ _ stands p.put-in-Fault-1.given.1 c.refusal.ensures
 
 pub shift_put_spec : {M : Type 1} → statement M
 shift_put_spec =
     tie.close
     (tie.spec
-    enum-known-put
-    shift-row-requires
-    enum-known-put-2
+    enum_known-put
+    shift_row-requires
+    enum_known-put-in-Fault-1
     refusal-requires
-    same_length
-    same-length-2
-    same-length-3
-    returns
-    returns-2)
+    shape_of-times
+    shape_of-out
+    shape_of-built
+    returns-in-All
+    returns-in-Fault)

@@ -11,29 +11,29 @@ use Rattle.log_shift.proofs.time_at.Reads as reads
 use Rattle.log_shift.proofs.time_at.Lts as lts
 use Rattle.from_c.proofs.times_from.Reads as times-from-reads
 
-mul-start : tie.Need-overflow-mul-start
-mul-start c = search rules
+overflow_mul-start : tie.Need-overflow_mul-start
+overflow_mul-start c = search rules
 
-add-end : tie.Need-overflow-add-end
-add-end c = search rules
+overflow_add-end : tie.Need-overflow_add-end
+overflow_add-end c = search rules
 
-sub-times-from : tie.Need-overflow-sub-times-from
-sub-times-from c = search rules
+slice_bounds-times_from-count : tie.Need-slice_bounds-times_from-count
+slice_bounds-times_from-count c = search rules
 
-part-times-from-start : tie.Need-slice-bounds-times-from-start
-part-times-from-start c = search rules
+slice_bounds-times_from-start : tie.Need-slice_bounds-times_from-start
+slice_bounds-times_from-start c = search rules
 
-part-times-from-end : tie.Need-slice-bounds-times-from-end
-part-times-from-end c = search rules
+slice_bounds-times_from-end : tie.Need-slice_bounds-times_from-end
+slice_bounds-times_from-end c = search rules
 
-slice-aggregate-times-from : tie.Need-slice-aggregate-times-from
-slice-aggregate-times-from c = search rules
+slice_bounds-times_from-end-2 : tie.Need-slice_bounds-times_from-end-2
+slice_bounds-times_from-end-2 c = search rules
 
-times-from-requires : tie.Need-times-from-requires
-times-from-requires c κs = search rules
+times_from-requires : tie.Need-times_from-requires
+times_from-requires c κs = search rules
 
-array-read-result : tie.Need-array-read-result
-array-read-result c = search rules
+bounds-one-0 : tie.Need-bounds-one-0
+bounds-one-0 c = search rules
 
 returns : tie.Need-returns
 returns c =
@@ -43,18 +43,18 @@ returns c =
     let k = at + 8 - at in
     let e : k ≡ 8 = omega arith in
     let l : length (take k (drop at s)) ≡ 8 = rw e (length-take-le 8 (drop at s) (rw length-drop (omega arith))) in
-    one_read (take k (drop at s)) _ 0 l c.before.times-from.ensures ∙ entry_is s at k e
+    one_read (take k (drop at s)) _ 0 l c.before.times_from.ensures ∙ entry_is s at k e
 
 pub time_at_spec : {M : Type 1} → statement M
 time_at_spec =
     tie.close
     (tie.spec
-    mul-start
-    add-end
-    sub-times-from
-    part-times-from-start
-    part-times-from-end
-    slice-aggregate-times-from
-    times-from-requires
-    array-read-result
+    overflow_mul-start
+    overflow_add-end
+    slice_bounds-times_from-count
+    slice_bounds-times_from-start
+    slice_bounds-times_from-end
+    slice_bounds-times_from-end-2
+    times_from-requires
+    bounds-one-0
     returns)

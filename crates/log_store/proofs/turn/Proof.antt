@@ -9,32 +9,32 @@ use borrow.Author.Rules.{rules}
 use Rattle.log_store.proofs.turn.Statement.{statement}
 use Rattle.log_store.proofs.turn.Tie as tie
 
-abbrev entry : tie.Then1 → tie.Start
+abbrev entry : tie.Then-event-ne0 → tie.Start
 entry c = c.before.before.before.before.before.before
 
 -- no item has more than five words
-few : (c : tie.After-load-of) → c.load_of.result.words ≤ 5
-few c = rw c.load_of.ensures (load_few c.before.before.item2.given.0.0)
+few : (c : tie.After-load_of-load) → c.load_of-load.result.words ≤ 5
+few c = rw c.load_of-load.ensures (load_few c.before.before.item-1.given.0.0)
 
 left-requires : tie.Need-left-requires
 left-requires c κs = search rules
 
-returns : tie.Need-returns
-returns c =
+returns-then-event-ne0 : tie.Need-returns-then-event-ne0
+returns-then-event-ne0 c =
     let a = (entry c.before).args in
-    turns_left a.log.now a.event a.capacity a.slots a.built.now a.state c.left.result c.before.if1.true c.left.ensures
+    turns_left a.log.now a.event a.capacity a.slots a.built-1.now a.state c.left.result c.before.if-event-ne0.true c.left.ensures
 
 item-requires : tie.Need-item-requires
 item-requires c κs = search rules
 
-enum-known-item : tie.Need-enum-known-item
-enum-known-item c = search rules
+enum_known-item : tie.Need-enum_known-item
+enum_known-item c = search rules
 
-load-of-requires : tie.Need-load-of-requires
-load-of-requires c κs = search rules
+load_of-load-requires : tie.Need-load_of-load-requires
+load_of-load-requires c κs = search rules
 
-fits-requires : tie.Need-fits-requires
-fits-requires c κs = (few c, c.before.before.before.before.before.before.before.before.before.before.before.requires.1)
+fits-stored-requires : tie.Need-fits-stored-requires
+fits-stored-requires c κs = (few c, c.before.before.before.before.before.before.before.before.before.before.before.requires.1)
 
 arrived-requires : tie.Need-arrived-requires
 arrived-requires c κs = (few c.before, c.before.before.before.before.before.before.before.before.before.before.before.before.requires.1)
@@ -42,17 +42,17 @@ arrived-requires c κs = (few c.before, c.before.before.before.before.before.bef
 put-requires : tie.Need-put-requires
 put-requires c κs = search rules
 
-enum_told : tie.Need-enum-told
-enum_told c = search rules
+enum_told-1 : tie.Need-enum_told-1
+enum_told-1 c = search rules
 
-enum-told-2 : tie.Need-enum-told-2
-enum-told-2 c = search rules
+enum_told-in-Wrong : tie.Need-enum_told-in-Wrong
+enum_told-in-Wrong c = search rules
 
-same_length : tie.Need-same-length
-same_length c = search rules
+shape_of-built : tie.Need-shape_of-built
+shape_of-built c = search rules
 
-returns-2 : tie.Need-returns-2
-returns-2 c =
+returns-in-Has : tie.Need-returns-in-Has
+returns-in-Has c =
     let put = c.before.before in
     let arrived = put.before.before in
     let fits = arrived.before in
@@ -60,41 +60,41 @@ returns-2 c =
     let found = load.before.before in
     let item = found.before.before in
     let a = item.before.before.before.before.before.before.before.args in
-    let i = found.item2.given in
-    turns-arrived a.log.now a.event a.capacity a.slots a.built.now a.state i.0.0 i.0.1.0 fits.fits2.result arrived.arrived.result
-    _ put.put.result item.before.if1.false
-    (follows a.log.now a.state.at.at item.item.result i.0.0 i.0.1.0 item.item.ensures i.1).next
-    (rw (← load.load_of.ensures) fits.fits2.ensures) (rw (← load.load_of.ensures) arrived.arrived.ensures) put.put.ensures
+    let i = found.item-1.given in
+    turns-arrived a.log.now a.event a.capacity a.slots a.built-1.now a.state i.0.0 i.0.1.0 fits.fits2.result arrived.arrived.result
+    _ put.put.result item.before.if-event-ne0.false
+    (follows a.log.now a.state.at-1.at-1 item.item.result i.0.0 i.0.1.0 item.item.ensures i.1).next
+    (rw (← load.load_of-load.ensures) fits.fits2.ensures) (rw (← load.load_of-load.ensures) arrived.arrived.ensures) put.put.ensures
 
-returns-3 : tie.Need-returns-3
-returns-3 c =
+returns-in-End : tie.Need-returns-in-End
+returns-in-End c =
     let item = c.before.before in
     let a = item.before.before.before.before.before.before.before.args in
-    turns_over a.log.now a.event a.capacity a.slots a.built.now a.state item.before.if1.false
-    (found_end (next_at (bytes_bits a.log.now) a.state.at.at) (sym item.item.ensures ∙ c.enum_told.given.1))
+    turns_over a.log.now a.event a.capacity a.slots a.built-1.now a.state item.before.if-event-ne0.false
+    (found_end (next_at (bytes_bits a.log.now) a.state.at-1.at-1) (sym item.item.ensures ∙ c.enum_told-1.given.1))
 
-returns-4 : tie.Need-returns-4
-returns-4 c =
+returns-in-Wrong : tie.Need-returns-in-Wrong
+returns-in-Wrong c =
     let item = c.before.before in
     let a = item.before.before.before.before.before.before.before.args in
-    turns_wrong a.log.now a.event a.capacity a.slots a.built.now a.state item.before.if1.false
-    (found_wrong (next_at (bytes_bits a.log.now) a.state.at.at) (sym item.item.ensures ∙ c.enum-told2.given.1))
+    turns_wrong a.log.now a.event a.capacity a.slots a.built-1.now a.state item.before.if-event-ne0.false
+    (found_wrong (next_at (bytes_bits a.log.now) a.state.at-1.at-1) (sym item.item.ensures ∙ c.enum_told-in-Wrong-1.given.1))
 
 pub turn_spec : {M : Type 1} → statement M
 turn_spec =
     tie.close
     (tie.spec
     left-requires
-    returns
+    returns-then-event-ne0
     item-requires
-    enum-known-item
-    load-of-requires
-    fits-requires
+    enum_known-item
+    load_of-load-requires
+    fits-stored-requires
     arrived-requires
     put-requires
-    enum_told
-    enum-told-2
-    same_length
-    returns-2
-    returns-3
-    returns-4)
+    enum_told-1
+    enum_told-in-Wrong
+    shape_of-built
+    returns-in-Has
+    returns-in-End
+    returns-in-Wrong)

@@ -23,7 +23,7 @@ number_at t = and 1 number-kinds.ps (is 1 number-kinds.ps μ-number t) number.Pr
 abbrev number_below : ℕ → In 1 number-kinds.ps
 number_below t = and 1 number-kinds.ps (falls 1 number-kinds.ps ◌<◌ μ-number t) number.Pre
 
-number_cast_put : (t : ℕ) → number-lts.Need-overflow-cast-put (
+number_cast_put : (t : ℕ) → number-lts.Need-overflow_cast-put (
   put_reads.Asked,
   put_reads.Learnt,
   number_below t,
@@ -31,7 +31,7 @@ number_cast_put : (t : ℕ) → number-lts.Need-overflow-cast-put (
 ) (number_at t) number.Post
 number_cast_put t c = search rules
 
-number_add_put : (t : ℕ) → number-lts.Need-overflow-add-put (
+number_add_put : (t : ℕ) → number-lts.Need-overflow_add-put (
   put_reads.Asked,
   put_reads.Learnt,
   number_below t,
@@ -47,7 +47,7 @@ number_put_requires : (t : ℕ) → number-lts.Need-put-requires (
 ) (number_at t) number.Post
 number_put_requires t c κs = omega (arith, ap length (decimal_one c.before.before.before.args.n (omega arith)))
 
-number_same_length : (t : ℕ) → number-lts.Need-same-length (
+number_same_length : (t : ℕ) → number-lts.Need-same_length (
   put_reads.Asked,
   put_reads.Learnt,
   number_below t,
@@ -71,7 +71,7 @@ number_number_requires : (t : ℕ) → number-lts.Need-number-requires (
 ) (number_at t) number.Post
 number_number_requires t c κs = (omega arith, omega (arith, decimal_long c.before.before.before.args.n (omega arith) (omega arith)))
 
-number_cast_put_2 : (t : ℕ) → number-lts.Need-overflow-cast-put-2 (
+number_cast_put_2 : (t : ℕ) → number-lts.Need-overflow_cast-put-2 (
   put_reads.Asked,
   put_reads.Learnt,
   number_below t,
@@ -79,7 +79,7 @@ number_cast_put_2 : (t : ℕ) → number-lts.Need-overflow-cast-put-2 (
 ) (number_at t) number.Post
 number_cast_put_2 t c = search rules
 
-number_add_put_2 : (t : ℕ) → number-lts.Need-overflow-add-put-2 (
+number_add_put_2 : (t : ℕ) → number-lts.Need-overflow_add-put-2 (
   put_reads.Asked,
   put_reads.Learnt,
   number_below t,
@@ -97,7 +97,7 @@ number_put_requires_2 t c κs =
     let tens = c.before.before.before in
     omega (arith, adds_room tens.number.ensures 1 (omega (arith, decimal_long tens.before.before.before.before.args.n (omega arith) (omega arith))))
 
-number_same_length_2 : (t : ℕ) → number-lts.Need-same-length-2 (
+number_same_length_2 : (t : ℕ) → number-lts.Need-same_length-2 (
   put_reads.Asked,
   put_reads.Learnt,
   number_below t,
@@ -117,8 +117,8 @@ number_returns_2 t c =
     adds_same (adds_then tens.number.ensures last.put2.ensures)
     (sym (decimal_more tens.before.before.before.before.args.n (omega arith) (omega arith)))
 
-pub +number-spec : {M : Type 1} → statement M
-+number-spec = close μ-number λ t. number-lts.spec (
+pub +number_spec : {M : Type 1} → statement M
++number_spec = close μ-number λ t. number-lts.spec (
   put_reads.Asked,
   put_reads.Learnt,
   number_below t,

@@ -10,46 +10,46 @@ use Rattle.log_text.proofs.arinc_line.Tie as tie
 
 -- ---- the places behind the calls
 
-abbrev start : tie.After-channelled → tie.Start
+abbrev start : tie.After-channelled-n1 → tie.Start
 start c = c.before.before.before
 
-abbrev first : tie.After-hex8 → tie.After-channelled
+abbrev first : tie.After-hex8-n2 → tie.After-channelled-n1
 first c = c.before.before.before.before
 
-abbrev second : tie.After-tag-text → tie.After-hex8
+abbrev second : tie.After-tag_text-n3 → tie.After-hex8-n2
 second c = c.before.before.before.before
 
 -- ---- the text so far, behind each call
 
-so_far_1 : (c : tie.After-channelled) → let a = (start c).args in
-    Short (channelled 97 114 110 a.bus a.channel) a.out.now a.at c.channelled.new.0 c.channelled.result 46
-so_far_1 c = let a = (start c).args in channelled_short 97 114 110 a.bus a.channel c.channelled.ensures
+so_far_1 : (c : tie.After-channelled-n1) → let a = (start c).args in
+    Short (channelled 97 114 110 a.bus a.channel) a.out-1.now a.at c.channelled-n1.new.0 c.channelled-n1.result 46
+so_far_1 c = let a = (start c).args in channelled_short 97 114 110 a.bus a.channel c.channelled-n1.ensures
 
-so_far_2 : (c : tie.After-hex8) → let a = (start (first c)).args in
-    Short (channelled 97 114 110 a.bus a.channel ++ hex 8 a.word) a.out.now a.at c.hex8.new.0 c.hex8.result 54
-so_far_2 c = short_then 8 (so_far_1 (first c)) c.hex8.ensures (omega (arith, hex_long 8 (start (first c)).args.word))
+so_far_2 : (c : tie.After-hex8-n2) → let a = (start (first c)).args in
+    Short (channelled 97 114 110 a.bus a.channel ++ hex 8 a.word) a.out-1.now a.at c.hex8-n2.new.0 c.hex8-n2.result 54
+so_far_2 c = short_then 8 (so_far_1 (first c)) c.hex8-n2.ensures (omega (arith, hex_long 8 (start (first c)).args.word))
 
-so_far_3 : (c : tie.After-tag-text) → let a = (start (first (second c))).args in
+so_far_3 : (c : tie.After-tag_text-n3) → let a = (start (first (second c))).args in
     Short ((channelled 97 114 110 a.bus a.channel ++ hex 8 a.word) ++ tag_text a.tag)
-    a.out.now a.at c.tag-text.new.0 c.tag-text.result 78
-so_far_3 c = short_then 24 (so_far_2 (second c)) c.tag-text.ensures (tag_few (start (first (second c))).args.tag)
+    a.out-1.now a.at c.tag_text-n3.new.0 c.tag_text-n3.result 78
+so_far_3 c = short_then 24 (so_far_2 (second c)) c.tag_text-n3.ensures (tag_few (start (first (second c))).args.tag)
 
 -- ---- the needs
 
-channelled-requires : tie.Need-channelled-requires
-channelled-requires c κs = search rules
+channelled-n1-requires : tie.Need-channelled-n1-requires
+channelled-n1-requires c κs = search rules
 
-hex8-requires : tie.Need-hex8-requires
-hex8-requires c κs = short_room 8 (so_far_1 c.before.before.before) (omega arith)
+hex8-n2-requires : tie.Need-hex8-n2-requires
+hex8-n2-requires c κs = short_room 8 (so_far_1 c.before.before.before) (omega arith)
 
-tag-text-requires : tie.Need-tag-text-requires
-tag-text-requires c κs = short_room 24 (so_far_2 c.before.before.before) (omega arith)
+tag_text-n3-requires : tie.Need-tag_text-n3-requires
+tag_text-n3-requires c κs = short_room 24 (so_far_2 c.before.before.before) (omega arith)
 
 put-requires : tie.Need-put-requires
 put-requires c κs = omega (arith, short_room 1 (so_far_3 c.before.before.before) (omega arith))
 
-same_length : tie.Need-same-length
-same_length c = search rules
+shape_of-out : tie.Need-shape_of-out
+shape_of-out c = search rules
 
 returns : tie.Need-returns
 returns c =
@@ -59,4 +59,4 @@ returns c =
     adds_same (adds_then (so_far_3 t).adds p.put.ensures) (arinc_is a.bus a.channel a.tag a.word)
 
 pub arinc_line_spec : {M : Type 1} → statement M
-arinc_line_spec = tie.close (tie.spec channelled-requires hex8-requires tag-text-requires put-requires same_length returns)
+arinc_line_spec = tie.close (tie.spec channelled-n1-requires hex8-n2-requires tag_text-n3-requires put-requires shape_of-out returns)

@@ -9,35 +9,35 @@ use Rattle.log_text.proofs.command_line.Tie as tie
 
 -- ---- the places behind the calls
 
-abbrev start : tie.After-sided → tie.Start
+abbrev start : tie.After-sided-n1 → tie.Start
 start c = c.before.before.before
 
-abbrev first : tie.After-tag-text → tie.After-sided
+abbrev first : tie.After-tag_text-n2 → tie.After-sided-n1
 first c = c.before.before.before.before
 
 -- ---- the text so far, behind each call
 
-so_far_1 : (c : tie.After-sided) → let a = (start c).args in
-    Short (sided 99 109 100 a.bus a.b a.word) a.out.now a.at c.sided.new.0 c.sided.result 31
-so_far_1 c = let a = (start c).args in sided_short 99 109 100 a.bus a.b a.word c.sided.ensures
+so_far_1 : (c : tie.After-sided-n1) → let a = (start c).args in
+    Short (sided 99 109 100 a.bus a.b a.word) a.out-1.now a.at c.sided-n1.new.0 c.sided-n1.result 31
+so_far_1 c = let a = (start c).args in sided_short 99 109 100 a.bus a.b a.word c.sided-n1.ensures
 
-so_far_2 : (c : tie.After-tag-text) → let a = (start (first c)).args in
-    Short (sided 99 109 100 a.bus a.b a.word ++ tag_text a.tag) a.out.now a.at c.tag-text.new.0 c.tag-text.result 55
-so_far_2 c = short_then 24 (so_far_1 (first c)) c.tag-text.ensures (tag_few (start (first c)).args.tag)
+so_far_2 : (c : tie.After-tag_text-n2) → let a = (start (first c)).args in
+    Short (sided 99 109 100 a.bus a.b a.word ++ tag_text a.tag) a.out-1.now a.at c.tag_text-n2.new.0 c.tag_text-n2.result 55
+so_far_2 c = short_then 24 (so_far_1 (first c)) c.tag_text-n2.ensures (tag_few (start (first c)).args.tag)
 
 -- ---- the needs
 
-sided-requires : tie.Need-sided-requires
-sided-requires c κs = search rules
+sided-n1-requires : tie.Need-sided-n1-requires
+sided-n1-requires c κs = search rules
 
-tag-text-requires : tie.Need-tag-text-requires
-tag-text-requires c κs = short_room 24 (so_far_1 c.before.before.before) (omega arith)
+tag_text-n2-requires : tie.Need-tag_text-n2-requires
+tag_text-n2-requires c κs = short_room 24 (so_far_1 c.before.before.before) (omega arith)
 
 put-requires : tie.Need-put-requires
 put-requires c κs = omega (arith, short_room 1 (so_far_2 c.before.before.before) (omega arith))
 
-same_length : tie.Need-same-length
-same_length c = search rules
+shape_of-out : tie.Need-shape_of-out
+shape_of-out c = search rules
 
 returns : tie.Need-returns
 returns c =
@@ -47,4 +47,4 @@ returns c =
     adds_same (adds_then (so_far_2 t).adds p.put.ensures) (command_is a.bus a.b a.tag a.word)
 
 pub command_line_spec : {M : Type 1} → statement M
-command_line_spec = tie.close (tie.spec sided-requires tag-text-requires put-requires same_length returns)
+command_line_spec = tie.close (tie.spec sided-n1-requires tag_text-n2-requires put-requires shape_of-out returns)

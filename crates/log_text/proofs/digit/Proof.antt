@@ -5,24 +5,24 @@ use Rattle.log_text.proofs.digit.Tie as tie
 use Rattle.log_text.proofs.digit.Reads as reads
 use Rattle.log_text.proofs.digit.Lts as lts
 
-cast-result : tie.Need-overflow-cast-result
-cast-result c = search rules
+overflow_cast-result : tie.Need-overflow_cast-result
+overflow_cast-result c = search rules
 
-add-result : tie.Need-overflow-add-result
-add-result c = search rules
+overflow_add-result : tie.Need-overflow_add-result
+overflow_add-result c = search rules
 
-cast-result-2 : tie.Need-overflow-cast-result-2
-cast-result-2 c = search rules
+overflow_cast-result-else-n-lt10 : tie.Need-overflow_cast-result-else-n-lt10
+overflow_cast-result-else-n-lt10 c = search rules
 
-add-result-2 : tie.Need-overflow-add-result-2
-add-result-2 c = search rules
+overflow_add-result-else-n-lt10 : tie.Need-overflow_add-result-else-n-lt10
+overflow_add-result-else-n-lt10 c = search rules
 
-returns : tie.Need-returns
-returns c = rw (lt-ltb _ _ c.if1.true)
+returns-then-n-lt10 : tie.Need-returns-then-n-lt10
+returns-then-n-lt10 c = rw (lt-ltb _ _ c.if-n-lt10.true)
 
-returns-2 : tie.Need-returns-2
-returns-2 c = rw (le-ltb _ _ c.if1.false)
+returns-else-n-lt10 : tie.Need-returns-else-n-lt10
+returns-else-n-lt10 c = rw (le-ltb _ _ c.if-n-lt10.false)
 
 pub digit_spec : {M : Type 1} → statement M
 digit_spec =
-    tie.close (tie.spec cast-result add-result cast-result-2 add-result-2 returns returns-2)
+    tie.close (tie.spec overflow_cast-result overflow_add-result overflow_cast-result-else-n-lt10 overflow_add-result-else-n-lt10 returns-then-n-lt10 returns-else-n-lt10)

@@ -12,135 +12,135 @@ use Rattle.log_text.proofs.overflow_line.Reads as overflow-line-reads
 use Rattle.log_text.proofs.status_line.Reads as status-line-reads
 use Rattle.log_text.proofs.user_line.Reads as user-line-reads
 
-enum-known-item : tie.Need-enum-known-item
-enum-known-item c = search rules
+enum_known-item : tie.Need-enum_known-item
+enum_known-item c = search rules
 
-command-line-requires : tie.Need-command-line-requires
-command-line-requires c κs = search rules
+command_line-requires : tie.Need-command_line-requires
+command_line-requires c κs = search rules
 
-enum-known-item-2 : tie.Need-enum-known-item-2
-enum-known-item-2 c = search rules
+enum_known-item-in-Status-1 : tie.Need-enum_known-item-in-Status-1
+enum_known-item-in-Status-1 c = search rules
 
-status-line-requires : tie.Need-status-line-requires
-status-line-requires c κs = search rules
+status_line-requires : tie.Need-status_line-requires
+status_line-requires c κs = search rules
 
-enum-known-item-3 : tie.Need-enum-known-item-3
-enum-known-item-3 c = search rules
+enum_known-item-in-Data-1 : tie.Need-enum_known-item-in-Data-1
+enum_known-item-in-Data-1 c = search rules
 
-data-line-requires : tie.Need-data-line-requires
-data-line-requires c κs = search rules
+data_line-requires : tie.Need-data_line-requires
+data_line-requires c κs = search rules
 
-enum-known-item-4 : tie.Need-enum-known-item-4
-enum-known-item-4 c = search rules
+enum_known-item-in-BusError-1 : tie.Need-enum_known-item-in-BusError-1
+enum_known-item-in-BusError-1 c = search rules
 
-error-line-requires : tie.Need-error-line-requires
-error-line-requires c κs = search rules
+error_line-requires : tie.Need-error_line-requires
+error_line-requires c κs = search rules
 
-enum-known-item-5 : tie.Need-enum-known-item-5
-enum-known-item-5 c = search rules
+enum_known-item-in-Arinc-1 : tie.Need-enum_known-item-in-Arinc-1
+enum_known-item-in-Arinc-1 c = search rules
 
-arinc-line-requires : tie.Need-arinc-line-requires
-arinc-line-requires c κs = search rules
+arinc_line-requires : tie.Need-arinc_line-requires
+arinc_line-requires c κs = search rules
 
-enum-known-item-6 : tie.Need-enum-known-item-6
-enum-known-item-6 c = search rules
+enum_known-item-in-Notice-1 : tie.Need-enum_known-item-in-Notice-1
+enum_known-item-in-Notice-1 c = search rules
 
-notice-line-requires : tie.Need-notice-line-requires
-notice-line-requires c κs = search rules
+notice_line-requires : tie.Need-notice_line-requires
+notice_line-requires c κs = search rules
 
-enum-known-item-7 : tie.Need-enum-known-item-7
-enum-known-item-7 c = search rules
+enum_known-item-in-User-1 : tie.Need-enum_known-item-in-User-1
+enum_known-item-in-User-1 c = search rules
 
-user-line-requires : tie.Need-user-line-requires
-user-line-requires c κs = search rules
+user_line-requires : tie.Need-user_line-requires
+user_line-requires c κs = search rules
 
-enum-known-item-8 : tie.Need-enum-known-item-8
-enum-known-item-8 c = search rules
+enum_known-item-in-Overflow-1 : tie.Need-enum_known-item-in-Overflow-1
+enum_known-item-in-Overflow-1 c = search rules
 
-overflow-line-requires : tie.Need-overflow-line-requires
-overflow-line-requires c κs = search rules
+overflow_line-requires : tie.Need-overflow_line-requires
+overflow_line-requires c κs = search rules
 
-same_length : tie.Need-same-length
-same_length c = search rules
+shape_of-out-in-Command : tie.Need-shape_of-out-in-Command
+shape_of-out-in-Command c = search rules
 
-returns : tie.Need-returns
-returns c = rw c.before.before.before.before.before.item.given.1 c.before.before.command-line.ensures
+returns-in-Command : tie.Need-returns-in-Command
+returns-in-Command c = rw c.before.before.before.before.before.item-1.given.1 c.before.before.command_line.ensures
 
-same-length-2 : tie.Need-same-length-2
-same-length-2 c = search rules
+shape_of-out-in-Status : tie.Need-shape_of-out-in-Status
+shape_of-out-in-Status c = search rules
 
-returns-2 : tie.Need-returns-2
-returns-2 c = rw c.before.before.before.before.before.item2.given.1 c.before.before.status-line.ensures
+returns-in-Status : tie.Need-returns-in-Status
+returns-in-Status c = rw c.before.before.before.before.before.item-in-Status-1.given.1 c.before.before.status_line.ensures
 
-same-length-3 : tie.Need-same-length-3
-same-length-3 c = search rules
+shape_of-out-in-Data : tie.Need-shape_of-out-in-Data
+shape_of-out-in-Data c = search rules
 
-returns-3 : tie.Need-returns-3
-returns-3 c = rw c.before.before.before.before.before.item3.given.1 c.before.before.data-line.ensures
+returns-in-Data : tie.Need-returns-in-Data
+returns-in-Data c = rw c.before.before.before.before.before.item-in-Data-1.given.1 c.before.before.data_line.ensures
 
-same-length-4 : tie.Need-same-length-4
-same-length-4 c = search rules
+shape_of-out-in-BusError : tie.Need-shape_of-out-in-BusError
+shape_of-out-in-BusError c = search rules
 
-returns-4 : tie.Need-returns-4
-returns-4 c = rw c.before.before.before.before.before.item4.given.1 c.before.before.error-line.ensures
+returns-in-BusError : tie.Need-returns-in-BusError
+returns-in-BusError c = rw c.before.before.before.before.before.item-in-BusError-1.given.1 c.before.before.error_line.ensures
 
-same-length-5 : tie.Need-same-length-5
-same-length-5 c = search rules
+shape_of-out-in-Arinc : tie.Need-shape_of-out-in-Arinc
+shape_of-out-in-Arinc c = search rules
 
-returns-5 : tie.Need-returns-5
-returns-5 c = rw c.before.before.before.before.before.item5.given.1 c.before.before.arinc-line.ensures
+returns-in-Arinc : tie.Need-returns-in-Arinc
+returns-in-Arinc c = rw c.before.before.before.before.before.item-in-Arinc-1.given.1 c.before.before.arinc_line.ensures
 
-same-length-6 : tie.Need-same-length-6
-same-length-6 c = search rules
+shape_of-out-in-Notice : tie.Need-shape_of-out-in-Notice
+shape_of-out-in-Notice c = search rules
 
-returns-6 : tie.Need-returns-6
-returns-6 c = rw c.before.before.before.before.before.item6.given.1 c.before.before.notice-line.ensures
+returns-in-Notice : tie.Need-returns-in-Notice
+returns-in-Notice c = rw c.before.before.before.before.before.item-in-Notice-1.given.1 c.before.before.notice_line.ensures
 
-same-length-7 : tie.Need-same-length-7
-same-length-7 c = search rules
+shape_of-out-in-User : tie.Need-shape_of-out-in-User
+shape_of-out-in-User c = search rules
 
-returns-7 : tie.Need-returns-7
-returns-7 c = rw c.before.before.before.before.before.item7.given.1 c.before.before.user-line.ensures
+returns-in-User : tie.Need-returns-in-User
+returns-in-User c = rw c.before.before.before.before.before.item-in-User-1.given.1 c.before.before.user_line.ensures
 
-same-length-8 : tie.Need-same-length-8
-same-length-8 c = search rules
+shape_of-out-in-Overflow : tie.Need-shape_of-out-in-Overflow
+shape_of-out-in-Overflow c = search rules
 
-returns-8 : tie.Need-returns-8
-returns-8 c = rw c.before.before.before.before.before.item8.given.1 c.before.before.overflow-line.ensures
+returns-in-Overflow : tie.Need-returns-in-Overflow
+returns-in-Overflow c = rw c.before.before.before.before.before.item-in-Overflow-1.given.1 c.before.before.overflow_line.ensures
 
 pub item_line_spec : {M : Type 1} → statement M
 item_line_spec =
     tie.close
     (tie.spec
-    enum-known-item
-    command-line-requires
-    enum-known-item-2
-    status-line-requires
-    enum-known-item-3
-    data-line-requires
-    enum-known-item-4
-    error-line-requires
-    enum-known-item-5
-    arinc-line-requires
-    enum-known-item-6
-    notice-line-requires
-    enum-known-item-7
-    user-line-requires
-    enum-known-item-8
-    overflow-line-requires
-    same_length
-    returns
-    same-length-2
-    returns-2
-    same-length-3
-    returns-3
-    same-length-4
-    returns-4
-    same-length-5
-    returns-5
-    same-length-6
-    returns-6
-    same-length-7
-    returns-7
-    same-length-8
-    returns-8)
+    enum_known-item
+    command_line-requires
+    enum_known-item-in-Status-1
+    status_line-requires
+    enum_known-item-in-Data-1
+    data_line-requires
+    enum_known-item-in-BusError-1
+    error_line-requires
+    enum_known-item-in-Arinc-1
+    arinc_line-requires
+    enum_known-item-in-Notice-1
+    notice_line-requires
+    enum_known-item-in-User-1
+    user_line-requires
+    enum_known-item-in-Overflow-1
+    overflow_line-requires
+    shape_of-out-in-Command
+    returns-in-Command
+    shape_of-out-in-Status
+    returns-in-Status
+    shape_of-out-in-Data
+    returns-in-Data
+    shape_of-out-in-BusError
+    returns-in-BusError
+    shape_of-out-in-Arinc
+    returns-in-Arinc
+    shape_of-out-in-Notice
+    returns-in-Notice
+    shape_of-out-in-User
+    returns-in-User
+    shape_of-out-in-Overflow
+    returns-in-Overflow)

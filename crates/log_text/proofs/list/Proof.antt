@@ -15,88 +15,88 @@ use Rattle.log_text.proofs.list.Tie as tie
 
 -- ---- the places: the log is parsed, has items, and their lines are put
 
-abbrev start : tie.After-parse → tie.Start
+abbrev start : tie.After-parse-tally → tie.Start
 start c = c.before.before.before
 
-abbrev log : tie.After-parse → List ℕ
+abbrev log : tie.After-parse-tally → List ℕ
 log c = (start c).args.log.now
 
-abbrev parse : tie.After-tally → tie.After-parse
+abbrev parse : tie.In-Items-2 → tie.After-parse-tally
 parse c = c.before.before
 
-abbrev found : tie.After-tally → List Item
+abbrev found : tie.In-Items-2 → List Item
 found c = items_of (parsed on_no_plan (log (parse c)))
 
-abbrev tally : tie.After-lines → tie.After-tally
+abbrev tally : tie.After-lines-at → tie.In-Items-2
 tally c = c.before.before.before
 
 -- ---- what was found, and that it is short
 
-parses : (c : tie.After-tally) → (parsed on_no_plan (log (parse c)) ≡ items (found c)) × (c.tally.given.0.0 ≡ length (found c))
+parses : (c : tie.In-Items-2) → (parsed on_no_plan (log (parse c)) ≡ items (found c)) × (c.tally-1.given.0.0 ≡ length (found c))
 parses c =
     let p = parse c in
-    let g = c.tally.given in
-    tallied (log p) p.parse.result g.0.0 g.0.1.0 p.parse.ensures g.1
+    let g = c.tally-1.given in
+    tallied (log p) p.parse-tally.result g.0.0 g.0.1.0 p.parse-tally.ensures g.1
 
-sizes : (c : tie.After-tally) → (length (log (parse c)) ≤ 32768) × (length (flat_map item_line (found c)) ≤ 262144)
-sizes c = good (log (parse c)) (found c) (λ i. omega (arith, (parse c).before.shared-slice-known.given i)) (parses c).0
+sizes : (c : tie.In-Items-2) → (length (log (parse c)) ≤ 32768) × (length (flat_map item_line (found c)) ≤ 262144)
+sizes c = good (log (parse c)) (found c) (λ i. omega (arith, (parse c).before.shared_slice_known-1.given i)) (parses c).0
 
 -- ---- the needs
 
-parse-requires : tie.Need-parse-requires
-parse-requires c κs = search rules
+parse-tally-requires : tie.Need-parse-tally-requires
+parse-tally-requires c κs = search rules
 
-enum-known-tally : tie.Need-enum-known-tally
-enum-known-tally c = search rules
+enum_known-tally : tie.Need-enum_known-tally
+enum_known-tally c = search rules
 
-lines-requires : tie.Need-lines-requires
-lines-requires c κs =
+lines-at-requires : tie.Need-lines-at-requires
+lines-at-requires c κs =
     let t = c.before.before in
     (((start (parse t)).requires, (sizes t).0, (sizes t).1), (parses t).0)
 
-end-line-requires : tie.Need-end-line-requires
-end-line-requires c κs =
+end_line-requires : tie.Need-end_line-requires
+end_line-requires c κs =
     let p = c.before.before.before in
-    adds_room p.lines.ensures 25 (omega (arith, (sizes (tally p)).1, (start (parse (tally p))).requires))
+    adds_room p.lines-at.ensures 25 (omega (arith, (sizes (tally p)).1, (start (parse (tally p))).requires))
 
-enum-known-tally-2 : tie.Need-enum-known-tally-2
-enum-known-tally-2 c = search rules
+enum_known-tally-in-Fault-1 : tie.Need-enum_known-tally-in-Fault-1
+enum_known-tally-in-Fault-1 c = search rules
 
-refused-line-requires : tie.Need-refused-line-requires
-refused-line-requires c κs = search rules
+refused_line-requires : tie.Need-refused_line-requires
+refused_line-requires c κs = search rules
 
-same_length : tie.Need-same-length
-same_length c = search rules
+shape_of-out-in-Items : tie.Need-shape_of-out-in-Items
+shape_of-out-in-Items c = search rules
 
-returns : tie.Need-returns
-returns c =
+returns-in-Items : tie.Need-returns-in-Items
+returns-in-Items c =
     let e = c.before.before in
     let p = e.before.before.before.before in
     let t = tally p in
-    adds_same (adds_then p.lines.ensures e.end_line.ensures) (listing_items (log (parse t)) t.tally.given.0.0 (parses t).0 (parses t).1)
+    adds_same (adds_then p.lines-at.ensures e.end_line.ensures) (listing_items (log (parse t)) t.tally-1.given.0.0 (parses t).0 (parses t).1)
 
-same-length-2 : tie.Need-same-length-2
-same-length-2 c = search rules
+shape_of-out-in-Fault : tie.Need-shape_of-out-in-Fault
+shape_of-out-in-Fault c = search rules
 
-returns-2 : tie.Need-returns-2
-returns-2 c =
+returns-in-Fault : tie.Need-returns-in-Fault
+returns-in-Fault c =
     let e = c.before.before in
     let t = e.before.before.before in
     let p = t.before.before in
-    let g = t.tally2.given in
-    adds_same e.refused-line.ensures (listing_refused (log p) _ _ (refused (log p) p.parse.result g.0.0 g.0.1.0 p.parse.ensures g.1))
+    let g = t.tally-in-Fault-1.given in
+    adds_same e.refused_line.ensures (listing_refused (log p) _ _ (refused (log p) p.parse-tally.result g.0.0 g.0.1.0 p.parse-tally.ensures g.1))
 
 pub list_spec : {M : Type 1} → statement M
 list_spec =
     tie.close
     (tie.spec
-    parse-requires
-    enum-known-tally
-    lines-requires
-    end-line-requires
-    enum-known-tally-2
-    refused-line-requires
-    same_length
-    returns
-    same-length-2
-    returns-2)
+    parse-tally-requires
+    enum_known-tally
+    lines-at-requires
+    end_line-requires
+    enum_known-tally-in-Fault-1
+    refused_line-requires
+    shape_of-out-in-Items
+    returns-in-Items
+    shape_of-out-in-Fault
+    returns-in-Fault)

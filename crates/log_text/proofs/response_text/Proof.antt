@@ -10,74 +10,74 @@ use Rattle.log_text.proofs.response_text.Tie as tie
 
 -- ---- the places: there is a response, and behind the calls
 
-abbrev start : tie.After-response → tie.Start
+abbrev start : tie.In-After-2 → tie.Start
 start c = c.before.before.before
 
-abbrev response : tie.After-four → tie.After-response
+abbrev response : tie.After-four-n1 → tie.In-After-2
 response c = c.before.before.before
 
-abbrev first : tie.After-two → tie.After-four
+abbrev first : tie.After-two-n2 → tie.After-four-n1
 first c = c.before.before.before.before
 
 -- ---- the text so far, behind each call
 
-so_far_1 : (c : tie.After-four) → let a = (start (response c)).args in Short (text " res") a.out.now a.at c.four.new.0 c.four.result 4
+so_far_1 : (c : tie.After-four-n1) → let a = (start (response c)).args in Short (text " res") a.out-1.now a.at c.four-n1.new.0 c.four-n1.result 4
 unfolding text list
-so_far_1 c = short 4 c.four.ensures (omega arith)
+so_far_1 c = short 4 c.four-n1.ensures (omega arith)
 
-so_far_2 : (c : tie.After-two) → let a = (start (response (first c))).args in
-    Short (text " resp ") a.out.now a.at c.two.new.0 c.two.result 6
+so_far_2 : (c : tie.After-two-n2) → let a = (start (response (first c))).args in
+    Short (text " resp ") a.out-1.now a.at c.two-n2.new.0 c.two-n2.result 6
 unfolding text list
-so_far_2 c = short_then 2 (so_far_1 (first c)) c.two.ensures (omega arith)
+so_far_2 c = short_then 2 (so_far_1 (first c)) c.two-n2.ensures (omega arith)
 
 -- ---- the needs
 
-enum_told : tie.Need-enum-told
-enum_told c = search rules
+enum_told-1 : tie.Need-enum_told-1
+enum_told-1 c = search rules
 
-enum-known-response : tie.Need-enum-known-response
-enum-known-response c = search rules
+enum_known-response : tie.Need-enum_known-response
+enum_known-response c = search rules
 
-four-requires : tie.Need-four-requires
-four-requires c κs = search rules
+four-n1-requires : tie.Need-four-n1-requires
+four-n1-requires c κs = search rules
 
-two-requires : tie.Need-two-requires
-two-requires c κs = short_room 2 (so_far_1 c.before.before.before) (omega arith)
+two-n2-requires : tie.Need-two-n2-requires
+two-n2-requires c κs = short_room 2 (so_far_1 c.before.before.before) (omega arith)
 
-cast-number : tie.Need-overflow-cast-number
-cast-number c = search rules
+overflow_cast-micro : tie.Need-overflow_cast-micro
+overflow_cast-micro c = search rules
 
 number-requires : tie.Need-number-requires
 number-requires c κs =
     let p = c.before.before.before in
-    let n = (response (first p)).response.given.0.0 in
+    let n = (response (first p)).response-1.given.0.0 in
     short_room (length (decimal n)) (so_far_2 p) (omega (arith, decimal_few n))
 
-returns : tie.Need-returns
-returns c =
+returns-in-Untimed : tie.Need-returns-in-Untimed
+returns-in-Untimed c =
     let a = c.before.before.before.args in
-    rw c.enum_told.given.1 (adds_none a.out.now a.at (omega arith))
+    rw c.enum_told-1.given.1 (adds_none a.out-1.now a.at (omega arith))
 
-same_length : tie.Need-same-length
-same_length c = search rules
+shape_of-out : tie.Need-shape_of-out
+shape_of-out c = search rules
 
-returns-2 : tie.Need-returns-2
+returns-in-After : tie.Need-returns-in-After
 unfolding text list
-returns-2 c =
+returns-in-After c =
     let n = c.before.before in
     let p = n.before.before.before.before in
-    rw (response (first p)).response.given.1 (adds_then (so_far_2 p).adds n.number.ensures)
+    rw (response (first p)).response-1.given.1 (adds_then (so_far_2 p).adds n.number.ensures)
 
 pub response_text_spec : {M : Type 1} → statement M
 response_text_spec =
     tie.close
     (tie.spec
-    enum_told
-    enum-known-response
-    four-requires
-    two-requires
-    cast-number
+    enum_told-1
+    enum_known-response
+    four-n1-requires
+    two-n2-requires
+    overflow_cast-micro
     number-requires
-    returns
-    same_length
-    returns-2)
+    returns-in-Untimed
+    shape_of-out
+    returns-in-After)

@@ -5,13 +5,13 @@ use Rattle.log_text.proofs.side_letter.Tie as tie
 use Rattle.log_text.proofs.side_letter.Reads as reads
 use Rattle.log_text.proofs.side_letter.Lts as lts
 
-returns : tie.Need-returns
+returns-then-second : tie.Need-returns-then-second
 unfolding text list
-returns c = rw c.if1.true
+returns-then-second c = rw c.if-second.true
 
-returns-2 : tie.Need-returns-2
+returns-else-second : tie.Need-returns-else-second
 unfolding text list
-returns-2 c = rw c.if1.false
+returns-else-second c = rw c.if-second.false
 
 pub side_letter_spec : {M : Type 1} → statement M
-side_letter_spec = tie.close (tie.spec returns returns-2)
+side_letter_spec = tie.close (tie.spec returns-then-second returns-else-second)

@@ -10,28 +10,28 @@ use Rattle.log_text.proofs.start.Tie as tie
 
 -- ---- the places behind the calls
 
-abbrev start : tie.After-four → tie.Start
+abbrev start : tie.After-four-n1 → tie.Start
 start c = c.before.before.before
 
-abbrev first : tie.After-number → tie.After-four
+abbrev first : tie.After-number-n2 → tie.After-four-n1
 first c = c.before.before.before.before
 
 -- ---- the text so far, behind each call
 
-so_far_1 : (c : tie.After-four) → let a = (start c).args in Short (a.a ∷ a.b ∷ a.c ∷ 32 ∷ []) a.out.now a.at c.four.new.0 c.four.result 4
-so_far_1 c = short 4 c.four.ensures (omega arith)
+so_far_1 : (c : tie.After-four-n1) → let a = (start c).args in Short (a.a ∷ a.b ∷ a.c ∷ 32 ∷ []) a.out-1.now a.at c.four-n1.new.0 c.four-n1.result 4
+so_far_1 c = short 4 c.four-n1.ensures (omega arith)
 
-so_far_2 : (c : tie.After-number) → let a = (start (first c)).args in
-    Short ((a.a ∷ a.b ∷ a.c ∷ 32 ∷ []) ++ decimal a.bus) a.out.now a.at c.number.new.0 c.number.result 24
-so_far_2 c = short_then 20 (so_far_1 (first c)) c.number.ensures (decimal_few (start (first c)).args.bus)
+so_far_2 : (c : tie.After-number-n2) → let a = (start (first c)).args in
+    Short ((a.a ∷ a.b ∷ a.c ∷ 32 ∷ []) ++ decimal a.bus) a.out-1.now a.at c.number-n2.new.0 c.number-n2.result 24
+so_far_2 c = short_then 20 (so_far_1 (first c)) c.number-n2.ensures (decimal_few (start (first c)).args.bus)
 
 -- ---- the needs
 
-four-requires : tie.Need-four-requires
-four-requires c κs = search rules
+four-n1-requires : tie.Need-four-n1-requires
+four-n1-requires c κs = search rules
 
-number-requires : tie.Need-number-requires
-number-requires c κs =
+number-n2-requires : tie.Need-number-n2-requires
+number-n2-requires c κs =
     let p = c.before.before.before in
     let n = (start p).args.bus in
     short_room (length (decimal n)) (so_far_1 p) (omega (arith, decimal_few n))
@@ -39,8 +39,8 @@ number-requires c κs =
 put-requires : tie.Need-put-requires
 put-requires c κs = omega (arith, short_room 1 (so_far_2 c.before.before.before) (omega arith))
 
-same_length : tie.Need-same-length
-same_length c = search rules
+shape_of-out : tie.Need-shape_of-out
+shape_of-out c = search rules
 
 returns : tie.Need-returns
 returns c =
@@ -48,4 +48,4 @@ returns c =
     adds_then (so_far_2 p.before.before.before.before).adds p.put.ensures
 
 pub start_spec : {M : Type 1} → statement M
-start_spec = tie.close (tie.spec four-requires number-requires put-requires same_length returns)
+start_spec = tie.close (tie.spec four-n1-requires number-n2-requires put-requires shape_of-out returns)

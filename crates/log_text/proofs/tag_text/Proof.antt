@@ -8,47 +8,47 @@ use Rattle.log_text.proofs.Adding.{adds_none, adds_then, short, short_room}
 use Rattle.log_text.proofs.tag_text.Statement.{statement}
 use Rattle.log_text.proofs.tag_text.Tie as tie
 
-enum_told : tie.Need-enum-told
-enum_told c = search rules
+enum_told-1 : tie.Need-enum_told-1
+enum_told-1 c = search rules
 
-enum-known-tag : tie.Need-enum-known-tag
-enum-known-tag c = search rules
+enum_known-tag : tie.Need-enum_known-tag
+enum_known-tag c = search rules
 
-four-requires : tie.Need-four-requires
-four-requires c κs = search rules
+four-n1-requires : tie.Need-four-n1-requires
+four-n1-requires c κs = search rules
 
-microseconds-of-requires : tie.Need-microseconds-of-requires
-microseconds-of-requires c κs = search rules
+microseconds_of-requires : tie.Need-microseconds_of-requires
+microseconds_of-requires c κs = search rules
 
 number-requires : tie.Need-number-requires
 number-requires c κs =
-    let n = c.microseconds-of.result in
-    short_room (length (decimal n)) (short 4 c.before.before.before.before.four.ensures (omega arith)) (omega (arith, decimal_few n))
+    let n = c.microseconds_of.result in
+    short_room (length (decimal n)) (short 4 c.before.before.before.before.four-n1.ensures (omega arith)) (omega (arith, decimal_few n))
 
-returns : tie.Need-returns
-returns c =
+returns-in-Untagged : tie.Need-returns-in-Untagged
+returns-in-Untagged c =
     let a = c.before.before.before.args in
-    rw c.enum_told.given.1 (adds_none a.out.now a.at (omega arith))
+    rw c.enum_told-1.given.1 (adds_none a.out-1.now a.at (omega arith))
 
-same_length : tie.Need-same-length
-same_length c = search rules
+shape_of-out : tie.Need-shape_of-out
+shape_of-out c = search rules
 
-returns-2 : tie.Need-returns-2
+returns-in-At : tie.Need-returns-in-At
 unfolding text list
-returns-2 c =
+returns-in-At c =
     let n = c.before.before in
     let f = n.before.before.before.before.before in
-    rw (f.before.before.before.tag.given.1, ← n.before.microseconds-of.ensures) (adds_then f.four.ensures n.number.ensures)
+    rw (f.before.before.before.tag-1.given.1, ← n.before.microseconds_of.ensures) (adds_then f.four-n1.ensures n.number.ensures)
 
 pub tag_text_spec : {M : Type 1} → statement M
 tag_text_spec =
     tie.close
     (tie.spec
-    enum_told
-    enum-known-tag
-    four-requires
-    microseconds-of-requires
+    enum_told-1
+    enum_known-tag
+    four-n1-requires
+    microseconds_of-requires
     number-requires
-    returns
-    same_length
-    returns-2)
+    returns-in-Untagged
+    shape_of-out
+    returns-in-At)

@@ -7,24 +7,24 @@ use Rattle.log_text.proofs.two.Tie as tie
 use Rattle.log_text.proofs.two.Reads as reads
 use Rattle.log_text.proofs.two.Lts as lts
 
-slice-write-out : tie.Need-slice-write-out
-slice-write-out c = search rules
+bounds-out-at : tie.Need-bounds-out-at
+bounds-out-at c = search rules
 
-add-out : tie.Need-overflow-add-out
-add-out c = search rules
+overflow_add-out : tie.Need-overflow_add-out
+overflow_add-out c = search rules
 
-slice-write-out-2 : tie.Need-slice-write-out-2
-slice-write-out-2 c = simp length-set (omega arith)
+bounds-out-at-2 : tie.Need-bounds-out-at-2
+bounds-out-at-2 c = simp length-set (omega arith)
 
-add-result : tie.Need-overflow-add-result
-add-result c = search rules
+overflow_add-result : tie.Need-overflow_add-result
+overflow_add-result c = search rules
 
-same_length : tie.Need-same-length
-same_length c = simp length-set
+shape_of-out : tie.Need-shape_of-out
+shape_of-out c = simp length-set
 
 returns : tie.Need-returns
 returns c = adds_two c.args.out.now c.args.at _ _ c.requires
 
 pub two_spec : {M : Type 1} → statement M
 two_spec =
-    tie.close (tie.spec slice-write-out add-out slice-write-out-2 add-result same_length returns)
+    tie.close (tie.spec bounds-out-at overflow_add-out bounds-out-at-2 overflow_add-result shape_of-out returns)

@@ -5,13 +5,13 @@ use Rattle.log_text.proofs.user_label.Tie as tie
 use Rattle.log_text.proofs.user_label.Reads as reads
 use Rattle.log_text.proofs.user_label.Lts as lts
 
-returns : tie.Need-returns
+returns-then-three : tie.Need-returns-then-three
 unfolding decimal decimal_in
-returns c = rw c.if1.true
+returns-then-three c = rw c.if-three.true
 
-returns-2 : tie.Need-returns-2
+returns-else-three : tie.Need-returns-else-three
 unfolding decimal decimal_in
-returns-2 c = rw c.if1.false
+returns-else-three c = rw c.if-three.false
 
 pub user_label_spec : {M : Type 1} → statement M
-user_label_spec = tie.close (tie.spec returns returns-2)
+user_label_spec = tie.close (tie.spec returns-then-three returns-else-three)

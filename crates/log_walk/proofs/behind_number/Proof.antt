@@ -11,28 +11,28 @@ use Rattle.log_walk.proofs.behind_number.Reads as reads
 use Rattle.log_walk.proofs.behind_number.Lts as lts
 use Rattle.log_walk.proofs.window.Reads as window-reads
 
-returns : tie.Need-returns
+returns-then-bits-eq0 : tie.Need-returns-then-bits-eq0
 unfolding field num_of num_from
-returns c = rw c.if1.true refl
+returns-then-bits-eq0 c = rw c.if-bits-eq0.true refl
 
 window-requires : tie.Need-window-requires
 window-requires c κs = search rules
 
-sub-result : tie.Need-overflow-sub-result
-sub-result c = search rules
+overflow_sub-result : tie.Need-overflow_sub-result
+overflow_sub-result c = search rules
 
-cast-result : tie.Need-overflow-cast-result
-cast-result c = search rules
+overflow_cast-result : tie.Need-overflow_cast-result
+overflow_cast-result c = search rules
 
-shr-result : tie.Need-overflow-shr-result
-shr-result c = search rules
+overflow_shr-result : tie.Need-overflow_shr-result
+overflow_shr-result c = search rules
 
-returns-2 : tie.Need-returns-2
-returns-2 c =
+returns : tie.Need-returns
+returns c =
     let a = c.before.before.before.args in
     let q = c.before.before.before.requires in
     sym (window_top (bytes_bits a.log.now) a.at c.window.result a.bits c.window.ensures (omega arith) q.1 (omega (arith, q.0, length_bytes a.log.now)))
 
 pub behind_number_spec : {M : Type 1} → statement M
 behind_number_spec =
-    tie.close (tie.spec returns window-requires sub-result cast-result shr-result returns-2)
+    tie.close (tie.spec returns-then-bits-eq0 window-requires overflow_sub-result overflow_cast-result overflow_shr-result returns)

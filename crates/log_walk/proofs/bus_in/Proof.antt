@@ -4,17 +4,17 @@ use borrow.Author.Rules.{rules}
 use Rattle.log_walk.proofs.bus_in.Statement.{statement}
 use Rattle.log_walk.proofs.bus_in.Tie as tie
 
-sub-result : tie.Need-overflow-sub-result
-sub-result c = search rules
+overflow_sub-result : tie.Need-overflow_sub-result
+overflow_sub-result c = search rules
 
-cast-result : tie.Need-overflow-cast-result
-cast-result c = search rules
+overflow_cast-result : tie.Need-overflow_cast-result
+overflow_cast-result c = search rules
 
-shr-result : tie.Need-overflow-shr-result
-shr-result c = search rules
+overflow_shr-result : tie.Need-overflow_shr-result
+overflow_shr-result c = search rules
 
-cast-result-2 : tie.Need-overflow-cast-result-2
-cast-result-2 c = search rules
+overflow_cast-result-2 : tie.Need-overflow_cast-result-2
+overflow_cast-result-2 c = search rules
 
 returns : tie.Need-returns
 returns c = (refl, omega arith)
@@ -23,8 +23,8 @@ pub bus_in_spec : {M : Type 1} → statement M
 bus_in_spec =
     tie.close
     (tie.spec
-    sub-result
-    cast-result
-    shr-result
-    cast-result-2
+    overflow_sub-result
+    overflow_cast-result
+    overflow_shr-result
+    overflow_cast-result-2
     returns)

@@ -8,36 +8,36 @@ use Rattle.log_walk.proofs.end_piece.Tie as tie
 use Rattle.log_walk.proofs.end_piece.Reads as reads
 use Rattle.log_walk.proofs.end_piece.Lts as lts
 
-returns : tie.Need-returns
-returns c =
+returns-then-left-ge12 : tie.Need-returns-then-left-ge12
+returns-then-left-ge12 c =
     let a = c.before.args in
     let q = c.before.requires in
-    sym (ap piece_of (end_far a.log.now a.at a.left a.w q.0 q.1.0 q.1.2 (omega arith) c.if1.true))
+    sym (ap piece_of (end_far a.log.now a.at a.left a.w q.0 q.1.0 q.1.2 (omega arith) c.if-left-ge12.true))
 
-cast-if2 : tie.Need-overflow-cast-if2
-cast-if2 c = search rules
+overflow_cast-left : tie.Need-overflow_cast-left
+overflow_cast-left c = search rules
 
-sub-if2 : tie.Need-overflow-sub-if2
-sub-if2 c = search rules
+overflow_sub-left : tie.Need-overflow_sub-left
+overflow_sub-left c = search rules
 
-cast-if2-2 : tie.Need-overflow-cast-if2-2
-cast-if2-2 c = search rules
+overflow_cast-left-2 : tie.Need-overflow_cast-left-2
+overflow_cast-left-2 c = search rules
 
-shr-if2 : tie.Need-overflow-shr-if2
-shr-if2 c = search rules
+overflow_shr-w : tie.Need-overflow_shr-w
+overflow_shr-w c = search rules
 
-returns-2 : tie.Need-returns-2
-returns-2 c =
+returns-then-w-left-eq0 : tie.Need-returns-then-w-left-eq0
+returns-then-w-left-eq0 c =
     let a = c.before.before.args in
     let q = c.before.before.requires in
-    sym (ap piece_of (end_clean a.log.now a.at a.left a.w q.0 q.1.0 q.1.2 (omega arith) c.before.if1.false q.1.3 c.if2.true))
+    sym (ap piece_of (end_clean a.log.now a.at a.left a.w q.0 q.1.0 q.1.2 (omega arith) c.before.if-left-ge12.false q.1.3 c.if-w-left-eq0.true))
 
-returns-3 : tie.Need-returns-3
-returns-3 c =
+returns : tie.Need-returns
+returns c =
     let a = c.before.before.args in
     let q = c.before.before.requires in
-    sym (ap piece_of (end-dirty a.log.now a.at a.left a.w q.0 q.1.0 q.1.2 (omega arith) c.before.if1.false q.1.3 c.if2.false))
+    sym (ap piece_of (end-dirty a.log.now a.at a.left a.w q.0 q.1.0 q.1.2 (omega arith) c.before.if-left-ge12.false q.1.3 c.if-w-left-eq0.false))
 
 pub end_piece_spec : {M : Type 1} → statement M
 end_piece_spec =
-    tie.close (tie.spec returns cast-if2 sub-if2 cast-if2-2 shr-if2 returns-2 returns-3)
+    tie.close (tie.spec returns-then-left-ge12 overflow_cast-left overflow_sub-left overflow_cast-left-2 overflow_shr-w returns-then-w-left-eq0 returns)

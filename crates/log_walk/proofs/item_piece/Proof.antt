@@ -10,65 +10,65 @@ use Rattle.log_walk.proofs.behind_bits.Reads as behind-bits-reads
 use Rattle.log_walk.proofs.behind_number.Reads as behind-number-reads
 use Rattle.log_walk.proofs.first_bits.Reads as first-bits-reads
 
-first-bits-requires : tie.Need-first-bits-requires
-first-bits-requires c κs = search rules
+first_bits-first-requires : tie.Need-first_bits-first-requires
+first_bits-first-requires c κs = search rules
 
-behind-bits-requires : tie.Need-behind-bits-requires
-behind-bits-requires c κs = search rules
+behind_bits-behind-requires : tie.Need-behind_bits-behind-requires
+behind_bits-behind-requires c κs = search rules
 
-add-if1 : tie.Need-overflow-add-if1
-add-if1 c = search rules
+overflow_add-first : tie.Need-overflow_add-first
+overflow_add-first c = search rules
 
-cast-if1 : tie.Need-overflow-cast-if1
-cast-if1 c = search rules
+overflow_cast-first : tie.Need-overflow_cast-first
+overflow_cast-first c = search rules
+
+returns-then-left-first : tie.Need-returns-then-left-first
+returns-then-left-first c =
+    let a = c.before.before.before.before.args in
+    let q = c.before.before.before.before.requires in
+    let f = c.before.before.first_bits-first in
+    let b = c.before.behind_bits-behind in
+    sym (item-cut a.log.now a.at a.left a.w q.0 q.1.0 (omega arith) q.1.2 a.kind f.result b.result q.1.3 q.1.4 q.1.5 f.ensures.0 b.ensures.0 c.if-left-first.true)
+
+overflow_sub-result : tie.Need-overflow_sub-result
+overflow_sub-result c = search rules
+
+overflow_cast-result : tie.Need-overflow_cast-result
+overflow_cast-result c = search rules
+
+overflow_shr-result : tie.Need-overflow_shr-result
+overflow_shr-result c = search rules
+
+overflow_cast-first-2 : tie.Need-overflow_cast-first-2
+overflow_cast-first-2 c = search rules
+
+overflow_add-at : tie.Need-overflow_add-at
+overflow_add-at c = search rules
+
+behind_number-requires : tie.Need-behind_number-requires
+behind_number-requires c κs = search rules
 
 returns : tie.Need-returns
 returns c =
-    let a = c.before.before.before.before.args in
-    let q = c.before.before.before.before.requires in
-    let f = c.before.before.first_bits in
-    let b = c.before.behind-bits in
-    sym (item-cut a.log.now a.at a.left a.w q.0 q.1.0 (omega arith) q.1.2 a.kind f.result b.result q.1.3 q.1.4 q.1.5 f.ensures.0 b.ensures.0 c.if1.true)
-
-sub-t8 : tie.Need-overflow-sub-t8
-sub-t8 c = search rules
-
-cast-t11 : tie.Need-overflow-cast-t11
-cast-t11 c = search rules
-
-shr-t12 : tie.Need-overflow-shr-t12
-shr-t12 c = search rules
-
-cast-behind-number : tie.Need-overflow-cast-behind-number
-cast-behind-number c = search rules
-
-add-behind-number : tie.Need-overflow-add-behind-number
-add-behind-number c = search rules
-
-behind-number-requires : tie.Need-behind-number-requires
-behind-number-requires c κs = search rules
-
-returns-2 : tie.Need-returns-2
-returns-2 c =
     let a = c.before.before.before.before.before.args in
     let q = c.before.before.before.before.before.requires in
-    let f = c.before.before.before.first_bits in
-    let b = c.before.before.behind-bits in
-    item-whole a.log.now a.at a.left a.w q.0 q.1.0 (omega arith) q.1.2 a.kind f.result b.result q.1.3 q.1.4 q.1.5 f.ensures.0 b.ensures.0 _ _ f.ensures.2 (omega arith) refl c.behind-number.ensures
+    let f = c.before.before.before.first_bits-first in
+    let b = c.before.before.behind_bits-behind in
+    item-whole a.log.now a.at a.left a.w q.0 q.1.0 (omega arith) q.1.2 a.kind f.result b.result q.1.3 q.1.4 q.1.5 f.ensures.0 b.ensures.0 _ _ f.ensures.2 (omega arith) refl c.behind_number.ensures
 
 pub item_piece_spec : {M : Type 1} → statement M
 item_piece_spec =
     tie.close
     (tie.spec
-    first-bits-requires
-    behind-bits-requires
-    add-if1
-    cast-if1
-    returns
-    sub-t8
-    cast-t11
-    shr-t12
-    cast-behind-number
-    add-behind-number
-    behind-number-requires
-    returns-2)
+    first_bits-first-requires
+    behind_bits-behind-requires
+    overflow_add-first
+    overflow_cast-first
+    returns-then-left-first
+    overflow_sub-result
+    overflow_cast-result
+    overflow_shr-result
+    overflow_cast-first-2
+    overflow_add-at
+    behind_number-requires
+    returns)

@@ -7,11 +7,11 @@ use Rattle.log_walk.proofs.window_in.Reads as reads
 use Rattle.log_walk.proofs.window_in.Lts as lts
 use Rattle.log_read.proofs.Cursor.filled_in.Reads as filled-in-reads
 
-filled-in-requires : tie.Need-filled-in-requires
-filled-in-requires c κs = search rules
+filled_in-requires : tie.Need-filled_in-requires
+filled_in-requires c κs = search rules
 
 returns : tie.Need-returns
 returns c = ahead_window (filled_ahead _ _ c.filled_in.ensures.0)
 
 pub window_in_spec : {M : Type 1} → statement M
-window_in_spec = tie.close (tie.spec filled-in-requires returns)
+window_in_spec = tie.close (tie.spec filled_in-requires returns)

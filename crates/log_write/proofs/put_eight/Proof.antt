@@ -8,21 +8,21 @@ use Rattle.log_write.proofs.put_eight.Reads as reads
 use Rattle.log_write.proofs.put_eight.Lts as lts
 use Rattle.log_write.proofs.set_eight.Reads as set-eight-reads
 
-add-if1 : tie.Need-overflow-add-if1
-add-if1 c = search rules
+overflow_add-at : tie.Need-overflow_add-at
+overflow_add-at c = search rules
 
-set-eight-requires : tie.Need-set-eight-requires
-set-eight-requires c κs = search rules
+set_eight-requires : tie.Need-set_eight-requires
+set_eight-requires c κs = search rules
 
-same_length : tie.Need-same-length
-same_length c = search rules
+shape_of-out : tie.Need-shape_of-out
+shape_of-out c = search rules
 
-returns : tie.Need-returns
-returns c = search rules
+returns-then-at-out : tie.Need-returns-then-at-out
+returns-then-at-out c = search rules
 
-returns-2 : tie.Need-returns-2
+returns-else-at-out : tie.Need-returns-else-at-out
 unfolding eight_in
-returns-2 c = rw (lt-leb _ _ c.if1.false) refl
+returns-else-at-out c = rw (lt-leb _ _ c.if-at-out.false) refl
 
 pub put_eight_spec : {M : Type 1} → statement M
-put_eight_spec = tie.close (tie.spec add-if1 set-eight-requires same_length returns returns-2)
+put_eight_spec = tie.close (tie.spec overflow_add-at set_eight-requires shape_of-out returns-then-at-out returns-else-at-out)

@@ -9,77 +9,77 @@ use Rattle.log_write.proofs.set_eight.Tie as tie
 use Rattle.log_write.proofs.set_eight.Reads as reads
 use Rattle.log_write.proofs.set_eight.Lts as lts
 
-cast-out : tie.Need-overflow-cast-out
-cast-out c = search rules
+overflow_cast-out : tie.Need-overflow_cast-out
+overflow_cast-out c = search rules
 
-slice-write-out : tie.Need-slice-write-out
-slice-write-out c = search rules
+bounds-out-at : tie.Need-bounds-out-at
+bounds-out-at c = search rules
 
-cast-out-2 : tie.Need-overflow-cast-out-2
-cast-out-2 c = search rules
+overflow_cast-out-2 : tie.Need-overflow_cast-out-2
+overflow_cast-out-2 c = search rules
 
-add-out : tie.Need-overflow-add-out
-add-out c = search rules
+overflow_add-out : tie.Need-overflow_add-out
+overflow_add-out c = search rules
 
-slice-write-out-2 : tie.Need-slice-write-out-2
-slice-write-out-2 c = simp length-set (omega arith)
+bounds-out-at-2 : tie.Need-bounds-out-at-2
+bounds-out-at-2 c = simp length-set (omega arith)
 
-cast-out-3 : tie.Need-overflow-cast-out-3
-cast-out-3 c = search rules
+overflow_cast-out-3 : tie.Need-overflow_cast-out-3
+overflow_cast-out-3 c = search rules
 
-add-out-2 : tie.Need-overflow-add-out-2
-add-out-2 c = search rules
+overflow_add-out-2 : tie.Need-overflow_add-out-2
+overflow_add-out-2 c = search rules
 
-slice-write-out-3 : tie.Need-slice-write-out-3
-slice-write-out-3 c = simp length-set (omega arith)
+bounds-out-at-3 : tie.Need-bounds-out-at-3
+bounds-out-at-3 c = simp length-set (omega arith)
 
-cast-out-4 : tie.Need-overflow-cast-out-4
-cast-out-4 c = search rules
+overflow_cast-out-4 : tie.Need-overflow_cast-out-4
+overflow_cast-out-4 c = search rules
 
-add-out-3 : tie.Need-overflow-add-out-3
-add-out-3 c = search rules
+overflow_add-out-3 : tie.Need-overflow_add-out-3
+overflow_add-out-3 c = search rules
 
-slice-write-out-4 : tie.Need-slice-write-out-4
-slice-write-out-4 c = simp length-set (omega arith)
+bounds-out-at-4 : tie.Need-bounds-out-at-4
+bounds-out-at-4 c = simp length-set (omega arith)
 
-cast-out-5 : tie.Need-overflow-cast-out-5
-cast-out-5 c = search rules
+overflow_cast-out-5 : tie.Need-overflow_cast-out-5
+overflow_cast-out-5 c = search rules
 
-add-out-4 : tie.Need-overflow-add-out-4
-add-out-4 c = search rules
+overflow_add-out-4 : tie.Need-overflow_add-out-4
+overflow_add-out-4 c = search rules
 
-slice-write-out-5 : tie.Need-slice-write-out-5
-slice-write-out-5 c = simp length-set (omega arith)
+bounds-out-at-5 : tie.Need-bounds-out-at-5
+bounds-out-at-5 c = simp length-set (omega arith)
 
-cast-out-6 : tie.Need-overflow-cast-out-6
-cast-out-6 c = search rules
+overflow_cast-out-6 : tie.Need-overflow_cast-out-6
+overflow_cast-out-6 c = search rules
 
-add-out-5 : tie.Need-overflow-add-out-5
-add-out-5 c = search rules
+overflow_add-out-5 : tie.Need-overflow_add-out-5
+overflow_add-out-5 c = search rules
 
-slice-write-out-6 : tie.Need-slice-write-out-6
-slice-write-out-6 c = simp length-set (omega arith)
+bounds-out-at-6 : tie.Need-bounds-out-at-6
+bounds-out-at-6 c = simp length-set (omega arith)
 
-cast-out-7 : tie.Need-overflow-cast-out-7
-cast-out-7 c = search rules
+overflow_cast-out-7 : tie.Need-overflow_cast-out-7
+overflow_cast-out-7 c = search rules
 
-add-out-6 : tie.Need-overflow-add-out-6
-add-out-6 c = search rules
+overflow_add-out-6 : tie.Need-overflow_add-out-6
+overflow_add-out-6 c = search rules
 
-slice-write-out-7 : tie.Need-slice-write-out-7
-slice-write-out-7 c = simp length-set (omega arith)
+bounds-out-at-7 : tie.Need-bounds-out-at-7
+bounds-out-at-7 c = simp length-set (omega arith)
 
-cast-out-8 : tie.Need-overflow-cast-out-8
-cast-out-8 c = search rules
+overflow_cast-out-8 : tie.Need-overflow_cast-out-8
+overflow_cast-out-8 c = search rules
 
-add-out-7 : tie.Need-overflow-add-out-7
-add-out-7 c = search rules
+overflow_add-out-7 : tie.Need-overflow_add-out-7
+overflow_add-out-7 c = search rules
 
-slice-write-out-8 : tie.Need-slice-write-out-8
-slice-write-out-8 c = simp length-set (omega arith)
+bounds-out-at-8 : tie.Need-bounds-out-at-8
+bounds-out-at-8 c = simp length-set (omega arith)
 
-same_length : tie.Need-same-length
-same_length c = simp length-set
+shape_of-out : tie.Need-shape_of-out
+shape_of-out c = simp length-set
 
 returns : tie.Need-returns
 unfolding eight_in
@@ -89,28 +89,28 @@ pub set_eight_spec : {M : Type 1} → statement M
 set_eight_spec =
     tie.close
     (tie.spec
-    cast-out
-    slice-write-out
-    cast-out-2
-    add-out
-    slice-write-out-2
-    cast-out-3
-    add-out-2
-    slice-write-out-3
-    cast-out-4
-    add-out-3
-    slice-write-out-4
-    cast-out-5
-    add-out-4
-    slice-write-out-5
-    cast-out-6
-    add-out-5
-    slice-write-out-6
-    cast-out-7
-    add-out-6
-    slice-write-out-7
-    cast-out-8
-    add-out-7
-    slice-write-out-8
-    same_length
+    overflow_cast-out
+    bounds-out-at
+    overflow_cast-out-2
+    overflow_add-out
+    bounds-out-at-2
+    overflow_cast-out-3
+    overflow_add-out-2
+    bounds-out-at-3
+    overflow_cast-out-4
+    overflow_add-out-3
+    bounds-out-at-4
+    overflow_cast-out-5
+    overflow_add-out-4
+    bounds-out-at-5
+    overflow_cast-out-6
+    overflow_add-out-5
+    bounds-out-at-6
+    overflow_cast-out-7
+    overflow_add-out-6
+    bounds-out-at-7
+    overflow_cast-out-8
+    overflow_add-out-7
+    bounds-out-at-8
+    shape_of-out
     returns)

@@ -14,39 +14,39 @@ use Rattle.notices.proofs.any_notice.Tie as tie
 use Rattle.notices.proofs.any_notice.Reads as reads
 use Rattle.notices.proofs.any_notice.Lts as lts
 
-abbrev invariant-loop : tie.invariant-loop
-invariant-loop row count₀ i₀ count i = (i ≤ length row) × (count ≤ i) × (any_notice row ≡ (not (eqb count 0) || any_notice (drop i row)))
+abbrev invariant-loop-i : tie.invariant-loop-i
+invariant-loop-i row count₀ i₀ count i = (i ≤ length row) × (count ≤ i) × (any_notice row ≡ (not (eqb count 0) || any_notice (drop i row)))
 
-abbrev decreases-loop : tie.decreases-loop
-decreases-loop row count₀ i₀ count i = length row - i
+abbrev decreases-loop-i : tie.decreases-loop-i
+decreases-loop-i row count₀ i₀ count i = length row - i
 
-loop-holds : tie.Need-loop-init invariant-loop decreases-loop
-loop-holds c = (omega arith, omega arith, refl)
+loop-i-init : tie.Need-loop-i-init invariant-loop-i decreases-loop-i
+loop-i-init c = (omega arith, omega arith, refl)
 
-mul-count : tie.Need-overflow-mul-count invariant-loop decreases-loop
-mul-count c = search rules
+offset_bounds-row-i : tie.Need-offset_bounds-row-i invariant-loop-i decreases-loop-i
+offset_bounds-row-i c = search rules
 
-shared-slice-read-count : tie.Need-shared-slice-read-count invariant-loop decreases-loop
-shared-slice-read-count c = search rules
+bounds-row-i : tie.Need-bounds-row-i invariant-loop-i decreases-loop-i
+bounds-row-i c = search rules
 
-cast-count : tie.Need-overflow-cast-count invariant-loop decreases-loop
-cast-count c = tt
+overflow_cast-count : tie.Need-overflow_cast-count invariant-loop-i decreases-loop-i
+overflow_cast-count c = tt
 
-add-count : tie.Need-overflow-add-count invariant-loop decreases-loop
-add-count c =
+overflow_add-count : tie.Need-overflow_add-count invariant-loop-i decreases-loop-i
+overflow_add-count c =
     let ws = c.before.before.before.args.row.now in
-    omega (arith, count_low (eqb (get_or ws c.before.before.loop.i 0 / 65536 % 16) 4) c.before.before.loop.count c.before.before.loop.i c.before.before.loop.invariant.1)
+    omega (arith, count_low (eqb (get_or ws c.before.before.loop-i.i 0 / 65536 % 16) 4) c.before.before.loop-i.count c.before.before.loop-i.i c.before.before.loop-i.invariant.1)
 
-add-i : tie.Need-overflow-add-i invariant-loop decreases-loop
-add-i c = search rules
+overflow_add-i : tie.Need-overflow_add-i invariant-loop-i decreases-loop-i
+overflow_add-i c = search rules
 
-loop-less : tie.Need-loop-smaller invariant-loop decreases-loop
-loop-less c = search rules
+loop-i-smaller : tie.Need-loop-i-smaller invariant-loop-i decreases-loop-i
+loop-i-smaller c = search rules
 
-loop-again : tie.Need-loop-preserved invariant-loop decreases-loop
+loop-i-preserved : tie.Need-loop-i-preserved invariant-loop-i decreases-loop-i
 unfolding label_of
-loop-again c =
-    let o = c.before.before.loop in
+loop-i-preserved c =
+    let o = c.before.before.loop-i in
     let ws = c.before.before.before.args.row.now in (
       omega arith,
       count_low (eqb (label_of (get_or ws o.i 0)) 4) o.count o.i o.invariant.1,
@@ -54,9 +54,9 @@ loop-again c =
           ∙ any_count o.count (eqb (label_of (get_or ws o.i 0)) 4) (any_notice (drop (o.i + 1) ws)),
     )
 
-returns : tie.Need-returns invariant-loop decreases-loop
+returns : tie.Need-returns invariant-loop-i decreases-loop-i
 returns c =
-    let o = c.before.loop in
+    let o = c.before.loop-i in
     let ws = c.before.before.args.row.now in
     sym (o.invariant.2 ∙ ap (λ z. not (eqb o.count 0) || z) (notice_end ws o.i (omega arith)) ∙ or_none (not (eqb o.count 0)))
 
@@ -64,14 +64,14 @@ pub any_notice_spec : {M : Type 1} → statement M
 any_notice_spec =
     tie.close
     (tie.spec
-    invariant-loop
-    decreases-loop
-    loop-holds
-    mul-count
-    shared-slice-read-count
-    cast-count
-    add-count
-    add-i
-    loop-less
-    loop-again
+    invariant-loop-i
+    decreases-loop-i
+    loop-i-init
+    offset_bounds-row-i
+    bounds-row-i
+    overflow_cast-count
+    overflow_add-count
+    overflow_add-i
+    loop-i-smaller
+    loop-i-preserved
     returns)

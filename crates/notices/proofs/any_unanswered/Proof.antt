@@ -13,43 +13,43 @@ use Rattle.notices.proofs.shared_bits.Reads as shared-bits-reads
 use Rattle.notices.proofs.unanswered.Reads as unanswered-reads
 use Rattle.word.proofs.join.Reads as join-reads
 
-shared-bits-requires : tie.Need-shared-bits-requires
-shared-bits-requires c κs = search rules
+shared_bits-ones-requires : tie.Need-shared_bits-ones-requires
+shared_bits-ones-requires c κs = search rules
 
-shared-bits-requires-2 : tie.Need-shared-bits-requires-2
-shared-bits-requires-2 c κs = search rules
+shared_bits-requires : tie.Need-shared_bits-requires
+shared_bits-requires c κs = search rules
 
-in-code-requires : tie.Need-in-code-requires
-in-code-requires c κs = search rules
+in_code-requires : tie.Need-in_code-requires
+in_code-requires c κs = search rules
 
-join-requires : tie.Need-join-requires
-join-requires c κs = search rules
+join-mask-requires : tie.Need-join-mask-requires
+join-mask-requires c κs = search rules
 
-in-code-requires-2 : tie.Need-in-code-requires-2
-in-code-requires-2 c κs = search rules
+in_code-requires-2 : tie.Need-in_code-requires-2
+in_code-requires-2 c κs = search rules
 
-join-requires-2 : tie.Need-join-requires-2
-join-requires-2 c κs = search rules
+join-value-requires : tie.Need-join-value-requires
+join-value-requires c κs = search rules
 
 -- the two numbers by which notices are told
-abbrev entry : tie.After-join2 → tie.Start
+abbrev entry : tie.After-join-value → tie.Start
 entry c = c.before.before.before.before.before.before.before
 
-abbrev ones : tie.After-join2 → ℕ
-ones c = c.before.before.before.before.before.shared-bits.result
+abbrev ones : tie.After-join-value → ℕ
+ones c = c.before.before.before.before.before.shared_bits-ones.result
 
-abbrev bits : tie.After-join2 → ℕ
-bits c = bit_or (ones c) c.before.before.before.before.shared-bits2.result
+abbrev bits : tie.After-join-value → ℕ
+bits c = bit_or (ones c) c.before.before.before.before.shared_bits.result
 
-mask_is : (c : tie.After-join2) → c.before.before.join.result ≡ in_word (entry c).args.parity (bits c) 15
+mask_is : (c : tie.After-join-value) → c.before.before.join-mask.result ≡ in_word (entry c).args.parity (bits c) 15
 mask_is c =
     let i = c.before.before.before.in_code in
-    joined (entry c).args.parity (bits c) 15 i.result c.before.before.join.result i.ensures.0 c.before.before.join.ensures
+    joined (entry c).args.parity (bits c) 15 i.result c.before.before.join-mask.result i.ensures.0 c.before.before.join-mask.ensures
 
-value_is : (c : tie.After-join2) → c.join2.result ≡ in_word (entry c).args.parity (ones c) 4
+value_is : (c : tie.After-join-value) → c.join-value.result ≡ in_word (entry c).args.parity (ones c) 4
 value_is c =
-    let i = c.before.in-code2 in
-    joined (entry c).args.parity (ones c) 4 i.result c.join2.result i.ensures.0 c.join2.ensures
+    let i = c.before.in_code-2 in
+    joined (entry c).args.parity (ones c) 4 i.result c.join-value.result i.ensures.0 c.join-value.ensures
 
 unanswered-requires : tie.Need-unanswered-requires
 unanswered-requires c κs =
@@ -60,8 +60,8 @@ returns : tie.Need-returns
 returns c =
     let d = c.before in
     let s = (entry d).args in
-    let o = d.before.before.before.before.before.shared-bits.ensures.0 in
-    let z = d.before.before.before.before.shared-bits2.ensures.0 in
+    let o = d.before.before.before.before.before.shared_bits-ones.ensures.0 in
+    let z = d.before.before.before.before.shared_bits.ensures.0 in
     let m = mask_is d ∙ ap₂ (λ x y. in_word s.parity (bit_or x y) 15) o z in
     let v = value_is d ∙ ap (λ x. in_word s.parity x 4) o in
     c.unanswered.ensures ∙ ap₂ (λ x y. unanswered x y s.parity s.row.now) m v
@@ -70,11 +70,11 @@ pub any_unanswered_spec : {M : Type 1} → statement M
 any_unanswered_spec =
     tie.close
     (tie.spec
-    shared-bits-requires
-    shared-bits-requires-2
-    in-code-requires
-    join-requires
-    in-code-requires-2
-    join-requires-2
+    shared_bits-ones-requires
+    shared_bits-requires
+    in_code-requires
+    join-mask-requires
+    in_code-requires-2
+    join-value-requires
     unanswered-requires
     returns)

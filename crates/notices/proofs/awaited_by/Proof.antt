@@ -9,36 +9,36 @@ use Rattle.notices.proofs.awaited_by.Lts as lts
 use Rattle.word.proofs.bus_of.Reads as bus-of-reads
 use Rattle.word.proofs.information_of.Reads as information-of-reads
 
-bus-of-requires : tie.Need-bus-of-requires
-bus-of-requires c κs = search rules
+bus_of-requires : tie.Need-bus_of-requires
+bus_of-requires c κs = search rules
 
-mul-result : tie.Need-overflow-mul-result
-mul-result c = omega (arith, c.bus-of.ensures, bus_low c.before.args.parity c.before.args.notice c.before.requires)
+overflow_mul-result : tie.Need-overflow_mul-result
+overflow_mul-result c = omega (arith, c.bus_of.ensures, bus_low c.before.args.parity c.before.args.notice c.before.requires)
 
-add-result : tie.Need-overflow-add-result
-add-result c = omega (arith, c.bus-of.ensures, bus_low c.before.args.parity c.before.args.notice c.before.requires)
+overflow_add-result : tie.Need-overflow_add-result
+overflow_add-result c = omega (arith, c.bus_of.ensures, bus_low c.before.args.parity c.before.args.notice c.before.requires)
 
-information-of-requires : tie.Need-information-of-requires
-information-of-requires c κs = search rules
+information_of-requires : tie.Need-information_of-requires
+information_of-requires c κs = search rules
 
-mul-result-2 : tie.Need-overflow-mul-result-2
-mul-result-2 c = search rules
+overflow_mul-result-2 : tie.Need-overflow_mul-result-2
+overflow_mul-result-2 c = search rules
 
-add-result-2 : tie.Need-overflow-add-result-2
-add-result-2 c = omega (arith, c.before.bus-of.ensures, bus_low c.before.before.args.parity c.before.before.args.notice c.before.before.requires)
+overflow_add-result-2 : tie.Need-overflow_add-result-2
+overflow_add-result-2 c = omega (arith, c.before.bus_of.ensures, bus_low c.before.before.args.parity c.before.before.args.notice c.before.before.requires)
 
 returns : tie.Need-returns
 unfolding awaited
-returns c = rw (c.before.bus-of.ensures, c.information-of.ensures) (omega arith)
+returns c = rw (c.before.bus_of.ensures, c.information_of.ensures) (omega arith)
 
 pub awaited_by_spec : {M : Type 1} → statement M
 awaited_by_spec =
     tie.close
     (tie.spec
-    bus-of-requires
-    mul-result
-    add-result
-    information-of-requires
-    mul-result-2
-    add-result-2
+    bus_of-requires
+    overflow_mul-result
+    overflow_add-result
+    information_of-requires
+    overflow_mul-result-2
+    overflow_add-result-2
     returns)

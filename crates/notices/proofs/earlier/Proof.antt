@@ -6,21 +6,21 @@ use Rattle.notices.proofs.earlier.Tie as tie
 use Rattle.notices.proofs.earlier.Reads as reads
 use Rattle.notices.proofs.earlier.Lts as lts
 
-returns : tie.Need-returns
+returns-then-a-eq0 : tie.Need-returns-then-a-eq0
 unfolding earlier
-returns c = rw (eq-eqb _ _ c.if1.true)
+returns-then-a-eq0 c = rw (eq-eqb _ _ c.if-a-eq0.true)
 
-returns-2 : tie.Need-returns-2
+returns-then-b-eq0 : tie.Need-returns-then-b-eq0
 unfolding earlier
-returns-2 c = rw (ne_eqb _ _ c.before.if1.false, eq-eqb _ _ c.if2.true)
+returns-then-b-eq0 c = rw (ne_eqb _ _ c.before.if-a-eq0.false, eq-eqb _ _ c.if-b-eq0.true)
 
-returns-3 : tie.Need-returns-3
+returns-then-a-b : tie.Need-returns-then-a-b
 unfolding earlier
-returns-3 c = rw (ne_eqb _ _ c.before.before.if1.false, ne_eqb _ _ c.before.if2.false, le-leb _ _ c.if3.true)
+returns-then-a-b c = rw (ne_eqb _ _ c.before.before.if-a-eq0.false, ne_eqb _ _ c.before.if-b-eq0.false, le-leb _ _ c.if-a-b.true)
 
-returns-4 : tie.Need-returns-4
+returns-else-a-b : tie.Need-returns-else-a-b
 unfolding earlier
-returns-4 c = rw (ne_eqb _ _ c.before.before.if1.false, ne_eqb _ _ c.before.if2.false, lt-leb _ _ c.if3.false)
+returns-else-a-b c = rw (ne_eqb _ _ c.before.before.if-a-eq0.false, ne_eqb _ _ c.before.if-b-eq0.false, lt-leb _ _ c.if-a-b.false)
 
 pub earlier_spec : {M : Type 1} → statement M
-earlier_spec = tie.close (tie.spec returns returns-2 returns-3 returns-4)
+earlier_spec = tie.close (tie.spec returns-then-a-eq0 returns-then-b-eq0 returns-then-a-b returns-else-a-b)

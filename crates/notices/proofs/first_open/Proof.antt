@@ -16,88 +16,88 @@ use Rattle.notices.proofs.least_of.Reads as least-of-reads
 use Rattle.notices.proofs.over_row.Reads as over-row-reads
 use Rattle.notices.proofs.quiet_noticed.Reads as quiet-noticed-reads
 
-has-arinc-requires : tie.Need-has-arinc-requires
-has-arinc-requires c κs = search rules
+has_arinc-requires : tie.Need-has_arinc-requires
+has_arinc-requires c κs = search rules
 
-any-notice-requires : tie.Need-any-notice-requires
-any-notice-requires c κs = search rules
+any_notice-requires : tie.Need-any_notice-requires
+any_notice-requires c κs = search rules
 
-quiet-noticed-requires : tie.Need-quiet-noticed-requires
-quiet-noticed-requires c κs =
+quiet_noticed-quiet-requires : tie.Need-quiet_noticed-quiet-requires
+quiet_noticed-quiet-requires c κs =
     let s = c.before.before.before.before.before in
-    (s.requires.0, any_some s.args.words.now (sym c.before.any-notice.ensures ∙ c.if2.true), s.requires.1)
+    (s.requires.0, any_some s.args.words.now (sym c.before.any_notice.ensures ∙ c.if-any_notice.true), s.requires.1)
 
-abbrev entry : tie.After-quiet-noticed → tie.Start
+abbrev entry : tie.After-quiet_noticed-quiet → tie.Start
 entry c = c.before.before.before.before.before.before
 
-here : (c : tie.After-quiet-noticed) → c.quiet-noticed.result ≤ length (entry c).args.words.now
-here c = omega (arith, c.quiet-noticed.ensures, quiet_low (entry c).args.kinds (entry c).args.parity 0 (entry c).args.words.now)
+here : (c : tie.After-quiet_noticed-quiet) → c.quiet_noticed-quiet.result ≤ length (entry c).args.words.now
+here c = omega (arith, c.quiet_noticed-quiet.ensures, quiet_low (entry c).args.kinds (entry c).args.parity 0 (entry c).args.words.now)
 
-returns : tie.Need-returns
-returns c =
+returns-then-quiet-words : tie.Need-returns-then-quiet_words
+returns-then-quiet-words c =
     let s = entry c.before in
-    let q = c.before.quiet-noticed in
-    sym (all_quiet_open s.args.kinds s.args.parity s.args.words.now s.pre.0 q.result q.ensures c.if3.true)
+    let q = c.before.quiet_noticed-quiet in
+    sym (all_quiet_open s.args.kinds s.args.parity s.args.words.now s.pre.0 q.result q.ensures c.if-quiet-words.true)
 
-mul-over-row : tie.Need-overflow-mul-over-row
-mul-over-row c = omega (arith, here c.before, (entry c.before).requires.1)
+offset_bounds-words-quiet : tie.Need-offset_bounds-words-quiet
+offset_bounds-words-quiet c = omega (arith, here c.before, (entry c.before).requires.1)
 
-sub-over-row : tie.Need-overflow-sub-over-row
-sub-over-row c = here c.before
+slice_bounds-over_row-count : tie.Need-slice_bounds-over_row-count
+slice_bounds-over_row-count c = here c.before
 
-part-over-row-start : tie.Need-slice-bounds-over-row-start
-part-over-row-start c = here c.before
+slice_bounds-over_row-start : tie.Need-slice_bounds-over_row-start
+slice_bounds-over_row-start c = here c.before
 
-part-over-row-end : tie.Need-slice-bounds-over-row-end
-part-over-row-end c = search rules
+slice_bounds-over_row-end : tie.Need-slice_bounds-over_row-end
+slice_bounds-over_row-end c = search rules
 
-slice-aggregate-over-row : tie.Need-slice-aggregate-over-row
-slice-aggregate-over-row c = search rules
+slice_bounds-over_row-end-then-any_notice : tie.Need-slice_bounds-over_row-end-then-any_notice
+slice_bounds-over_row-end-then-any_notice c = search rules
 
-over-row-requires : tie.Need-over-row-requires
-over-row-requires c κs =
+over_row-found-requires : tie.Need-over_row-found-requires
+over_row-found-requires c κs =
     let s = entry c.before.before.before in
-    let q = c.before.before.before.quiet-noticed.result in
+    let q = c.before.before.before.quiet_noticed-quiet.result in
     (part_words q s.args.words.now s.pre.0, omega (arith, part_length q s.args.words.now (here c.before.before.before), s.pre.1), refl)
 
-slice-aggregate-least-of : tie.Need-slice-aggregate-least-of
-slice-aggregate-least-of c = search rules
+slice_bounds-least_of-end : tie.Need-slice_bounds-least_of-end
+slice_bounds-least_of-end c = search rules
 
-least-of-requires : tie.Need-least-of-requires
-least-of-requires c κs = search rules
+least_of-requires : tie.Need-least_of-requires
+least_of-requires c κs = search rules
 
-returns-2 : tie.Need-returns-2
-returns-2 c =
+returns-then-any_notice : tie.Need-returns-then-any_notice
+returns-then-any_notice c =
     let s = entry c.before.before.before.before.before.before.before in
-    let q = c.before.before.before.before.before.before.before.quiet-noticed in
-    let o = c.before.before.before.over-row in
-    c.least-of.ensures
+    let q = c.before.before.before.before.before.before.before.quiet_noticed-quiet in
+    let o = c.before.before.before.over_row-found in
+    c.least_of.ensures
     ∙ rest_open s.args.kinds s.args.parity s.args.words.now s.pre.0 q.result q.ensures _ _ (rw (part_rest q.result s.args.words.now) at o.ensures)
 
-returns-3 : tie.Need-returns-3
-returns-3 c =
+returns-else-any_notice : tie.Need-returns-else-any_notice
+returns-else-any_notice c =
     let a = c.before.before.before.before.before.args in
-    sym (no_notice_open a.kinds a.parity 0 a.words.now (sym c.before.any-notice.ensures ∙ c.if2.false))
+    sym (no_notice_open a.kinds a.parity 0 a.words.now (sym c.before.any_notice.ensures ∙ c.if-any_notice.false))
 
-returns-4 : tie.Need-returns-4
-returns-4 c = sym (no_arinc_open c.before.before.before.args.kinds c.before.before.before.args.parity (sym c.before.has-arinc.ensures ∙ c.if1.false) _)
+returns-else-has_arinc : tie.Need-returns-else-has_arinc
+returns-else-has_arinc c = sym (no_arinc_open c.before.before.before.args.kinds c.before.before.before.args.parity (sym c.before.has_arinc.ensures ∙ c.if-has_arinc.false) _)
 
 pub first_open_spec : {M : Type 1} → statement M
 first_open_spec =
     tie.close
     (tie.spec
-    has-arinc-requires
-    any-notice-requires
-    quiet-noticed-requires
-    returns
-    mul-over-row
-    sub-over-row
-    part-over-row-start
-    part-over-row-end
-    slice-aggregate-over-row
-    over-row-requires
-    slice-aggregate-least-of
-    least-of-requires
-    returns-2
-    returns-3
-    returns-4)
+    has_arinc-requires
+    any_notice-requires
+    quiet_noticed-quiet-requires
+    returns-then-quiet-words
+    offset_bounds-words-quiet
+    slice_bounds-over_row-count
+    slice_bounds-over_row-start
+    slice_bounds-over_row-end
+    slice_bounds-over_row-end-then-any_notice
+    over_row-found-requires
+    slice_bounds-least_of-end
+    least_of-requires
+    returns-then-any_notice
+    returns-else-any_notice
+    returns-else-has_arinc)

@@ -19,111 +19,111 @@ use Rattle.word.proofs.bus_of.Reads as bus-of-reads
 use Rattle.word.proofs.information_of.Reads as information-of-reads
 use Rattle.word.proofs.label_of.Reads as label-of-reads
 
-abbrev invariant-loop : tie.invariant-loop
-invariant-loop parity row from table₀ kinds first₀ i₀ table first i =
+abbrev invariant-loop-i : tie.invariant-loop-i
+invariant-loop-i parity row from table₀ kinds first₀ i₀ table first i =
     (i ≤ length row) × (length table ≡ 64)
     × (watched_of (roles_in kinds parity (counted from row)) (0, table₀) ≡ watched_of (roles_in kinds parity (counted (from + i) (drop i row))) (first, table))
 
-abbrev decreases-loop : tie.decreases-loop
-decreases-loop parity row from table₀ kinds first₀ i₀ table first i = length row - i
+abbrev decreases-loop-i : tie.decreases-loop-i
+decreases-loop-i parity row from table₀ kinds first₀ i₀ table first i = length row - i
 
-loop-holds : tie.Need-loop-init invariant-loop decreases-loop
-loop-holds c =
+loop-i-init : tie.Need-loop-i-init invariant-loop-i decreases-loop-i
+loop-i-init c =
     let a = c.before.before.args in
     let z : a.from + 0 ≡ a.from = omega arith in
-    (omega arith, c.before.before.requires.2, ap (λ (n : ℕ). watched_of (roles_in a.t1 a.parity (counted n a.row.now)) (0, a.table.now)) (sym z))
+    (omega arith, c.before.before.requires.2, ap (λ (n : ℕ). watched_of (roles_in a.t1 a.parity (counted n a.row.now)) (0, a.table-1.now)) (sym z))
 
-mul-word : tie.Need-overflow-mul-word invariant-loop decreases-loop
-mul-word c = search rules
+offset_bounds-row-i : tie.Need-offset_bounds-row-i invariant-loop-i decreases-loop-i
+offset_bounds-row-i c = search rules
 
-shared-slice-read-word : tie.Need-shared-slice-read-word invariant-loop decreases-loop
-shared-slice-read-word c = search rules
+bounds-row-i : tie.Need-bounds-row-i invariant-loop-i decreases-loop-i
+bounds-row-i c = search rules
 
-bus-of-requires : tie.Need-bus-of-requires invariant-loop decreases-loop
-bus-of-requires c κs = search rules
+bus_of-bus-requires : tie.Need-bus_of-bus-requires invariant-loop-i decreases-loop-i
+bus_of-bus-requires c κs = search rules
 
-cast-on-word : tie.Need-overflow-cast-on-word invariant-loop decreases-loop
-cast-on-word c = search rules
+overflow_cast-bus : tie.Need-overflow_cast-bus invariant-loop-i decreases-loop-i
+overflow_cast-bus c = search rules
 
-array-copy-out-on-word : tie.Need-array-copy-out-on-word invariant-loop decreases-loop
-array-copy-out-on-word c =
-    let o = c.before.before.before.loop in
+bounds-kinds-bus : tie.Need-bounds-kinds-bus invariant-loop-i decreases-loop-i
+bounds-kinds-bus c =
+    let o = c.before.before.before.loop-i in
     let s = c.before.before.before.before.before.before in
-    let b = bus_low s.args.parity (get_or s.args.row.now o.i 0) (s.requires.0 o.i c.before.before.loop-test.true) in
-    omega (arith, c.bus-of.ensures, b)
+    let b = bus_low s.args.parity (get_or s.args.row.now o.i 0) (s.requires.0 o.i c.before.before.loop-i-test.true) in
+    omega (arith, c.bus_of-bus.ensures, b)
 
-label-of-requires : tie.Need-label-of-requires invariant-loop decreases-loop
-label-of-requires c κs = search rules
+label_of-requires : tie.Need-label_of-requires invariant-loop-i decreases-loop-i
+label_of-requires c κs = search rules
 
-information-of-requires : tie.Need-information-of-requires invariant-loop decreases-loop
-information-of-requires c κs = search rules
+information_of-requires : tie.Need-information_of-requires invariant-loop-i decreases-loop-i
+information_of-requires c κs = search rules
 
-add-on-word : tie.Need-overflow-add-on-word invariant-loop decreases-loop
-add-on-word c = search rules
+overflow_add-from : tie.Need-overflow_add-from invariant-loop-i decreases-loop-i
+overflow_add-from c = search rules
 
-on-word-requires : tie.Need-on-word-requires invariant-loop decreases-loop
-on-word-requires c κs =
+on_word-shown-requires : tie.Need-on_word-shown-requires invariant-loop-i decreases-loop-i
+on_word-shown-requires c κs =
     let t = c.before.before.before.before.before.before in
-    let o = t.before.loop in
+    let o = t.before.loop-i in
     let s = t.before.before.before.before in
-    let b = bus_low s.args.parity (get_or s.args.row.now o.i 0) (s.requires.0 o.i t.loop-test.true) in
-    (omega (arith, c.before.before.before.before.bus-of.ensures, b), o.invariant.1, omega (arith, s.requires.1, t.loop-test.true))
+    let b = bus_low s.args.parity (get_or s.args.row.now o.i 0) (s.requires.0 o.i t.loop-i-test.true) in
+    (omega (arith, c.before.before.before.before.bus_of-bus.ensures, b), o.invariant.1, omega (arith, s.requires.1, t.loop-i-test.true))
 
-or-first-requires : tie.Need-or-first-requires invariant-loop decreases-loop
-or-first-requires c κs = search rules
+or_first-first-requires : tie.Need-or_first-first-requires invariant-loop-i decreases-loop-i
+or_first-first-requires c κs = search rules
 
-add-i : tie.Need-overflow-add-i invariant-loop decreases-loop
-add-i c = search rules
+overflow_add-i : tie.Need-overflow_add-i invariant-loop-i decreases-loop-i
+overflow_add-i c = search rules
 
-loop-less : tie.Need-loop-smaller invariant-loop decreases-loop
-loop-less c = search rules
+loop-i-smaller : tie.Need-loop-i-smaller invariant-loop-i decreases-loop-i
+loop-i-smaller c = search rules
 
-loop-again : tie.Need-loop-preserved invariant-loop decreases-loop
-loop-again c =
+loop-i-preserved : tie.Need-loop-i-preserved invariant-loop-i decreases-loop-i
+loop-i-preserved c =
     let u = c.before.before.before.before.before.before.before.before.before.before in
-    let o = u.before.loop in
+    let o = u.before.loop-i in
     let a = u.before.before.before.before.args in
-    let i = u.loop-test.true in
-    let t = c.before.before.before.on_word in
+    let i = u.loop-i-test.true in
+    let t = c.before.before.before.on_word-shown in
     let table : List ℕ = t.new.1.1.1.1.1.0 in
-    let q = word_noted a.t1 a.parity (get_or a.row.now o.i 0) _ _ _ (a.from + o.i) (0, o.table) (t.result, table)
-    c.before.before.before.before.before.before.before.before.bus-of.ensures c.before.before.before.before.before.before.label_of.ensures
-    c.before.before.before.before.before.information-of.ensures t.ensures in (
+    let q = word_noted a.t1 a.parity (get_or a.row.now o.i 0) _ _ _ (a.from + o.i) (0, o.table-1) (t.result, table)
+    c.before.before.before.before.before.before.before.before.bus_of-bus.ensures c.before.before.before.before.before.before.label_of.ensures
+    c.before.before.before.before.before.information_of.ensures t.ensures in (
       omega (arith, i),
-      c.before.before.table.given ∙ o.invariant.1,
-      o.invariant.2 ∙ watched_next a.t1 a.parity a.row.now a.from o.i i (o.first, o.table)
+      c.before.before.table-1.given ∙ o.invariant.1,
+      o.invariant.2 ∙ watched_next a.t1 a.parity a.row.now a.from o.i i (o.first, o.table-1)
           ∙ ap (watched_of (roles_in a.t1 a.parity (counted (a.from + (o.i + 1)) (drop (o.i + 1) a.row.now))))
-          (ap (λ (s : Notes). (or_first o.first s.0, s.1)) q ∙ ap (λ (n : ℕ). (n, table)) (sym c.or_first.ensures)),
+          (ap (λ (s : Notes). (or_first o.first s.0, s.1)) q ∙ ap (λ (n : ℕ). (n, table)) (sym c.or_first-first.ensures)),
     )
 
-same_length : tie.Need-same-length invariant-loop decreases-loop
-same_length c = c.before.loop.invariant.1 ∙ sym c.before.before.before.before.requires.2
+shape_of-table : tie.Need-shape_of-table invariant-loop-i decreases-loop-i
+shape_of-table c = c.before.loop-i.invariant.1 ∙ sym c.before.before.before.before.requires.2
 
-returns : tie.Need-returns invariant-loop decreases-loop
+returns : tie.Need-returns invariant-loop-i decreases-loop-i
 returns c =
     let a = c.before.before.before.before.args in
-    let o = c.before.loop in
-    sym (o.invariant.2 ∙ watched_end a.t1 a.parity a.row.now _ o.i (omega (arith, c.loop-test.false)) _)
+    let o = c.before.loop-i in
+    sym (o.invariant.2 ∙ watched_end a.t1 a.parity a.row.now _ o.i (omega (arith, c.loop-i-test.false)) _)
 
 pub first_shown_spec : {M : Type 1} → statement M
 first_shown_spec =
     tie.close
     (tie.spec
-    invariant-loop
-    decreases-loop
-    loop-holds
-    mul-word
-    shared-slice-read-word
-    bus-of-requires
-    cast-on-word
-    array-copy-out-on-word
-    label-of-requires
-    information-of-requires
-    add-on-word
-    on-word-requires
-    or-first-requires
-    add-i
-    loop-less
-    loop-again
-    same_length
+    invariant-loop-i
+    decreases-loop-i
+    loop-i-init
+    offset_bounds-row-i
+    bounds-row-i
+    bus_of-bus-requires
+    overflow_cast-bus
+    bounds-kinds-bus
+    label_of-requires
+    information_of-requires
+    overflow_add-from
+    on_word-shown-requires
+    or_first-first-requires
+    overflow_add-i
+    loop-i-smaller
+    loop-i-preserved
+    shape_of-table
     returns)

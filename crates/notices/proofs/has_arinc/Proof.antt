@@ -13,61 +13,61 @@ use Rattle.notices.proofs.has_arinc.Reads as reads
 use Rattle.notices.proofs.has_arinc.Lts as lts
 use Rattle.notices.proofs.is_arinc.Reads as is-arinc-reads
 
-abbrev invariant-loop : tie.invariant-loop
-invariant-loop kinds bus₀ bus = (bus ≤ 16) × (has_arinc kinds ≡ has_arinc (drop bus kinds))
+abbrev invariant-loop-bus : tie.invariant-loop-bus
+invariant-loop-bus kinds bus₀ bus = (bus ≤ 16) × (has_arinc kinds ≡ has_arinc (drop bus kinds))
 
-abbrev decreases-loop : tie.decreases-loop
-decreases-loop kinds bus₀ bus = 16 - bus
+abbrev decreases-loop-bus : tie.decreases-loop-bus
+decreases-loop-bus kinds bus₀ bus = 16 - bus
 
-loop-holds : tie.Need-loop-init invariant-loop decreases-loop
-loop-holds c = (omega arith, refl)
+loop-bus-init : tie.Need-loop-bus-init invariant-loop-bus decreases-loop-bus
+loop-bus-init c = (omega arith, refl)
 
-array-copy-out-is-arinc : tie.Need-array-copy-out-is-arinc invariant-loop decreases-loop
-array-copy-out-is-arinc c = search rules
+bounds-kinds-bus : tie.Need-bounds-kinds-bus invariant-loop-bus decreases-loop-bus
+bounds-kinds-bus c = search rules
 
-is-arinc-requires : tie.Need-is-arinc-requires invariant-loop decreases-loop
-is-arinc-requires c κs = search rules
+is_arinc-requires : tie.Need-is_arinc-requires invariant-loop-bus decreases-loop-bus
+is_arinc-requires c κs = search rules
 
-returns : tie.Need-returns invariant-loop decreases-loop
-returns c =
-    let o = c.before.before.before.before.loop in
+returns-then-is_arinc : tie.Need-returns-then-is_arinc invariant-loop-bus decreases-loop-bus
+returns-then-is_arinc c =
+    let o = c.before.before.before.before.loop-bus in
     let ks = c.before.before.before.before.before.args.t1 in
-    sym (o.invariant.1 ∙ arinc_next ks o.bus (omega (arith, c.before.before.before.before.before.well-formed.0, c.before.before.before.loop-test.true))
-    ∙ ap (λ (b : Bool). b || has_arinc (drop (o.bus + 1) ks)) (sym c.before.is_arinc.ensures ∙ c.if1.true))
+    sym (o.invariant.1 ∙ arinc_next ks o.bus (omega (arith, c.before.before.before.before.before.well_formed.0, c.before.before.before.loop-bus-test.true))
+    ∙ ap (λ (b : Bool). b || has_arinc (drop (o.bus + 1) ks)) (sym c.before.is_arinc.ensures ∙ c.if-is_arinc.true))
 
-add-bus : tie.Need-overflow-add-bus invariant-loop decreases-loop
-add-bus c = search rules
+overflow_add-bus : tie.Need-overflow_add-bus invariant-loop-bus decreases-loop-bus
+overflow_add-bus c = search rules
 
-loop-less : tie.Need-loop-smaller invariant-loop decreases-loop
-loop-less c = search rules
+loop-bus-smaller : tie.Need-loop-bus-smaller invariant-loop-bus decreases-loop-bus
+loop-bus-smaller c = search rules
 
-loop-again : tie.Need-loop-preserved invariant-loop decreases-loop
-loop-again c =
-    let o = c.before.before.before.before.loop in
+loop-bus-preserved : tie.Need-loop-bus-preserved invariant-loop-bus decreases-loop-bus
+loop-bus-preserved c =
+    let o = c.before.before.before.before.loop-bus in
     let ks = c.before.before.before.before.before.args.t1 in (
-      omega (arith, c.before.before.before.loop-test.true),
-      o.invariant.1 ∙ arinc_next ks o.bus (omega (arith, c.before.before.before.before.before.well-formed.0, c.before.before.before.loop-test.true))
-          ∙ ap (λ (b : Bool). b || has_arinc (drop (o.bus + 1) ks)) (sym c.before.is_arinc.ensures ∙ c.if1.false),
+      omega (arith, c.before.before.before.loop-bus-test.true),
+      o.invariant.1 ∙ arinc_next ks o.bus (omega (arith, c.before.before.before.before.before.well_formed.0, c.before.before.before.loop-bus-test.true))
+          ∙ ap (λ (b : Bool). b || has_arinc (drop (o.bus + 1) ks)) (sym c.before.is_arinc.ensures ∙ c.if-is_arinc.false),
     )
 
-returns-2 : tie.Need-returns-2 invariant-loop decreases-loop
-returns-2 c =
-    let o = c.before.loop in
+returns : tie.Need-returns invariant-loop-bus decreases-loop-bus
+returns c =
+    let o = c.before.loop-bus in
     let ks = c.before.before.args.t1 in
-    let e : o.bus ≡ 16 = omega (arith, c.loop-test.false, o.invariant.0) in
-    sym (o.invariant.1 ∙ ap (λ n. has_arinc (drop n ks)) e ∙ arinc_end ks (omega (arith, c.before.before.well-formed.0)))
+    let e : o.bus ≡ 16 = omega (arith, c.loop-bus-test.false, o.invariant.0) in
+    sym (o.invariant.1 ∙ ap (λ n. has_arinc (drop n ks)) e ∙ arinc_end ks (omega (arith, c.before.before.well_formed.0)))
 
 pub has_arinc_spec : {M : Type 1} → statement M
 has_arinc_spec =
     tie.close
     (tie.spec
-    invariant-loop
-    decreases-loop
-    loop-holds
-    array-copy-out-is-arinc
-    is-arinc-requires
-    returns
-    add-bus
-    loop-less
-    loop-again
-    returns-2)
+    invariant-loop-bus
+    decreases-loop-bus
+    loop-bus-init
+    bounds-kinds-bus
+    is_arinc-requires
+    returns-then-is_arinc
+    overflow_add-bus
+    loop-bus-smaller
+    loop-bus-preserved
+    returns)

@@ -4,11 +4,11 @@ use Rattle.notices.proofs.in_code.Tie as tie
 use Rattle.notices.proofs.in_code.Reads as reads
 use Rattle.notices.proofs.in_code.Lts as lts
 
-returns : tie.Need-returns
-returns c = (rw c.if1.true, omega arith)
+returns-then-parity : tie.Need-returns-then-parity
+returns-then-parity c = (rw c.if-parity.true, omega arith)
 
-returns-2 : tie.Need-returns-2
-returns-2 c = (rw c.if1.false, omega arith)
+returns-else-parity : tie.Need-returns-else-parity
+returns-else-parity c = (rw c.if-parity.false, omega arith)
 
 pub in_code_spec : {M : Type 1} → statement M
-in_code_spec = tie.close (tie.spec returns returns-2)
+in_code_spec = tie.close (tie.spec returns-then-parity returns-else-parity)

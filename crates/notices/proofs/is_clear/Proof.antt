@@ -14,39 +14,39 @@ use Rattle.notices.proofs.is_clear.Tie as tie
 use Rattle.notices.proofs.is_clear.Reads as reads
 use Rattle.notices.proofs.is_clear.Lts as lts
 
-abbrev invariant-loop : tie.invariant-loop
-invariant-loop table waiting₀ i₀ waiting i = (i ≤ length table) × (all_zero table ≡ cond (eqb waiting 0) (all_zero (drop i table)) false)
+abbrev invariant-loop-i : tie.invariant-loop-i
+invariant-loop-i table waiting₀ i₀ waiting i = (i ≤ length table) × (all_zero table ≡ cond (eqb waiting 0) (all_zero (drop i table)) false)
 
-abbrev decreases-loop : tie.decreases-loop
-decreases-loop table waiting₀ i₀ waiting i = length table - i
+abbrev decreases-loop-i : tie.decreases-loop-i
+decreases-loop-i table waiting₀ i₀ waiting i = length table - i
 
-loop-holds : tie.Need-loop-init invariant-loop decreases-loop
-loop-holds c = (omega arith, refl)
+loop-i-init : tie.Need-loop-i-init invariant-loop-i decreases-loop-i
+loop-i-init c = (omega arith, refl)
 
-mul-waiting : tie.Need-overflow-mul-waiting invariant-loop decreases-loop
-mul-waiting c = search rules
+offset_bounds-table-i : tie.Need-offset_bounds-table-i invariant-loop-i decreases-loop-i
+offset_bounds-table-i c = search rules
 
-shared-slice-read-waiting : tie.Need-shared-slice-read-waiting invariant-loop decreases-loop
-shared-slice-read-waiting c = search rules
+bounds-table-i : tie.Need-bounds-table-i invariant-loop-i decreases-loop-i
+bounds-table-i c = search rules
 
-add-i : tie.Need-overflow-add-i invariant-loop decreases-loop
-add-i c = search rules
+overflow_add-i : tie.Need-overflow_add-i invariant-loop-i decreases-loop-i
+overflow_add-i c = search rules
 
-loop-less : tie.Need-loop-smaller invariant-loop decreases-loop
-loop-less c = search rules
+loop-i-smaller : tie.Need-loop-i-smaller invariant-loop-i decreases-loop-i
+loop-i-smaller c = search rules
 
-loop-again : tie.Need-loop-preserved invariant-loop decreases-loop
-loop-again c =
-    let o = c.before.before.loop in
+loop-i-preserved : tie.Need-loop-i-preserved invariant-loop-i decreases-loop-i
+loop-i-preserved c =
+    let o = c.before.before.loop-i in
     let t = c.before.before.before.args.table.now in (
       omega arith,
       o.invariant.1 ∙ ap (λ z. cond (eqb o.waiting 0) z false) (zero_next t o.i (omega arith))
           ∙ none_either o.waiting (get_or t o.i 0) (all_zero (drop (o.i + 1) t)),
     )
 
-returns : tie.Need-returns invariant-loop decreases-loop
+returns : tie.Need-returns invariant-loop-i decreases-loop-i
 returns c =
-    let o = c.before.loop in
+    let o = c.before.loop-i in
     let t = c.before.before.args.table.now in
     sym (o.invariant.1 ∙ ap (λ z. cond (eqb o.waiting 0) z false) (zero_end t o.i (omega arith)) ∙ whole (eqb o.waiting 0))
   where
@@ -58,12 +58,12 @@ pub is_clear_spec : {M : Type 1} → statement M
 is_clear_spec =
     tie.close
     (tie.spec
-    invariant-loop
-    decreases-loop
-    loop-holds
-    mul-waiting
-    shared-slice-read-waiting
-    add-i
-    loop-less
-    loop-again
+    invariant-loop-i
+    decreases-loop-i
+    loop-i-init
+    offset_bounds-table-i
+    bounds-table-i
+    overflow_add-i
+    loop-i-smaller
+    loop-i-preserved
     returns)

@@ -11,52 +11,52 @@ use Rattle.notices.proofs.least_of.Reads as reads
 use Rattle.notices.proofs.least_of.Lts as lts
 use Rattle.notices.proofs.earlier.Reads as earlier-reads
 
-abbrev invariant-loop : tie.invariant-loop
-invariant-loop table found first₀ i₀ first i = (i ≤ length table) × (earliest_of found table ≡ earliest_of first (drop i table))
+abbrev invariant-loop-i : tie.invariant-loop-i
+invariant-loop-i table found first₀ i₀ first i = (i ≤ length table) × (earliest_of found table ≡ earliest_of first (drop i table))
 
-abbrev decreases-loop : tie.decreases-loop
-decreases-loop table found first₀ i₀ first i = length table - i
+abbrev decreases-loop-i : tie.decreases-loop-i
+decreases-loop-i table found first₀ i₀ first i = length table - i
 
-loop-holds : tie.Need-loop-init invariant-loop decreases-loop
-loop-holds c = (omega arith, refl)
+loop-i-init : tie.Need-loop-i-init invariant-loop-i decreases-loop-i
+loop-i-init c = (omega arith, refl)
 
-mul-earlier : tie.Need-overflow-mul-earlier invariant-loop decreases-loop
-mul-earlier c = search rules
+offset_bounds-table-i : tie.Need-offset_bounds-table-i invariant-loop-i decreases-loop-i
+offset_bounds-table-i c = search rules
 
-shared-slice-read-earlier : tie.Need-shared-slice-read-earlier invariant-loop decreases-loop
-shared-slice-read-earlier c = search rules
+bounds-table-i : tie.Need-bounds-table-i invariant-loop-i decreases-loop-i
+bounds-table-i c = search rules
 
-earlier-requires : tie.Need-earlier-requires invariant-loop decreases-loop
-earlier-requires c κs = search rules
+earlier-first-requires : tie.Need-earlier-first-requires invariant-loop-i decreases-loop-i
+earlier-first-requires c κs = search rules
 
-add-i : tie.Need-overflow-add-i invariant-loop decreases-loop
-add-i c = search rules
+overflow_add-i : tie.Need-overflow_add-i invariant-loop-i decreases-loop-i
+overflow_add-i c = search rules
 
-loop-less : tie.Need-loop-smaller invariant-loop decreases-loop
-loop-less c = search rules
+loop-i-smaller : tie.Need-loop-i-smaller invariant-loop-i decreases-loop-i
+loop-i-smaller c = search rules
 
-loop-again : tie.Need-loop-preserved invariant-loop decreases-loop
-loop-again c =
-    let o = c.before.before.before.loop in
+loop-i-preserved : tie.Need-loop-i-preserved invariant-loop-i decreases-loop-i
+loop-i-preserved c =
+    let o = c.before.before.before.loop-i in
     let t = c.before.before.before.before.before.args.table.now in
-    (omega arith, o.invariant.1 ∙ earliest_next o.first t o.i (omega arith) ∙ ap (λ f. earliest_of f (drop (o.i + 1) t)) (sym c.earlier.ensures))
+    (omega arith, o.invariant.1 ∙ earliest_next o.first t o.i (omega arith) ∙ ap (λ f. earliest_of f (drop (o.i + 1) t)) (sym c.earlier-first.ensures))
 
-returns : tie.Need-returns invariant-loop decreases-loop
+returns : tie.Need-returns invariant-loop-i decreases-loop-i
 returns c =
-    let o = c.before.loop in
+    let o = c.before.loop-i in
     sym (o.invariant.1 ∙ earliest_end o.first c.before.before.before.args.table.now o.i (omega arith))
 
 pub least_of_spec : {M : Type 1} → statement M
 least_of_spec =
     tie.close
     (tie.spec
-    invariant-loop
-    decreases-loop
-    loop-holds
-    mul-earlier
-    shared-slice-read-earlier
-    earlier-requires
-    add-i
-    loop-less
-    loop-again
+    invariant-loop-i
+    decreases-loop-i
+    loop-i-init
+    offset_bounds-table-i
+    bounds-table-i
+    earlier-first-requires
+    overflow_add-i
+    loop-i-smaller
+    loop-i-preserved
     returns)

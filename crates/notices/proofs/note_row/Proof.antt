@@ -14,82 +14,82 @@ use Rattle.notices.proofs.is_clear.Reads as is-clear-reads
 use Rattle.notices.proofs.over_row.Reads as over-row-reads
 use Rattle.notices.proofs.quiet_words.Reads as quiet-words-reads
 
-quiet-words-requires : tie.Need-quiet-words-requires
-quiet-words-requires c κs = search rules
+quiet_words-quiet-requires : tie.Need-quiet_words-quiet-requires
+quiet_words-quiet-requires c κs = search rules
 
 abbrev Looked : Type 0
-Looked = tie.After-quiet-words
+Looked = tie.After-quiet_words-quiet
 
 abbrev entry : Looked → tie.Start
 entry c = c.before.before.before.before
 
-told : (c : Looked) → c.quiet-words.result ≡ quiet_words (entry c).args.kinds (entry c).args.parity (entry c).args.row.now (all_zero (entry c).args.table.now)
-told c = let s = entry c in c.quiet-words.ensures ∙ ap (quiet_words s.args.kinds s.args.parity s.args.row.now) s.pre.5
+told : (c : Looked) → c.quiet_words-quiet.result ≡ quiet_words (entry c).args.kinds (entry c).args.parity (entry c).args.row.now (all_zero (entry c).args.table-1.now)
+told c = let s = entry c in c.quiet_words-quiet.ensures ∙ ap (quiet_words s.args.kinds s.args.parity s.args.row.now) s.pre.5
 
-add-rest : tie.Need-overflow-add-rest
-add-rest c = search rules
+overflow_add-rest : tie.Need-overflow_add-rest
+overflow_add-rest c = search rules
 
-mul-over-row : tie.Need-overflow-mul-over-row
-mul-over-row c = search rules
+offset_bounds-row-quiet : tie.Need-offset_bounds-row-quiet
+offset_bounds-row-quiet c = search rules
 
-sub-over-row : tie.Need-overflow-sub-over-row
-sub-over-row c = search rules
+slice_bounds-over_row-count : tie.Need-slice_bounds-over_row-count
+slice_bounds-over_row-count c = search rules
 
-part-over-row-start : tie.Need-slice-bounds-over-row-start
-part-over-row-start c = search rules
+slice_bounds-over_row-start : tie.Need-slice_bounds-over_row-start
+slice_bounds-over_row-start c = search rules
 
-part-over-row-end : tie.Need-slice-bounds-over-row-end
-part-over-row-end c = search rules
+slice_bounds-over_row-end : tie.Need-slice_bounds-over_row-end
+slice_bounds-over_row-end c = search rules
 
-over-row-requires : tie.Need-over-row-requires
-over-row-requires c κs =
+over_row-found-requires : tie.Need-over_row-found-requires
+over_row-found-requires c κs =
     let l = c.before.before.before in
     let s = entry l in
-    let q = l.quiet-words.result in
-    (part_words q s.args.row.now s.pre.1, omega (arith, part_length q s.args.row.now (omega (arith, c.before.before.if2.true)), s.pre.3), s.pre.4)
+    let q = l.quiet_words-quiet.result in
+    (part_words q s.args.row.now s.pre.1, omega (arith, part_length q s.args.row.now (omega (arith, c.before.before.if-quiet-row.true)), s.pre.3), s.pre.4)
 
-is-clear-requires : tie.Need-is-clear-requires
-is-clear-requires c κs = search rules
+is_clear-clear-requires : tie.Need-is_clear-clear-requires
+is_clear-clear-requires c κs = search rules
 
-same_length : tie.Need-same-length
-same_length c = search rules
+shape_of-table-then-quiet-row : tie.Need-shape_of-table-then-quiet-row
+shape_of-table-then-quiet-row c = search rules
 
-returns : tie.Need-returns
-returns c =
+returns-then-quiet-row : tie.Need-returns-then-quiet-row
+returns-then-quiet-row c =
     let l = c.before.before.before.before.before.before.before.before in
     let s = entry l in
-    let o = c.before.before.before.before.over-row in (
-      quiet_noted s.args.kinds s.args.parity s.args.from s.args.row.now s.args.table.now l.quiet-words.result (told l) s.args.noted.found o.result
-          o.new.1.1.1.1.0 (rw (part_rest l.quiet-words.result s.args.row.now) at o.ensures),
-      c.is-clear.ensures,
+    let o = c.before.before.before.before.over_row-found in (
+      quiet_noted s.args.kinds s.args.parity s.args.from s.args.row.now s.args.table-1.now l.quiet_words-quiet.result (told l) s.args.noted.found o.result
+          o.new.1.1.1.1.0 (rw (part_rest l.quiet_words-quiet.result s.args.row.now) at o.ensures),
+      c.is_clear-clear.ensures,
     )
 
-returns-2 : tie.Need-returns-2
-returns-2 c =
+returns-else-quiet-row : tie.Need-returns-else-quiet-row
+returns-else-quiet-row c =
     let l = c.before in
     let s = entry l in (
-      all_quiet_noted s.args.kinds s.args.parity s.args.from s.args.row.now s.args.table.now l.quiet-words.result (told l) s.args.noted.found c.if2.false,
+      all_quiet_noted s.args.kinds s.args.parity s.args.from s.args.row.now s.args.table-1.now l.quiet_words-quiet.result (told l) s.args.noted.found c.if-quiet-row.false,
       s.pre.5,
     )
 
-returns-3 : tie.Need-returns-3
-returns-3 c =
+returns-else-arinc : tie.Need-returns-else-arinc
+returns-else-arinc c =
     let s = c.before.before.before in
-    (sym (no_arinc s.args.kinds s.args.parity (sym s.requires.0 ∙ c.if1.false) _ _), s.requires.5)
+    (sym (no_arinc s.args.kinds s.args.parity (sym s.requires.0 ∙ c.if-arinc.false) _ _), s.requires.5)
 
 pub note_row_spec : {M : Type 1} → statement M
 note_row_spec =
     tie.close
     (tie.spec
-    quiet-words-requires
-    add-rest
-    mul-over-row
-    sub-over-row
-    part-over-row-start
-    part-over-row-end
-    over-row-requires
-    is-clear-requires
-    same_length
-    returns
-    returns-2
-    returns-3)
+    quiet_words-quiet-requires
+    overflow_add-rest
+    offset_bounds-row-quiet
+    slice_bounds-over_row-count
+    slice_bounds-over_row-start
+    slice_bounds-over_row-end
+    over_row-found-requires
+    is_clear-clear-requires
+    shape_of-table-then-quiet-row
+    returns-then-quiet-row
+    returns-else-quiet-row
+    returns-else-arinc)

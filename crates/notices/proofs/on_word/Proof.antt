@@ -12,110 +12,110 @@ use Rattle.notices.proofs.earlier.Reads as earlier-reads
 use Rattle.notices.proofs.is_arinc.Reads as is-arinc-reads
 use Rattle.notices.proofs.is_syllable.Reads as is-syllable-reads
 
-is-arinc-requires : tie.Need-is-arinc-requires
-is-arinc-requires c κs = search rules
+is_arinc-requires : tie.Need-is_arinc-requires
+is_arinc-requires c κs = search rules
 
-mul-entry : tie.Need-overflow-mul-entry
-mul-entry c = search rules
+overflow_mul-entry : tie.Need-overflow_mul-entry
+overflow_mul-entry c = search rules
 
-add-entry : tie.Need-overflow-add-entry
-add-entry c = search rules
+overflow_add-entry : tie.Need-overflow_add-entry
+overflow_add-entry c = search rules
 
-cast-entry : tie.Need-overflow-cast-entry
-cast-entry c = search rules
+overflow_cast-entry : tie.Need-overflow_cast-entry
+overflow_cast-entry c = search rules
 
-mul-old : tie.Need-overflow-mul-old
-mul-old c = search rules
+offset_bounds-table-entry : tie.Need-offset_bounds-table-entry
+offset_bounds-table-entry c = search rules
 
-slice-read-old : tie.Need-slice-read-old
-slice-read-old c = search rules
+bounds-table-entry : tie.Need-bounds-table-entry
+bounds-table-entry c = search rules
 
-add-table : tie.Need-overflow-add-table
-add-table c = search rules
+overflow_add-table : tie.Need-overflow_add-table
+overflow_add-table c = search rules
 
-mul-table : tie.Need-overflow-mul-table
-mul-table c = search rules
+offset_bounds-table-entry-then-label-eq4 : tie.Need-offset_bounds-table-entry-then-label-eq4
+offset_bounds-table-entry-then-label-eq4 c = search rules
 
-slice-write-table : tie.Need-slice-write-table
-slice-write-table c = search rules
+bounds-table-entry-then-label-eq4 : tie.Need-bounds-table-entry-then-label-eq4
+bounds-table-entry-then-label-eq4 c = search rules
 
 earlier-requires : tie.Need-earlier-requires
 earlier-requires c κs = search rules
 
-same_length : tie.Need-same-length
-same_length c = search rules
+shape_of-table-then-label-eq4 : tie.Need-shape_of-table-then-label-eq4
+shape_of-table-then-label-eq4 c = search rules
 
-abbrev kind : tie.After-is-arinc → Kind
+abbrev kind : tie.After-is_arinc → Kind
 kind c = c.before.before.args.kind
 
-arinc : (c : tie.Then1) → is_arinc (kind c.before) ≡ true
-arinc c = sym c.before.is_arinc.ensures ∙ c.if1.true
+arinc : (c : tie.Then-is_arinc) → is_arinc (kind c.before) ≡ true
+arinc c = sym c.before.is_arinc.ensures ∙ c.if-is_arinc.true
 
-returns : tie.Need-returns
-returns c =
+returns-then-label-eq4 : tie.Need-returns-then-label-eq4
+returns-then-label-eq4 c =
     let l = c.before.before in
     let k = l.before in
-    rw c.earlier.ensures (sym (notice_noted _ _ _ _ _ _ (kind k.before) (arinc k) l.if2.true))
+    rw c.earlier.ensures (sym (notice_noted _ _ _ _ _ _ (kind k.before) (arinc k) l.if-label-eq4.true))
 
-is-syllable-requires : tie.Need-is-syllable-requires
-is-syllable-requires c κs = search rules
+is_syllable-requires : tie.Need-is_syllable-requires
+is_syllable-requires c κs = search rules
 
-mul-entry-2 : tie.Need-overflow-mul-entry-2
-mul-entry-2 c = search rules
+overflow_mul-entry-then-is_syllable : tie.Need-overflow_mul-entry-then-is_syllable
+overflow_mul-entry-then-is_syllable c = search rules
 
-add-entry-2 : tie.Need-overflow-add-entry-2
-add-entry-2 c = search rules
+overflow_add-entry-then-is_syllable : tie.Need-overflow_add-entry-then-is_syllable
+overflow_add-entry-then-is_syllable c = search rules
 
-cast-entry-2 : tie.Need-overflow-cast-entry-2
-cast-entry-2 c = search rules
+overflow_cast-entry-then-is_syllable : tie.Need-overflow_cast-entry-then-is_syllable
+overflow_cast-entry-then-is_syllable c = search rules
 
-mul-table-2 : tie.Need-overflow-mul-table-2
-mul-table-2 c = search rules
+offset_bounds-table-entry-then-is_syllable : tie.Need-offset_bounds-table-entry-then-is_syllable
+offset_bounds-table-entry-then-is_syllable c = search rules
 
-slice-write-table-2 : tie.Need-slice-write-table-2
-slice-write-table-2 c = search rules
+bounds-table-entry-then-is_syllable : tie.Need-bounds-table-entry-then-is_syllable
+bounds-table-entry-then-is_syllable c = search rules
 
-same-length-2 : tie.Need-same-length-2
-same-length-2 c = search rules
+shape_of-table : tie.Need-shape_of-table
+shape_of-table c = search rules
 
-returns-2 : tie.Need-returns-2
-returns-2 c =
+returns-then-is_syllable : tie.Need-returns-then-is_syllable
+returns-then-is_syllable c =
     let l = c.before.before in
     let k = l.before in
-    sym (word_noted _ _ _ _ _ _ (kind k.before) (arinc k) l.if2.false (sym c.before.is-syllable.ensures ∙ c.if3.true))
+    sym (word_noted _ _ _ _ _ _ (kind k.before) (arinc k) l.if-label-eq4.false (sym c.before.is_syllable.ensures ∙ c.if-is_syllable.true))
 
-returns-3 : tie.Need-returns-3
-returns-3 c =
+returns-else-is_syllable : tie.Need-returns-else-is_syllable
+returns-else-is_syllable c =
     let l = c.before.before in
     let k = l.before in
-    sym (rest_noted _ _ _ _ _ _ (kind k.before) (arinc k) l.if2.false (sym c.before.is-syllable.ensures ∙ c.if3.false))
+    sym (rest_noted _ _ _ _ _ _ (kind k.before) (arinc k) l.if-label-eq4.false (sym c.before.is_syllable.ensures ∙ c.if-is_syllable.false))
 
-returns-4 : tie.Need-returns-4
-returns-4 c = sym (none_noted _ _ _ _ _ _ (kind c.before) (sym c.before.is_arinc.ensures ∙ c.if1.false))
+returns-else-is_arinc : tie.Need-returns-else-is_arinc
+returns-else-is_arinc c = sym (none_noted _ _ _ _ _ _ (kind c.before) (sym c.before.is_arinc.ensures ∙ c.if-is_arinc.false))
 
 pub on_word_spec : {M : Type 1} → statement M
 on_word_spec =
     tie.close
     (tie.spec
-    is-arinc-requires
-    mul-entry
-    add-entry
-    cast-entry
-    mul-old
-    slice-read-old
-    add-table
-    mul-table
-    slice-write-table
+    is_arinc-requires
+    overflow_mul-entry
+    overflow_add-entry
+    overflow_cast-entry
+    offset_bounds-table-entry
+    bounds-table-entry
+    overflow_add-table
+    offset_bounds-table-entry-then-label-eq4
+    bounds-table-entry-then-label-eq4
     earlier-requires
-    same_length
-    returns
-    is-syllable-requires
-    mul-entry-2
-    add-entry-2
-    cast-entry-2
-    mul-table-2
-    slice-write-table-2
-    same-length-2
-    returns-2
-    returns-3
-    returns-4)
+    shape_of-table-then-label-eq4
+    returns-then-label-eq4
+    is_syllable-requires
+    overflow_mul-entry-then-is_syllable
+    overflow_add-entry-then-is_syllable
+    overflow_cast-entry-then-is_syllable
+    offset_bounds-table-entry-then-is_syllable
+    bounds-table-entry-then-is_syllable
+    shape_of-table
+    returns-then-is_syllable
+    returns-else-is_syllable
+    returns-else-is_arinc)

@@ -8,19 +8,19 @@ use Rattle.notices.proofs.quiet_noticed.Lts as lts
 use Rattle.notices.proofs.any_unanswered.Reads as any-unanswered-reads
 use Rattle.notices.proofs.quiet_part.Reads as quiet-part-reads
 
-any-unanswered-requires : tie.Need-any-unanswered-requires
-any-unanswered-requires c κs = search rules
+any_unanswered-requires : tie.Need-any_unanswered-requires
+any_unanswered-requires c κs = search rules
 
-quiet-part-requires : tie.Need-quiet-part-requires
-quiet-part-requires c κs = search rules
+quiet_part-requires : tie.Need-quiet_part-requires
+quiet_part-requires c κs = search rules
+
+returns-then-any_unanswered : tie.Need-returns-then-any_unanswered
+returns-then-any_unanswered c = search rules
 
 returns : tie.Need-returns
-returns c = search rules
-
-returns-2 : tie.Need-returns-2
-returns-2 c =
+returns c =
     let s = c.before.before.before in
-    sym (look_quiet s.args.kinds s.args.parity s.args.row.now s.requires.0 (sym c.before.any-unanswered.ensures ∙ c.if1.false))
+    sym (look_quiet s.args.kinds s.args.parity s.args.row.now s.requires.0 (sym c.before.any_unanswered.ensures ∙ c.if-any_unanswered.false))
 
 pub quiet_noticed_spec : {M : Type 1} → statement M
-quiet_noticed_spec = tie.close (tie.spec any-unanswered-requires quiet-part-requires returns returns-2)
+quiet_noticed_spec = tie.close (tie.spec any_unanswered-requires quiet_part-requires returns-then-any_unanswered returns)

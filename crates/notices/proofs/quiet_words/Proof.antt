@@ -9,25 +9,25 @@ use Rattle.notices.proofs.quiet_words.Lts as lts
 use Rattle.notices.proofs.any_notice.Reads as any-notice-reads
 use Rattle.notices.proofs.quiet_noticed.Reads as quiet-noticed-reads
 
-any-notice-requires : tie.Need-any-notice-requires
-any-notice-requires c κs = search rules
+any_notice-requires : tie.Need-any_notice-requires
+any_notice-requires c κs = search rules
 
-quiet-noticed-requires : tie.Need-quiet-noticed-requires
-quiet-noticed-requires c κs =
+quiet_noticed-requires : tie.Need-quiet_noticed-requires
+quiet_noticed-requires c κs =
     let s = c.before.before.before.before in
-    (s.requires.0, any_some s.args.row.now (sym c.before.any-notice.ensures ∙ c.if2.true), s.requires.1)
+    (s.requires.0, any_some s.args.row.now (sym c.before.any_notice.ensures ∙ c.if-any_notice.true), s.requires.1)
+
+returns-then-any_notice : tie.Need-returns-then-any_notice
+returns-then-any_notice c = rw c.before.before.before.if-clear.true c.quiet_noticed.ensures
+
+returns-then-clear : tie.Need-returns-then-clear
+returns-then-clear c =
+    let s = c.before.before.before.before in
+    rw c.before.before.if-clear.true
+    (sym (quiet_all s.args.kinds s.args.parity s.args.row.now (sym c.before.any_notice.ensures ∙ c.if-any_notice.false)))
 
 returns : tie.Need-returns
-returns c = rw c.before.before.before.if1.true c.quiet-noticed.ensures
-
-returns-2 : tie.Need-returns-2
-returns-2 c =
-    let s = c.before.before.before.before in
-    rw c.before.before.if1.true
-    (sym (quiet_all s.args.kinds s.args.parity s.args.row.now (sym c.before.any-notice.ensures ∙ c.if2.false)))
-
-returns-3 : tie.Need-returns-3
-returns-3 c = rw c.if1.false
+returns c = rw c.if-clear.false
 
 pub quiet_words_spec : {M : Type 1} → statement M
-quiet_words_spec = tie.close (tie.spec any-notice-requires quiet-noticed-requires returns returns-2 returns-3)
+quiet_words_spec = tie.close (tie.spec any_notice-requires quiet_noticed-requires returns-then-any_notice returns-then-clear returns)

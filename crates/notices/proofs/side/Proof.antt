@@ -5,14 +5,14 @@ use Rattle.notices.proofs.side.Tie as tie
 use Rattle.notices.proofs.side.Reads as reads
 use Rattle.notices.proofs.side.Lts as lts
 
-sub-result : tie.Need-overflow-sub-result
-sub-result c = search rules
+overflow_sub-result : tie.Need-overflow_sub-result
+overflow_sub-result c = search rules
 
-returns : tie.Need-returns
-returns c = (rw c.if1.true, c.before.requires)
+returns-then-ones : tie.Need-returns-then-ones
+returns-then-ones c = (rw c.if-ones.true, c.before.requires)
 
-returns-2 : tie.Need-returns-2
-returns-2 c = (rw c.if1.false, omega arith)
+returns-else-ones : tie.Need-returns-else-ones
+returns-else-ones c = (rw c.if-ones.false, omega arith)
 
 pub side_spec : {M : Type 1} → statement M
-side_spec = tie.close (tie.spec sub-result returns returns-2)
+side_spec = tie.close (tie.spec overflow_sub-result returns-then-ones returns-else-ones)

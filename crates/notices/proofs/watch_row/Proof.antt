@@ -15,68 +15,68 @@ use Rattle.notices.proofs.first_shown.Reads as first-shown-reads
 use Rattle.notices.proofs.is_clear.Reads as is-clear-reads
 use Rattle.notices.proofs.quiet_words.Reads as quiet-words-reads
 
-is-clear-requires : tie.Need-is-clear-requires
-is-clear-requires c κs = search rules
+is_clear-requires : tie.Need-is_clear-requires
+is_clear-requires c κs = search rules
 
-quiet-words-requires : tie.Need-quiet-words-requires
-quiet-words-requires c κs = search rules
+quiet_words-quiet-requires : tie.Need-quiet_words-quiet-requires
+quiet_words-quiet-requires c κs = search rules
 
-abbrev entry : tie.After-quiet-words → tie.Start
+abbrev entry : tie.After-quiet_words-quiet → tie.Start
 entry c = c.before.before.before.before.before.before
 
-here : (c : tie.After-quiet-words) → c.quiet-words.result ≤ length (entry c).args.row.now
-here c = omega (arith, c.quiet-words.ensures, quiet_most (entry c).args.kinds (entry c).args.parity (entry c).args.row.now c.before.is-clear.result)
+here : (c : tie.After-quiet_words-quiet) → c.quiet_words-quiet.result ≤ length (entry c).args.row.now
+here c = omega (arith, c.quiet_words-quiet.ensures, quiet_most (entry c).args.kinds (entry c).args.parity (entry c).args.row.now c.before.is_clear.result)
 
-mul-first-shown : tie.Need-overflow-mul-first-shown
-mul-first-shown c = omega (arith, here c, (entry c).requires.2)
+offset_bounds-row-quiet : tie.Need-offset_bounds-row-quiet
+offset_bounds-row-quiet c = omega (arith, here c, (entry c).requires.2)
 
-sub-first-shown : tie.Need-overflow-sub-first-shown
-sub-first-shown c = here c
+slice_bounds-first_shown-count : tie.Need-slice_bounds-first_shown-count
+slice_bounds-first_shown-count c = here c
 
-part-first-shown-start : tie.Need-slice-bounds-first-shown-start
-part-first-shown-start c = here c
+slice_bounds-first_shown-start : tie.Need-slice_bounds-first_shown-start
+slice_bounds-first_shown-start c = here c
 
-part-first-shown-end : tie.Need-slice-bounds-first-shown-end
-part-first-shown-end c = search rules
+slice_bounds-first_shown-end : tie.Need-slice_bounds-first_shown-end
+slice_bounds-first_shown-end c = search rules
 
-add-first-shown : tie.Need-overflow-add-first-shown
-add-first-shown c = omega (arith, here c.before, (entry c.before).requires.2, (entry c.before).requires.3)
+overflow_add-from : tie.Need-overflow_add-from
+overflow_add-from c = omega (arith, here c.before, (entry c.before).requires.2, (entry c.before).requires.3)
 
-first-shown-requires : tie.Need-first-shown-requires
-first-shown-requires c κs =
+first_shown-requires : tie.Need-first_shown-requires
+first_shown-requires c κs =
     let s = entry c.before.before in
-    let q = c.before.before.quiet-words.result in
+    let q = c.before.before.quiet_words-quiet.result in
     (part_words q s.args.row.now s.pre.1, omega (arith, part_length q s.args.row.now (here c.before.before), s.pre.3), s.pre.4)
 
-same_length : tie.Need-same-length
-same_length c = search rules
+shape_of-table-then-arinc : tie.Need-shape_of-table-then-arinc
+shape_of-table-then-arinc c = search rules
+
+returns-then-arinc : tie.Need-returns-then-arinc
+returns-then-arinc c =
+    let s = entry c.before.before.before.before.before in
+    let q = c.before.before.before.before.before.quiet_words-quiet in
+    let z = ap (quiet_words s.args.kinds s.args.parity s.args.row.now) c.before.before.before.before.before.before.is_clear.ensures in
+    let o = c.before.before.first_shown in
+    quiet_watched s.args.kinds s.args.parity s.args.from s.args.row.now s.args.table-1.now q.result (q.ensures ∙ z) o.result o.new.1.1.1.1.0
+    (rw (part_rest q.result s.args.row.now) at o.ensures)
 
 returns : tie.Need-returns
 returns c =
-    let s = entry c.before.before.before.before.before in
-    let q = c.before.before.before.before.before.quiet-words in
-    let z = ap (quiet_words s.args.kinds s.args.parity s.args.row.now) c.before.before.before.before.before.before.is-clear.ensures in
-    let o = c.before.before.first-shown in
-    quiet_watched s.args.kinds s.args.parity s.args.from s.args.row.now s.args.table.now q.result (q.ensures ∙ z) o.result o.new.1.1.1.1.0
-    (rw (part_rest q.result s.args.row.now) at o.ensures)
-
-returns-2 : tie.Need-returns-2
-returns-2 c =
     let s = c.before.before.before in
-    sym (watched_same _ s.args.table.now s.args.table.now (no_arinc s.args.kinds s.args.parity (sym s.requires.0 ∙ c.if1.false) _ _))
+    sym (watched_same _ s.args.table-1.now s.args.table-1.now (no_arinc s.args.kinds s.args.parity (sym s.requires.0 ∙ c.if-arinc.false) _ _))
 
 pub watch_row_spec : {M : Type 1} → statement M
 watch_row_spec =
     tie.close
     (tie.spec
-    is-clear-requires
-    quiet-words-requires
-    mul-first-shown
-    sub-first-shown
-    part-first-shown-start
-    part-first-shown-end
-    add-first-shown
-    first-shown-requires
-    same_length
-    returns
-    returns-2)
+    is_clear-requires
+    quiet_words-quiet-requires
+    offset_bounds-row-quiet
+    slice_bounds-first_shown-count
+    slice_bounds-first_shown-start
+    slice_bounds-first_shown-end
+    overflow_add-from
+    first_shown-requires
+    shape_of-table-then-arinc
+    returns-then-arinc
+    returns)

@@ -9,22 +9,22 @@ use Rattle.notices.proofs.with_bus.Lts as lts
 use Rattle.notices.proofs.is_arinc.Reads as is-arinc-reads
 use Rattle.notices.proofs.side.Reads as side-reads
 
-is-arinc-requires : tie.Need-is-arinc-requires
-is-arinc-requires c κs = search rules
+is_arinc-requires : tie.Need-is_arinc-requires
+is_arinc-requires c κs = search rules
 
 side-requires : tie.Need-side-requires
 side-requires c κs = search rules
 
-returns : tie.Need-returns
-returns c =
+returns-then-is_arinc : tie.Need-returns-then-is_arinc
+returns-then-is_arinc c =
     let a = c.before.before.before.args in
     let n = c.side.result in (
-      rw (← c.before.before.is_arinc.ensures, c.before.if1.true) (ap (bit_and a.bits) c.side.ensures.0),
+      rw (← c.before.before.is_arinc.ensures, c.before.if-is_arinc.true) (ap (bit_and a.bits) c.side.ensures.0),
       omega (arith, and_le_l a.bits n, c.before.before.before.requires.0),
     )
 
-returns-2 : tie.Need-returns-2
-returns-2 c = search rules
+returns : tie.Need-returns
+returns c = search rules
 
 pub with_bus_spec : {M : Type 1} → statement M
-with_bus_spec = tie.close (tie.spec is-arinc-requires side-requires returns returns-2)
+with_bus_spec = tie.close (tie.spec is_arinc-requires side-requires returns-then-is_arinc returns)

@@ -18,7 +18,7 @@ use Rattle.read.proofs.give.Tie as tie
 
 -- both rooms were measured
 abbrev Measured : Type 0
-Measured = tie.After-room-number
+Measured = tie.After-room_number-number
 
 abbrev start : Measured → tie.Start
 start c = c.before.before.before.before.before.before
@@ -33,27 +33,27 @@ abbrev n : Measured → ℕ
 n c = (start c).args.n
 
 abbrev log : Measured → List ℕ
-log c = (start c).args.log.now
+log c = (start c).args.log-1.now
 
 abbrev times : Measured → List ℕ
-times c = (start c).args.times.now
+times c = (start c).args.times-1.now
 
 abbrev bytes : Measured → ℕ
 bytes c = (start c).args.bytes
 
 abbrev need : Measured → ℕ
-need c = c.before.times-of.result
+need c = c.before.times_of-need.result
 
 need_is : (c : Measured) → need c ≡ times_needed (plan c) (n c)
-need_is c = c.before.times-of.ensures
+need_is c = c.before.times_of-need.ensures
 
 number_is : (c : Measured) (whole : List ℕ) → Built whole (start c).args.built.now (bytes c)
-    → c.room_number.result ≡ room_number (length whole) (length (log c)) (times_needed (plan c) (n c)) (length (times c))
-number_is c whole b = c.room_number.ensures ∙ ap₂ (λ (x y : ℕ). room_number x (length (log c)) y (length (times c))) b.size (need_is c)
+    → c.room_number-number.result ≡ room_number (length whole) (length (log c)) (times_needed (plan c) (n c)) (length (times c))
+number_is c whole b = c.room_number-number.ensures ∙ ap₂ (λ (x y : ℕ). room_number x (length (log c)) y (length (times c))) b.size (need_is c)
 
 -- and suffice
 abbrev Fitting : Type 0
-Fitting = tie.Else2
+Fitting = tie.Else-number-eq7
 
 abbrev measured : Fitting → Measured
 measured c = c.before.before
@@ -61,78 +61,78 @@ measured c = c.before.before
 fits : (c : Fitting) → let m = measured c in (bytes m ≤ 32768) × (bytes m ≤ length (log m)) × (need m ≤ length (times m))
 fits c =
     let m = measured c in
-    fit (bytes m) (length (log m)) (need m) (length (times m)) (λ z. c.before.if1.false (m.room_number.ensures ∙ z)) (λ z. c.if2.false (m.room_number.ensures ∙ z))
+    fit (bytes m) (length (log m)) (need m) (length (times m)) (λ z. c.before.if-number-eq6.false (m.room_number-number.ensures ∙ z)) (λ z. c.if-number-eq7.false (m.room_number-number.ensures ∙ z))
 
 built_room : (c : Fitting) → let m = measured c in bytes m + 7 ≤ length (start m).args.built.now
 built_room c = (start (measured c)).requires.1 (fits c).0 (fits c).1
 
 -- ---- the needs
 
-times-of-requires : tie.Need-times-of-requires
-times-of-requires c κs = search rules
+times_of-need-requires : tie.Need-times_of-need-requires
+times_of-need-requires c κs = search rules
 
-room-number-requires : tie.Need-room-number-requires
-room-number-requires c κs = search rules
+room_number-number-requires : tie.Need-room_number-number-requires
+room_number-number-requires c κs = search rules
 
 refusal-requires : tie.Need-refusal-requires
 refusal-requires c κs = search rules
 
-returns : tie.Need-returns
-returns c = λ whole b.
+returns-then-number-eq6 : tie.Need-returns-then-number-eq6
+returns-then-number-eq6 c = λ whole b.
     let m = c.before.before in
     given_refused (log m) (times m)
-    (log_beyond (plan m) (capture m) (n m) (length (log m)) (length (times m)) whole (sym (number_is m whole b) ∙ c.before.if1.true)
+    (log_beyond (plan m) (capture m) (n m) (length (log m)) (length (times m)) whole (sym (number_is m whole b) ∙ c.before.if-number-eq6.true)
     ∙ ap (λ (k : ℕ). refuses 6 k 0) (sym b.size))
     c.refusal.ensures
 
-refusal-requires-2 : tie.Need-refusal-requires-2
-refusal-requires-2 c κs = search rules
+refusal-requires-then-number-eq7 : tie.Need-refusal-requires-then-number-eq7
+refusal-requires-then-number-eq7 c κs = search rules
 
-returns-2 : tie.Need-returns-2
-returns-2 c = λ whole b.
+returns-then-number-eq7 : tie.Need-returns-then-number-eq7
+returns-then-number-eq7 c = λ whole b.
     let m = c.before.before.before in
     given_refused (log m) (times m)
-    (times_beyond (plan m) (capture m) (n m) (length (log m)) (length (times m)) whole (sym (number_is m whole b) ∙ c.before.if2.true)
+    (times_beyond (plan m) (capture m) (n m) (length (log m)) (length (times m)) whole (sym (number_is m whole b) ∙ c.before.if-number-eq7.true)
     ∙ ap (λ (k : ℕ). refuses 7 k 0) (sym (need_is m)))
-    c.refusal2.ensures
+    c.refusal-then-number-eq7.ensures
 
 copy-requires : tie.Need-copy-requires
 copy-requires c κs = let e = c.before in ((fits e).1, omega (arith, built_room e))
 
-write-times-requires : tie.Need-write-times-requires
-write-times-requires c κs =
+write_times-requires : tie.Need-write_times-requires
+write_times-requires c κs =
     let e = c.before.before.before.before.before in
     let m = measured e in
     let s = start m in
     let a = mul-le-mul_right (group_words (plan m)) (times_few (plan m) (n m)) in
     (s.pre.0.0, rw (need_is m) (omega (arith, a, s.pre.0.1)), s.pre.0.2, (fits e).2)
 
-same_length : tie.Need-same-length
-same_length c = search rules
+shape_of-log : tie.Need-shape_of-log
+shape_of-log c = search rules
 
-same-length-2 : tie.Need-same-length-2
-same-length-2 c = search rules
+shape_of-times : tie.Need-shape_of-times
+shape_of-times c = search rules
 
-returns-3 : tie.Need-returns-3
-returns-3 c =
+returns : tie.Need-returns
+returns c =
     let e = c.before.before.before.before.before.before.before.before in
     let m = measured e in
     λ whole b.
     given_copied (plan m) (capture m) (n m) whole (start m).args.built.now (bytes m) (need m) (log m) _ (times m) _ b (fits e).0 (fits e).1 (built_room e) (need_is m) (fits e).2
-    c.before.before.before.before.before.before.copy.ensures c.before.before.write-times.ensures
+    c.before.before.before.before.before.before.copy.ensures c.before.before.write_times.ensures
 
 pub give_spec : {M : Type 1} → statement M
 give_spec =
     tie.close
     (tie.spec
-    times-of-requires
-    room-number-requires
+    times_of-need-requires
+    room_number-number-requires
     refusal-requires
-    returns
-    refusal-requires-2
-    returns-2
+    returns-then-number-eq6
+    refusal-requires-then-number-eq7
+    returns-then-number-eq7
     copy-requires
-    write-times-requires
-    same_length
-    same-length-2
-    returns-3)
+    write_times-requires
+    shape_of-log
+    shape_of-times
+    returns)

@@ -2,17 +2,17 @@ use borrow.Author.Rules.{rules}
 use Rattle.read.proofs.read.Statement.{statement}
 use Rattle.read.proofs.read.Tie as tie
 
-read-either-requires : tie.Need-read-either-requires
-read-either-requires c κs = search rules
+read_either-requires : tie.Need-read_either-requires
+read_either-requires c κs = search rules
 
-same_length : tie.Need-same-length
-same_length c = search rules
+shape_of-log : tie.Need-shape_of-log
+shape_of-log c = search rules
 
-same-length-2 : tie.Need-same-length-2
-same-length-2 c = search rules
+shape_of-times : tie.Need-shape_of-times
+shape_of-times c = search rules
 
 returns : tie.Need-returns
-returns c = c.before.before.before.before.read-either.ensures
+returns c = c.before.before.before.before.read_either.ensures
 
 pub read_spec : {M : Type 1} → statement M
-read_spec = tie.close (tie.spec read-either-requires same_length same-length-2 returns)
+read_spec = tie.close (tie.spec read_either-requires shape_of-log shape_of-times returns)

@@ -19,7 +19,7 @@ use Rattle.capture_parts.proofs.Given.{given_refused, whole_groups}
 
 -- the groups were read, into `built`
 abbrev Read : Type 0
-Read = tie.After-read-groups
+Read = tie.After-read_groups-end
 
 abbrev start : Read → tie.Start
 start c = c.before.before.before.before.before.before.before.before
@@ -31,141 +31,141 @@ abbrev capture : Read → List ℕ
 capture c = (start c).args.capture.now
 
 abbrev log : Read → List ℕ
-log c = (start c).args.log.now
+log c = (start c).args.log-1.now
 
 abbrev times : Read → List ℕ
-times c = (start c).args.times.now
+times c = (start c).args.times-1.now
 
 abbrev groups : Read → ℕ
 groups c = length (capture c) / (3 * group_words (plan c))
 
 abbrev built : Read → List ℕ
-built c = c.read-groups.new.1.1.1.1.1.0
+built c = c.read_groups-end.new.1.1.1.1.1.0
 
-counted : (c : Read) → c.before.before.before.groups-in.result ≡ groups c
-counted c = c.before.before.before.groups-in.ensures
+counted : (c : Read) → c.before.before.before.groups_in-n.result ≡ groups c
+counted c = c.before.before.before.groups_in-n.ensures
 
-ended : (c : Read) → Ended (start c).args.kinds (plan c) (capture c) (groups c) c.read-groups.result (built c)
+ended : (c : Read) → Ended (start c).args.kinds (plan c) (capture c) (groups c) c.read_groups-end.result (built c)
 ended c =
-    subst (λ (n : ℕ). Ended (start c).args.kinds (plan c) (capture c) n c.read-groups.result (built c)) (counted c) c.read-groups.ensures
+    subst (λ (n : ℕ). Ended (start c).args.kinds (plan c) (capture c) n c.read_groups-end.result (built c)) (counted c) c.read_groups-end.ensures
 
 whole : (c : Read) → length (capture c) ≡ groups c * (3 * group_words (plan c))
 whole c = whole_groups (plan c) (length (capture c)) (start c).requires.0.2
 
 -- they brought a log
 abbrev Logged-all : Type 0
-Logged-all = tie.Else1
+Logged-all = tie.Else-end-ne0
 
 abbrev read : Logged-all → Read
 read c = c.before.before.before.before
 
-logged : (c : Logged-all) → Logged (start (read c)).args.kinds (plan (read c)) (capture (read c)) (groups (read c)) (read c).read-groups.result (built (read c))
-logged c = (ended (read c)).logged c.if1.false
+logged : (c : Logged-all) → Logged (start (read c)).args.kinds (plan (read c)) (capture (read c)) (groups (read c)) (read c).read_groups-end.result (built (read c))
+logged c = (ended (read c)).logged c.if-end-ne0.false
 
 -- no notice is open
 abbrev Answered-all : Type 0
-Answered-all = tie.Else2
+Answered-all = tie.Else-end-ne0-2
 
 abbrev brought : Answered-all → Logged-all
 brought c = c.before.before
 
 -- misplaced fill was asked for
 abbrev Asked : Type 0
-Asked = tie.After-asked
+Asked = tie.After-asked-misplaced
 
 abbrev answered : Asked → Answered-all
 answered c = c.before
 
-few : (c : Asked) → c.asked.result ≤ 349525
+few : (c : Asked) → c.asked-misplaced.result ≤ 349525
 few c =
     let r = read (brought (answered c)) in
-    fill-few (plan r) (capture r) (groups r) (length (log r)) (length (times r)) (start r).args.closed (logged (brought (answered c))) (answered c).if2.false c.asked.result c.asked.ensures
+    fill-few (plan r) (capture r) (groups r) (length (log r)) (length (times r)) (start r).args.closed (logged (brought (answered c))) (answered c).if-end-ne0-2.false c.asked-misplaced.result c.asked-misplaced.ensures
     (length (capture r)) (whole r) (start r).pre.0.1 (start r).pre.0.0
 
 -- ---- the needs
 
-groups-in-requires : tie.Need-groups-in-requires
-groups-in-requires c κs = let s = c.before.before.before.before in (s.requires.0.0, s.requires.0.1)
+groups_in-n-requires : tie.Need-groups_in-n-requires
+groups_in-n-requires c κs = let s = c.before.before.before.before in (s.requires.0.0, s.requires.0.1)
 
-slots-requires : tie.Need-slots-requires
-slots-requires c κs = search rules
+slots-count-requires : tie.Need-slots-count-requires
+slots-count-requires c κs = search rules
 
-read-groups-requires : tie.Need-read-groups-requires
-read-groups-requires c κs =
+read_groups-end-requires : tie.Need-read_groups-end-requires
+read_groups-end-requires c κs =
     let w = c.before.before in
     let s = w.before.before.before.before.before in (
-      (s.requires.0.0, c.before.slots.ensures.0),
-      (rw w.groups-in.ensures (whole_groups s.args.plan (length s.args.capture.now) s.requires.0.2), s.requires.0.1),
+      (s.requires.0.0, c.before.slots-count.ensures.0),
+      (rw w.groups_in-n.ensures (whole_groups s.args.plan (length s.args.capture.now) s.requires.0.2), s.requires.0.1),
     )
 
 refusal-requires : tie.Need-refusal-requires
 refusal-requires c κs = search rules
 
-same_length : tie.Need-same-length
-same_length c = search rules
+shape_of-built-then-end-ne0 : tie.Need-shape_of-built-then-end-ne0
+shape_of-built-then-end-ne0 c = search rules
 
-returns : tie.Need-returns
-returns c =
+returns-then-end-ne0 : tie.Need-returns-then-end-ne0
+returns-then-end-ne0 c =
     let t = c.before in
     let r = t.before.before.before.before in
     given_refused (log r) (times r)
-    (stops_settled (plan r) (capture r) (groups r) (length (log r)) (length (times r)) (start r).args.closed (ended r) t.if1.true) c.refusal.ensures
+    (stops_settled (plan r) (capture r) (groups r) (length (log r)) (length (times r)) (start r).args.closed (ended r) t.if-end-ne0.true) c.refusal.ensures
 
-sub-stored-place : tie.Need-overflow-sub-stored-place
-sub-stored-place c = omega (arith, c.before.if2.true)
+overflow_sub-end : tie.Need-overflow_sub-end
+overflow_sub-end c = omega (arith, c.before.if-end-ne0-2.true)
 
-stored-place-requires : tie.Need-stored-place-requires
-stored-place-requires c κs =
+stored_place-requires : tie.Need-stored_place-requires
+stored_place-requires c κs =
     let l = c.before.before.before in
     let r = read l in (
       (start r).pre.0.0,
-      r.before.before.slots.ensures.0,
+      r.before.before.slots-count.ensures.0,
       omega (arith, open_few (plan r) (capture r) (groups r) (length (log r)) (length (times r)) (start r).args.closed (logged l) (length (capture r)) (whole r) (start r).pre.0.1 (start r).pre.0.0),
     )
 
-refusal-requires-2 : tie.Need-refusal-requires-2
-refusal-requires-2 c κs = search rules
+refusal-requires-then-end-ne0-2 : tie.Need-refusal-requires-then-end-ne0-2
+refusal-requires-then-end-ne0-2 c κs = search rules
 
-same-length-2 : tie.Need-same-length-2
-same-length-2 c = search rules
+shape_of-built-then-end-ne0-2 : tie.Need-shape_of-built-then-end-ne0-2
+shape_of-built-then-end-ne0-2 c = search rules
 
-returns-2 : tie.Need-returns-2
-returns-2 c =
+returns-then-end-ne0-2 : tie.Need-returns-then-end-ne0-2
+returns-then-end-ne0-2 c =
     let t = c.before.before.before in
     let l = t.before.before in
     let r = read l in
     given_refused (log r) (times r)
-    (open-settled (plan r) (capture r) (groups r) (length (log r)) (length (times r)) (start r).args.closed (logged l) t.if2.true c.before.stored-place.ensures)
-    c.refusal2.ensures
+    (open-settled (plan r) (capture r) (groups r) (length (log r)) (length (times r)) (start r).args.closed (logged l) t.if-end-ne0-2.true c.before.stored_place.ensures)
+    c.refusal-then-end-ne0-2.ensures
 
-asked-requires : tie.Need-asked-requires
-asked-requires c κs = search rules
+asked-misplaced-requires : tie.Need-asked-misplaced-requires
+asked-misplaced-requires c κs = search rules
 
-sub-stored-place-2 : tie.Need-overflow-sub-stored-place-2
-sub-stored-place-2 c = omega (arith, c.if3.true)
+overflow_sub-misplaced : tie.Need-overflow_sub-misplaced
+overflow_sub-misplaced c = omega (arith, c.if-misplaced-ne0.true)
 
-stored-place-requires-2 : tie.Need-stored-place-requires-2
-stored-place-requires-2 c κs =
+stored_place-requires-then-misplaced-ne0 : tie.Need-stored_place-requires-then-misplaced-ne0
+stored_place-requires-then-misplaced-ne0 c κs =
     let a = c.before in
     let r = read (brought (answered a)) in
-    ((start r).pre.0.0, r.before.before.slots.ensures.0, omega (arith, few a))
+    ((start r).pre.0.0, r.before.before.slots-count.ensures.0, omega (arith, few a))
 
-refusal-requires-3 : tie.Need-refusal-requires-3
-refusal-requires-3 c κs = search rules
+refusal-requires-then-misplaced-ne0 : tie.Need-refusal-requires-then-misplaced-ne0
+refusal-requires-then-misplaced-ne0 c κs = search rules
 
-same-length-3 : tie.Need-same-length-3
-same-length-3 c = search rules
+shape_of-built-then-misplaced-ne0 : tie.Need-shape_of-built-then-misplaced-ne0
+shape_of-built-then-misplaced-ne0 c = search rules
 
-returns-3 : tie.Need-returns-3
-returns-3 c =
+returns-then-misplaced-ne0 : tie.Need-returns-then-misplaced-ne0
+returns-then-misplaced-ne0 c =
     let t = c.before.before in
     let a = t.before in
     let l = brought (answered a) in
     let r = read l in
     given_refused (log r) (times r)
-    (fill-settled (plan r) (capture r) (groups r) (length (log r)) (length (times r)) (start r).args.closed (logged l) (answered a).if2.false a.asked.result a.asked.ensures
-    t.if3.true c.before.stored-place2.ensures)
-    c.refusal3.ensures
+    (fill-settled (plan r) (capture r) (groups r) (length (log r)) (length (times r)) (start r).args.closed (logged l) (answered a).if-end-ne0-2.false a.asked-misplaced.result a.asked-misplaced.ensures
+    t.if-misplaced-ne0.true c.before.stored_place-then-misplaced-ne0.ensures)
+    c.refusal-then-misplaced-ne0.ensures
 
 give-requires : tie.Need-give-requires
 give-requires c κs =
@@ -176,28 +176,28 @@ give-requires c κs =
       (s.pre.0.0, rw (counted r) (omega (arith, whole r)), s.pre.0.1),
       λ h k.
           let w = s.pre.1.room g.items g.is (omega (arith, g.bytes, h)) (omega (arith, g.bytes, k)) in
-          let e : length (built r) ≡ length s.args.built.now = l.before.before.before.built.given in
+          let e : length (built r) ≡ length s.args.built-1.now = l.before.before.before.built-1.given in
           omega (arith, w, e, g.bytes),
     )
 
-same-length-4 : tie.Need-same-length-4
-same-length-4 c = search rules
+shape_of-built : tie.Need-shape_of-built
+shape_of-built c = search rules
 
-same-length-5 : tie.Need-same-length-5
-same-length-5 c = search rules
+shape_of-log : tie.Need-shape_of-log
+shape_of-log c = search rules
 
-same-length-6 : tie.Need-same-length-6
-same-length-6 c = search rules
+shape_of-times : tie.Need-shape_of-times
+shape_of-times c = search rules
 
-returns-4 : tie.Need-returns-4
-returns-4 c =
+returns : tie.Need-returns
+returns c =
     let given = c.before.before.before.before in
     let o = given.before.before.before.before in
     let a = o.before in
     let l = brought (answered a) in
     let r = read l in
-    rw (log-settled (plan r) (capture r) (groups r) (length (log r)) (length (times r)) (start r).args.closed (logged l) (answered a).if2.false a.asked.result a.asked.ensures
-    o.if3.false)
+    rw (log-settled (plan r) (capture r) (groups r) (length (log r)) (length (times r)) (start r).args.closed (logged l) (answered a).if-end-ne0-2.false a.asked-misplaced.result a.asked-misplaced.ensures
+    o.if-misplaced-ne0.false)
     (subst
     (λ (n : ℕ).
     Given (roomed (plan r) (capture r) n (length (log r)) (length (times r)) (log_of (logged l).items)) given.give.result (log r)
@@ -208,25 +208,25 @@ pub read_by_spec : {M : Type 1} → statement M
 read_by_spec =
     tie.close
     (tie.spec
-    groups-in-requires
-    slots-requires
-    read-groups-requires
+    groups_in-n-requires
+    slots-count-requires
+    read_groups-end-requires
     refusal-requires
-    same_length
-    returns
-    sub-stored-place
-    stored-place-requires
-    refusal-requires-2
-    same-length-2
-    returns-2
-    asked-requires
-    sub-stored-place-2
-    stored-place-requires-2
-    refusal-requires-3
-    same-length-3
-    returns-3
+    shape_of-built-then-end-ne0
+    returns-then-end-ne0
+    overflow_sub-end
+    stored_place-requires
+    refusal-requires-then-end-ne0-2
+    shape_of-built-then-end-ne0-2
+    returns-then-end-ne0-2
+    asked-misplaced-requires
+    overflow_sub-misplaced
+    stored_place-requires-then-misplaced-ne0
+    refusal-requires-then-misplaced-ne0
+    shape_of-built-then-misplaced-ne0
+    returns-then-misplaced-ne0
     give-requires
-    same-length-4
-    same-length-5
-    same-length-6
-    returns-4)
+    shape_of-built
+    shape_of-log
+    shape_of-times
+    returns)

@@ -31,35 +31,35 @@ capture c = (start c).args.capture.now
 
 -- it is legal
 abbrev Legal : Type 0
-Legal = tie.Else1
+Legal = tie.Else-not-legal
 
 is_legal : (c : Legal) → legal (start c.before).args.plan (start c.before).args.kinds ≡ true
-is_legal c = sym c.before.legal.ensures ∙ not-false _ c.if1.false
+is_legal c = sym c.before.legal.ensures ∙ not-false _ c.if-not-legal.false
 
 shape : (c : Legal) → Shape (start c.before).args.plan
 shape c = shape_of _ _ (is_legal c)
 
 -- the capture is whole groups
 abbrev Whole : Type 0
-Whole = tie.Else3
+Whole = tie.Else-not-is_whole
 
 abbrev is_judged : Whole → Judged
 is_judged c = c.before.before.before.before
 
 whole : (c : Whole) → length (capture (is_judged c)) % (3 * group_words (start (is_judged c)).args.plan) ≡ 0
-whole c = eqb-true _ _ (sym c.before.is_whole.ensures ∙ not-false _ c.if3.false)
+whole c = eqb-true _ _ (sym c.before.is_whole.ensures ∙ not-false _ c.if-not-is_whole.false)
 
 -- what a reading of one of the sizes asks
 asked : (c : Whole) → Shape (start (is_judged c)).args.plan × (length (capture (is_judged c)) ≤ 1048576)
     × (length (capture (is_judged c)) % (3 * group_words (start (is_judged c)).args.plan) ≡ 0)
-asked c = (shape c.before.before.before, c.before.before.if2.false, whole c)
+asked c = (shape c.before.before.before, c.before.before.if-length-gt1048576.false, whole c)
 
 -- and the array has room for the capture's log
 enough : (c : Whole) (built : ℕ) → 13 * length (capture (is_judged c)) + 89 ≤ 12 * built
-    → Enough (start (is_judged c)).args.plan (start (is_judged c)).args.kinds (capture (is_judged c)) built (length (start (is_judged c)).args.log.now)
+    → Enough (start (is_judged c)).args.plan (start (is_judged c)).args.kinds (capture (is_judged c)) built (length (start (is_judged c)).args.log-1.now)
 enough c built h =
     let j = is_judged c in
-    small_enough _ (capture j) (λ i. omega (arith, j.before.before.before.shared-slice-known.given i)) _ built _ (shape c.before.before.before) (whole c) h
+    small_enough _ (capture j) (λ i. omega (arith, j.before.before.before.shared_slice_known-1.given i)) _ built _ (shape c.before.before.before) (whole c) h
 
 -- ---- the needs
 
@@ -69,115 +69,115 @@ legal-requires c κs = search rules
 refusal-requires : tie.Need-refusal-requires
 refusal-requires c κs = search rules
 
-returns : tie.Need-returns
-returns c =
+returns-then-not-legal : tie.Need-returns-then-not-legal
+returns-then-not-legal c =
     let j = c.before.before in
     let s = start j in
-    given_refused s.args.log.now s.args.times.now
-    (illegal_refused s.args.closed s.args.plan s.args.kinds (capture j) _ _ (sym j.legal.ensures ∙ not-true _ c.before.if1.true))
+    given_refused s.args.log-1.now s.args.times-1.now
+    (illegal_refused s.args.closed s.args.plan s.args.kinds (capture j) _ _ (sym j.legal.ensures ∙ not-true _ c.before.if-not-legal.true))
     c.refusal.ensures
 
-refusal-requires-2 : tie.Need-refusal-requires-2
-refusal-requires-2 c κs = search rules
+refusal-requires-then-length-gt1048576 : tie.Need-refusal-requires-then-length-gt1048576
+refusal-requires-then-length-gt1048576 c κs = search rules
 
-returns-2 : tie.Need-returns-2
-returns-2 c =
+returns-then-length-gt1048576 : tie.Need-returns-then-length-gt1048576
+returns-then-length-gt1048576 c =
     let l = c.before.before in
     let s = start l.before in
-    given_refused s.args.log.now s.args.times.now
-    (long_refused s.args.closed s.args.plan s.args.kinds (capture l.before) _ _ (is_legal l) c.before.if2.true)
-    c.refusal2.ensures
+    given_refused s.args.log-1.now s.args.times-1.now
+    (long_refused s.args.closed s.args.plan s.args.kinds (capture l.before) _ _ (is_legal l) c.before.if-length-gt1048576.true)
+    c.refusal-then-length-gt1048576.ensures
 
-is-whole-requires : tie.Need-is-whole-requires
-is-whole-requires c κs = (shape c.before, c.if2.false)
+is_whole-requires : tie.Need-is_whole-requires
+is_whole-requires c κs = (shape c.before, c.if-length-gt1048576.false)
 
-refusal-requires-3 : tie.Need-refusal-requires-3
-refusal-requires-3 c κs = search rules
+refusal-requires-then-not-is_whole : tie.Need-refusal-requires-then-not-is_whole
+refusal-requires-then-not-is_whole c κs = search rules
 
-returns-3 : tie.Need-returns-3
-returns-3 c =
+returns-then-not-is_whole : tie.Need-returns-then-not-is_whole
+returns-then-not-is_whole c =
     let w = c.before.before in
     let l = w.before.before in
     let s = start l.before in
-    given_refused s.args.log.now s.args.times.now
-    (ragged_refused s.args.closed s.args.plan s.args.kinds (capture l.before) _ _ (is_legal l) w.before.if2.false
-    (sym w.is_whole.ensures ∙ not-true _ c.before.if3.true))
-    c.refusal3.ensures
+    given_refused s.args.log-1.now s.args.times-1.now
+    (ragged_refused s.args.closed s.args.plan s.args.kinds (capture l.before) _ _ (is_legal l) w.before.if-length-gt1048576.false
+    (sym w.is_whole.ensures ∙ not-true _ c.before.if-not-is_whole.true))
+    c.refusal-then-not-is_whole.ensures
 
 -- the reading is that of the groups
 abbrev groups : Whole → ℕ
 groups c = length (capture (is_judged c)) / (3 * group_words (start (is_judged c)).args.plan)
 
 read_is : (c : Whole) → (let j = is_judged c in let s = start j in
-    reading s.args.closed s.args.plan s.args.kinds (capture j) (length s.args.log.now) (length s.args.times.now)
-    ≡ settled s.args.plan (capture j) (groups c) (length s.args.log.now) (length s.args.times.now) s.args.closed
+    reading s.args.closed s.args.plan s.args.kinds (capture j) (length s.args.log-1.now) (length s.args.times-1.now)
+    ≡ settled s.args.plan (capture j) (groups c) (length s.args.log-1.now) (length s.args.times-1.now) s.args.closed
     (read_groups s.args.plan s.args.kinds (capture j) (groups c) 0 Nothing 0))
 read_is c =
     let j = is_judged c in
     let s = start j in
     let l = c.before.before.before in
-    read_on s.args.closed s.args.plan s.args.kinds (capture j) (length s.args.log.now) (length s.args.times.now) (is_legal l) c.before.before.if2.false
+    read_on s.args.closed s.args.plan s.args.kinds (capture j) (length s.args.log-1.now) (length s.args.times-1.now) (is_legal l) c.before.before.if-length-gt1048576.false
     (whole c)
 
-read-tiny-requires : tie.Need-read-tiny-requires
-read-tiny-requires c κs = let w = c.before.before.before in (asked w, enough w 552 (omega (arith, c.before.before.if4.true)))
+read_tiny-requires : tie.Need-read_tiny-requires
+read_tiny-requires c κs = let w = c.before.before.before in (asked w, enough w 552 (omega (arith, c.before.before.if-length-le501.true)))
 
-same_length : tie.Need-same-length
-same_length c = search rules
+shape_of-log-then-length-le501 : tie.Need-shape_of-log-then-length-le501
+shape_of-log-then-length-le501 c = search rules
 
-same-length-2 : tie.Need-same-length-2
-same-length-2 c = search rules
+shape_of-times-then-length-le501 : tie.Need-shape_of-times-then-length-le501
+shape_of-times-then-length-le501 c = search rules
 
-returns-4 : tie.Need-returns-4
-returns-4 c = let r = c.before.before.before.before in rw (read_is r.before.before.before.before) r.read-tiny.ensures
+returns-then-length-le501 : tie.Need-returns-then-length-le501
+returns-then-length-le501 c = let r = c.before.before.before.before in rw (read_is r.before.before.before.before) r.read_tiny.ensures
 
-read-small-requires : tie.Need-read-small-requires
-read-small-requires c κs = let w = c.before.before.before.before in (asked w, enough w 2056 (omega (arith, c.before.before.if5.true)))
+read_small-requires : tie.Need-read_small-requires
+read_small-requires c κs = let w = c.before.before.before.before in (asked w, enough w 2056 (omega (arith, c.before.before.if-length-le1884.true)))
 
-same-length-3 : tie.Need-same-length-3
-same-length-3 c = search rules
+shape_of-log-then-length-le1884 : tie.Need-shape_of-log-then-length-le1884
+shape_of-log-then-length-le1884 c = search rules
 
-same-length-4 : tie.Need-same-length-4
-same-length-4 c = search rules
+shape_of-times-then-length-le1884 : tie.Need-shape_of-times-then-length-le1884
+shape_of-times-then-length-le1884 c = search rules
 
-returns-5 : tie.Need-returns-5
-returns-5 c = let r = c.before.before.before.before in rw (read_is r.before.before.before.before.before) r.read_small.ensures
+returns-then-length-le1884 : tie.Need-returns-then-length-le1884
+returns-then-length-le1884 c = let r = c.before.before.before.before in rw (read_is r.before.before.before.before.before) r.read_small.ensures
 
-read-small-requires-2 : tie.Need-read-small-requires-2
-read-small-requires-2 c κs = (asked c.before.before.before.before.before, room_enough _ _ _ _ c.before.before.if6.true)
+read_small-requires-then-log-le2048 : tie.Need-read_small-requires-then-log-le2048
+read_small-requires-then-log-le2048 c κs = (asked c.before.before.before.before.before, room_enough _ _ _ _ c.before.before.if-log-le2048.true)
 
-same-length-5 : tie.Need-same-length-5
-same-length-5 c = search rules
+shape_of-log-then-log-le2048 : tie.Need-shape_of-log-then-log-le2048
+shape_of-log-then-log-le2048 c = search rules
 
-same-length-6 : tie.Need-same-length-6
-same-length-6 c = search rules
+shape_of-times-then-log-le2048 : tie.Need-shape_of-times-then-log-le2048
+shape_of-times-then-log-le2048 c = search rules
 
-returns-6 : tie.Need-returns-6
-returns-6 c = let r = c.before.before.before.before in rw (read_is r.before.before.before.before.before.before) r.read-small2.ensures
+returns-then-log-le2048 : tie.Need-returns-then-log-le2048
+returns-then-log-le2048 c = let r = c.before.before.before.before in rw (read_is r.before.before.before.before.before.before) r.read_small-then-log-le2048.ensures
 
-read-middle-requires : tie.Need-read-middle-requires
-read-middle-requires c κs = let w = c.before.before.before.before.before.before in (asked w, enough w 8200 (omega (arith, c.before.before.if7.true)))
+read_middle-requires : tie.Need-read_middle-requires
+read_middle-requires c κs = let w = c.before.before.before.before.before.before in (asked w, enough w 8200 (omega (arith, c.before.before.if-length-le7560.true)))
 
-same-length-7 : tie.Need-same-length-7
-same-length-7 c = search rules
+shape_of-log-then-length-le7560 : tie.Need-shape_of-log-then-length-le7560
+shape_of-log-then-length-le7560 c = search rules
 
-same-length-8 : tie.Need-same-length-8
-same-length-8 c = search rules
+shape_of-times-then-length-le7560 : tie.Need-shape_of-times-then-length-le7560
+shape_of-times-then-length-le7560 c = search rules
 
-returns-7 : tie.Need-returns-7
-returns-7 c = let r = c.before.before.before.before in rw (read_is r.before.before.before.before.before.before.before) r.read-middle.ensures
+returns-then-length-le7560 : tie.Need-returns-then-length-le7560
+returns-then-length-le7560 c = let r = c.before.before.before.before in rw (read_is r.before.before.before.before.before.before.before) r.read_middle.ensures
 
-read-large-requires : tie.Need-read-large-requires
-read-large-requires c κs = asked c.before.before.before.before.before.before
+read_large-requires : tie.Need-read_large-requires
+read_large-requires c κs = asked c.before.before.before.before.before.before
 
-same-length-9 : tie.Need-same-length-9
-same-length-9 c = search rules
+shape_of-log : tie.Need-shape_of-log
+shape_of-log c = search rules
 
-same-length-10 : tie.Need-same-length-10
-same-length-10 c = search rules
+shape_of-times : tie.Need-shape_of-times
+shape_of-times c = search rules
 
-returns-8 : tie.Need-returns-8
-returns-8 c = let r = c.before.before.before.before in rw (read_is r.before.before.before.before.before.before.before) r.read-large.ensures
+returns : tie.Need-returns
+returns c = let r = c.before.before.before.before in rw (read_is r.before.before.before.before.before.before.before) r.read_large.ensures
 
 pub read_either_spec : {M : Type 1} → statement M
 read_either_spec =
@@ -185,29 +185,29 @@ read_either_spec =
     (tie.spec
     legal-requires
     refusal-requires
-    returns
-    refusal-requires-2
-    returns-2
-    is-whole-requires
-    refusal-requires-3
-    returns-3
-    read-tiny-requires
-    same_length
-    same-length-2
-    returns-4
-    read-small-requires
-    same-length-3
-    same-length-4
-    returns-5
-    read-small-requires-2
-    same-length-5
-    same-length-6
-    returns-6
-    read-middle-requires
-    same-length-7
-    same-length-8
-    returns-7
-    read-large-requires
-    same-length-9
-    same-length-10
-    returns-8)
+    returns-then-not-legal
+    refusal-requires-then-length-gt1048576
+    returns-then-length-gt1048576
+    is_whole-requires
+    refusal-requires-then-not-is_whole
+    returns-then-not-is_whole
+    read_tiny-requires
+    shape_of-log-then-length-le501
+    shape_of-times-then-length-le501
+    returns-then-length-le501
+    read_small-requires
+    shape_of-log-then-length-le1884
+    shape_of-times-then-length-le1884
+    returns-then-length-le1884
+    read_small-requires-then-log-le2048
+    shape_of-log-then-log-le2048
+    shape_of-times-then-log-le2048
+    returns-then-log-le2048
+    read_middle-requires
+    shape_of-log-then-length-le7560
+    shape_of-times-then-length-le7560
+    returns-then-length-le7560
+    read_large-requires
+    shape_of-log
+    shape_of-times
+    returns)

@@ -2,11 +2,11 @@ use borrow.Author.Tests.{le-leb, lt-leb}
 use Rattle.read_from_c.proofs.least.Statement.{statement}
 use Rattle.read_from_c.proofs.least.Tie as tie
 
-returns : tie.Need-returns
-returns c = rw (le-leb _ _ c.if1.true)
+returns-then-a-b : tie.Need-returns-then-a-b
+returns-then-a-b c = rw (le-leb _ _ c.if-a-b.true)
 
-returns-2 : tie.Need-returns-2
-returns-2 c = rw (lt-leb _ _ c.if1.false)
+returns : tie.Need-returns
+returns c = rw (lt-leb _ _ c.if-a-b.false)
 
 pub least_spec : {M : Type 1} → statement M
-least_spec = tie.close (tie.spec returns returns-2)
+least_spec = tie.close (tie.spec returns-then-a-b returns)

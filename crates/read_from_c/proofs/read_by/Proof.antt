@@ -14,22 +14,22 @@ use Rattle.read_from_c.proofs.read_by.Tie as tie
 
 -- how many entries are lent
 abbrev Lent : Type 0
-Lent = tie.After-least
+Lent = tie.After-least-entries
 
 abbrev start : Lent → tie.Start
 start c = c.before.before.before.before.before
 
 abbrev entries : Lent → ℕ
-entries c = c.least.result
+entries c = c.least-entries.result
 
 abbrev row : Lent → List ℕ
-row c = (start c).args.row.now
+row c = (start c).args.row-1.now
 
 abbrev time_room : Lent → ℕ
-time_room c = length (start c).args.times.now / 8
+time_room c = length (start c).args.times-1.now / 8
 
 both : (c : Lent) → (entries c ≤ time_room c) × (entries c ≤ length (row c))
-both c = least_both (time_room c) (length (row c)) (entries c) c.least.ensures
+both c = least_both (time_room c) (length (row c)) (entries c) c.least-entries.ensures
 
 abbrev part : Lent → List ℕ
 part c = take (entries c) (row c)
@@ -39,73 +39,73 @@ part_long c = length-take-le (entries c) (row c) (both c).1
 
 -- the reading where there is room for so many times
 abbrev reading_in : Lent → ℕ → Reading
-reading_in c room = let a = (start c).args in reading a.closed a.plan a.kinds a.capture.now (length a.log.now) room
+reading_in c room = let a = (start c).args in reading a.closed a.plan a.kinds a.capture.now (length a.log-1.now) room
 
 same_reading : (c : Lent) → reading_in c (time_room c) ≡ reading_in c (length (part c))
 same_reading c =
     let s = start c in
     let a = s.args in
-    least_enough a.closed a.plan a.kinds a.capture.now (length a.log.now) (time_room c) (length (row c)) (entries c) s.pre c.least.ensures
+    least_enough a.closed a.plan a.kinds a.capture.now (length a.log-1.now) (time_room c) (length (row c)) (entries c) s.pre c.least-entries.ensures
     ∙ ap (reading_in c) (sym (part_long c))
 
 -- the capture is read
 abbrev Read : Type 0
-Read = tie.After-read-either
+Read = tie.After-read_either-answer
 
 abbrev lent : Read → Lent
 lent c = c.before.before.before
 
 abbrev log_after : Read → List ℕ
-log_after c = c.read-either.new.1.1.1.1.0
+log_after c = c.read_either-answer.new.1.1.1.1.0
 
 abbrev part_after : Read → List ℕ
-part_after c = c.read-either.new.1.1.1.1.1.0
+part_after c = c.read_either-answer.new.1.1.1.1.1.0
 
-few : (c : Read) → c.read-either.result.times ≤ length (part (lent c))
+few : (c : Read) → c.read_either-answer.result.times-1 ≤ length (part (lent c))
 few c =
     let l = lent c in
     let a = (start l).args in
     let n = length (part l) in
-    given_few c.read-either.result a.log.now (log_after c) (part l) (part_after c) n (reading_in l n)
-    (few_times a.closed a.plan a.kinds a.capture.now (length a.log.now) n) c.read-either.ensures
+    given_few c.read_either-answer.result a.log-1.now (log_after c) (part l) (part_after c) n (reading_in l n)
+    (few_times a.closed a.plan a.kinds a.capture.now (length a.log-1.now) n) c.read_either-answer.ensures
 
-there : (c : Read) → c.read-either.result.times ≤ length (part_after c)
+there : (c : Read) → c.read_either-answer.result.times-1 ≤ length (part_after c)
 there c =
     let l = lent c in
-    given_there c.read-either.result (start l).args.log.now (log_after c) (part l) (part_after c) (reading_in l (length (part l))) c.read-either.ensures
+    given_there c.read_either-answer.result (start l).args.log-1.now (log_after c) (part l) (part_after c) (reading_in l (length (part l))) c.read_either-answer.ensures
 
 -- its times are put
-abbrev read : tie.After-put-times-arg2 → Read
+abbrev read : tie.After-put_times-arg2 → Read
 read c = c.before.before.before.before.before.before
 
 -- ---- the needs
 
-least-requires : tie.Need-least-requires
-least-requires c κs = search rules
+least-entries-requires : tie.Need-least-entries-requires
+least-entries-requires c κs = search rules
 
-slice-relend-prefix-read-either : tie.Need-slice-relend-prefix-read-either
-slice-relend-prefix-read-either c = (both c.before).1
+slice_bounds-read_either-end : tie.Need-slice_bounds-read_either-end
+slice_bounds-read_either-end c = (both c.before).1
 
-slice-aggregate-read-either : tie.Need-slice-aggregate-read-either
-slice-aggregate-read-either c = sym (part_long c.before.before)
+slice_bounds-read_either-end-2 : tie.Need-slice_bounds-read_either-end-2
+slice_bounds-read_either-end-2 c = sym (part_long c.before.before)
 
-read-either-requires : tie.Need-read-either-requires
-read-either-requires c κs = search rules
+read_either-answer-requires : tie.Need-read_either-answer-requires
+read_either-answer-requires c κs = search rules
 
-put-times-requires : tie.Need-put-times-requires
-put-times-requires c κs =
+put_times-requires : tie.Need-put_times-requires
+put_times-requires c κs =
     let r = read c in
     let l = lent r in
     (rw (length-append (part_after r) (drop (entries l) (row l))) (omega (arith, there r)), omega (arith, few r, part_long l, (both l).0))
 
-same_length : tie.Need-same-length
-same_length c = search rules
+shape_of-log : tie.Need-shape_of-log
+shape_of-log c = search rules
 
-same-length-2 : tie.Need-same-length-2
-same-length-2 c = search rules
+shape_of-times : tie.Need-shape_of-times
+shape_of-times c = search rules
 
-same-length-3 : tie.Need-same-length-3
-same-length-3 c = search rules
+shape_of-row : tie.Need-shape_of-row
+shape_of-row c = search rules
 
 returns : tie.Need-returns
 returns c =
@@ -113,19 +113,19 @@ returns c =
     let r = read p.before in
     let l = lent r in
     let a = (start l).args in
-    rw (same_reading l) (given_bytes r.read-either.result a.log.now (log_after r) (part l) (part_after r) a.times.now p.put-times.new.1.1.0
-    (drop (entries l) (row l)) (reading_in l (length (part l))) r.read-either.ensures p.put-times.ensures)
+    rw (same_reading l) (given_bytes r.read_either-answer.result a.log-1.now (log_after r) (part l) (part_after r) a.times-1.now p.put_times.new.1.1.0
+    (drop (entries l) (row l)) (reading_in l (length (part l))) r.read_either-answer.ensures p.put_times.ensures)
 
 pub read_by_spec : {M : Type 1} → statement M
 read_by_spec =
     tie.close
     (tie.spec
-    least-requires
-    slice-relend-prefix-read-either
-    slice-aggregate-read-either
-    read-either-requires
-    put-times-requires
-    same_length
-    same-length-2
-    same-length-3
+    least-entries-requires
+    slice_bounds-read_either-end
+    slice_bounds-read_either-end-2
+    read_either-answer-requires
+    put_times-requires
+    shape_of-log
+    shape_of-times
+    shape_of-row
     returns)

@@ -22,21 +22,21 @@ use Rattle.read_groups.proofs.over_groups.Statement.{statement}
 use Rattle.read_groups.proofs.over_groups.Tie as tie
 use Rattle.capture_parts.proofs.Part.{dealt_all, numbers_few, group_room, part_length, dealt_none, dealt-found, dealt_low, dealt_words}
 
-abbrev invariant-loop : tie.invariant-loop
-invariant-loop kinds plan count capture groups row₀ out₀ size first behind start arinc table₀ noted₀ pass₀ g₀ from₀ row out table noted pass g from =
+abbrev invariant-loop-g : tie.invariant-loop-g
+invariant-loop-g kinds plan count capture groups row₀ out₀ size first behind start arinc table₀ noted₀ pass₀ g₀ from₀ row out table noted pass g from =
     (g ≤ groups) × (from ≡ g * slots plan) × (length row ≡ length row₀) × Over kinds plan capture groups out₀ g pass out
     × (length table ≡ 64) × NotedTo kinds plan capture groups g noted.found table × (noted.clear ≡ all_zero table)
 
-abbrev decreases-loop : tie.decreases-loop
-decreases-loop kinds plan count capture groups row₀ out₀ size first behind start arinc table₀ noted₀ pass₀ g₀ from₀ row out table noted pass g from = groups - g
+abbrev decreases-loop-g : tie.decreases-loop-g
+decreases-loop-g kinds plan count capture groups row₀ out₀ size first behind start arinc table₀ noted₀ pass₀ g₀ from₀ row out table noted pass g from = groups - g
 
 -- ---- the places
 
 -- at a group
 abbrev AtLoop : Type 0
-AtLoop = tie.At-loop invariant-loop decreases-loop
+AtLoop = tie.At-loop-g invariant-loop-g decreases-loop-g
 
-abbrev start : AtLoop → tie.Start invariant-loop decreases-loop
+abbrev start : AtLoop → tie.Start invariant-loop-g decreases-loop-g
 start c = c.before.before.before.before.before.before.before.before
 
 abbrev plan : AtLoop → Plan
@@ -53,23 +53,23 @@ all c = (start c).requires.1.0
 
 -- in a group
 abbrev InLoop : Type 0
-InLoop = tie.In-loop invariant-loop decreases-loop
+InLoop = tie.In-loop-g invariant-loop-g decreases-loop-g
 
-room : (c : InLoop) → c.before.loop.g * (3 * group_words (plan c.before)) + 3 * group_words (plan c.before) ≤ length (capture c.before)
-room c = let l = c.before in group_room (plan l) (shape l) (start l).args.groups l.loop.g (length (capture l)) (all l) c.loop-test.true
+room : (c : InLoop) → c.before.loop-g.g * (3 * group_words (plan c.before)) + 3 * group_words (plan c.before) ≤ length (capture c.before)
+room c = let l = c.before in group_room (plan l) (shape l) (start l).args.groups l.loop-g.g (length (capture l)) (all l) c.loop-g-test.true
 
 bytes : (c : AtLoop) (i : ℕ) → get_or (capture c) i 0 < 2 ^ 8
-bytes c i = omega (arith, c.before.before.before.before.before.before.before.shared-slice-known.given i)
+bytes c i = omega (arith, c.before.before.before.before.before.before.before.shared_slice_known-1.given i)
 
 size : (c : AtLoop) → group_words (plan c) ≤ most_group_words
 size c = group_most (plan c) (shape c)
 
-over : (c : AtLoop) → Over (start c).args.kinds (plan c) (capture c) (start c).args.groups (start c).args.out.now c.loop.g c.loop.pass c.loop.out
-over c = c.loop.invariant.3
+over : (c : AtLoop) → Over (start c).args.kinds (plan c) (capture c) (start c).args.groups (start c).args.out-1.now c.loop-g.g c.loop-g.pass c.loop-g.out-1
+over c = c.loop-g.invariant.3
 
 -- it is dealt
 abbrev Dealt : Type 0
-Dealt = tie.After-deal invariant-loop decreases-loop
+Dealt = tie.After-deal-fault invariant-loop-g decreases-loop-g
 
 abbrev in_loop : Dealt → InLoop
 in_loop c = c.before.before.before
@@ -78,14 +78,14 @@ abbrev loop : Dealt → AtLoop
 loop c = (in_loop c).before
 
 abbrev row : Dealt → List ℕ
-row c = c.deal.new.1.1.0
+row c = c.deal-fault.new.1.1.0
 
-low : (c : Dealt) → c.deal.result.place < group_words (plan (loop c))
-low c = dealt_low (plan (loop c)) (shape (loop c)) (capture (loop c)) (loop c).loop.g c.deal.ensures
+low : (c : Dealt) → c.deal-fault.result.place < group_words (plan (loop c))
+low c = dealt_low (plan (loop c)) (shape (loop c)) (capture (loop c)) (loop c).loop-g.g c.deal-fault.ensures
 
 -- without a fault
 abbrev Sound-group : Type 0
-Sound-group = tie.Else1 invariant-loop decreases-loop
+Sound-group = tie.Else-fault-ne0 invariant-loop-g decreases-loop-g
 
 abbrev dealt : Sound-group → Dealt
 dealt c = c.before.before.before.before
@@ -93,52 +93,52 @@ dealt c = c.before.before.before.before
 abbrev group : Sound-group → AtLoop
 group c = loop (dealt c)
 
-first : (c : Sound-group) → (group c).before.before.before.lead.result ≡ lead (plan (group c))
-first c = (group c).before.before.before.lead.ensures
+first : (c : Sound-group) → (group c).before.before.before.lead-first.result ≡ lead (plan (group c))
+first c = (group c).before.before.before.lead-first.ensures
 
 abbrev words : Sound-group → List ℕ
-words c = words_in (group_slots (plan (group c)) (capture (group c)) ((group c).loop.g * group_words (plan (group c))))
+words c = words_in (group_slots (plan (group c)) (capture (group c)) ((group c).loop-g.g * group_words (plan (group c))))
 
 abbrev part : Sound-group → List ℕ
 part c =
-    let n = (group c).before.before.before.lead.result in
+    let n = (group c).before.before.before.lead-first.result in
     take (n + (start (group c)).args.count - n) (drop n (row (dealt c)))
 
 part_is : (c : Sound-group) → part c ≡ words c
 part_is c =
     let l = group c in
-    dealt_words (plan l) (shape l) (capture l) l.loop.g (dealt c).deal.ensures l.before.before.before.lead.result (start l).args.count c.if1.false (first c)
+    dealt_words (plan l) (shape l) (capture l) l.loop-g.g (dealt c).deal-fault.ensures l.before.before.before.lead-first.result (start l).args.count c.if-fault-ne0.false (first c)
     (start l).pre.0.1
 
 part_length_is : (c : Sound-group) → length (part c) ≡ slots (plan (group c))
-part_length_is c = ap (λ (l : List ℕ). length l) (part_is c) ∙ words_length (plan (group c)) (capture (group c)) ((group c).loop.g * group_words (plan (group c)))
+part_length_is c = ap (λ (l : List ℕ). length l) (part_is c) ∙ words_length (plan (group c)) (capture (group c)) ((group c).loop-g.g * group_words (plan (group c)))
 
-numbers : (c : Sound-group) → ((group c).loop.g + 1) * slots (plan (group c)) ≤ 349525
+numbers : (c : Sound-group) → ((group c).loop-g.g + 1) * slots (plan (group c)) ≤ 349525
 numbers c =
     let l = group c in
-    let k : l.loop.g + 1 ≤ (start l).args.groups = omega (arith, (in_loop (dealt c)).loop-test.taken) in
+    let k : l.loop-g.g + 1 ≤ (start l).args.groups = omega (arith, (in_loop (dealt c)).loop-g-test.taken) in
     omega (arith, numbers_few (plan l) (shape l) (start l).args.groups (length (capture l)) (all l) (start l).pre.1.1, mul-le-mul_right (slots (plan l)) k)
 
-counted_is : (c : Sound-group) → counted (group c).loop.from (part c) ≡ numbers_of (plan (group c)) (capture (group c)) (group c).loop.g
-counted_is c = ap₂ counted (group c).loop.invariant.1 (part_is c)
+counted_is : (c : Sound-group) → counted (group c).loop-g.from (part c) ≡ numbers_of (plan (group c)) (capture (group c)) (group c).loop-g.g
+counted_is c = ap₂ counted (group c).loop-g.invariant.1 (part_is c)
 
-sound : (c : Sound-group) → group_fault (plan (group c)) (capture (group c)) ((group c).loop.g * group_words (plan (group c))) ≡ none
-sound c = dealt_none (plan (group c)) (shape (group c)) (capture (group c)) (group c).loop.g (dealt c).deal.ensures c.if1.false
+sound : (c : Sound-group) → group_fault (plan (group c)) (capture (group c)) ((group c).loop-g.g * group_words (plan (group c))) ≡ none
+sound c = dealt_none (plan (group c)) (shape (group c)) (capture (group c)) (group c).loop-g.g (dealt c).deal-fault.ensures c.if-fault-ne0.false
 
 words_of_row : (c : Sound-group) (i : ℕ) → i < length (part c) → get_or (part c) i 0 < 2 ^ 24
 words_of_row c i h =
     let l = group c in
-    rw (part_is c) (words_low (plan l) (capture l) (l.loop.g * group_words (plan l)) (bytes l) i (rw (part_is c) at h))
+    rw (part_is c) (words_low (plan l) (capture l) (l.loop-g.g * group_words (plan l)) (bytes l) i (rw (part_is c) at h))
 
-part_room : (c : Sound-group) → (group c).before.before.before.lead.result + (start (group c)).args.count ≤ length (row (dealt c))
+part_room : (c : Sound-group) → (group c).before.before.before.lead-first.result + (start (group c)).args.count ≤ length (row (dealt c))
 part_room c =
     let l = group c in
-    let r = (start l).pre.0.2 (omega (arith, (in_loop (dealt c)).loop-test.taken)) in
-    omega (arith, first c, (start l).pre.0.1, (dealt c).deal.ensures.long, l.loop.inv.2, r, dealt_all (plan l) (shape l))
+    let r = (start l).pre.0.2 (omega (arith, (in_loop (dealt c)).loop-g-test.taken)) in
+    omega (arith, first c, (start l).pre.0.1, (dealt c).deal-fault.ensures.long, l.loop-g.inv.2, r, dealt_all (plan l) (shape l))
 
 -- its row was read
 abbrev Ran-row : Type 0
-Ran-row = tie.After-on-row invariant-loop decreases-loop
+Ran-row = tie.After-on_row-pass invariant-loop-g decreases-loop-g
 
 abbrev of_row : Ran-row → Sound-group
 of_row c = c.before.before.before.before
@@ -151,20 +151,20 @@ told_few c =
     let e = of_row c in
     let l = group e in
     let t =
-    told-low (start l).args.kinds (plan l) (capture l) (start l).args.groups (start l).args.out.now (shape l) l.loop.g (in_loop (dealt e)).loop-test.taken
-    l.loop.pass l.loop.out (over l) (counted l.loop.from (part e)) (counted_is e) (sound e) c.on_Row.result (out c) c.on_Row.ensures.0 in
+    told-low (start l).args.kinds (plan l) (capture l) (start l).args.groups (start l).args.out-1.now (shape l) l.loop-g.g (in_loop (dealt e)).loop-g-test.taken
+    l.loop-g.pass l.loop-g.out-1 (over l) (counted l.loop-g.from (part e)) (counted_is e) (sound e) c.on_Row.result (out c) c.on_Row.ensures.0 in
     (omega (arith, t.0, numbers e), omega (arith, t.1, numbers e))
 
 -- a word of it is bad
 abbrev Bad-row : Type 0
-Bad-row = tie.Then2 invariant-loop decreases-loop
+Bad-row = tie.Then-pass-ne0 invariant-loop-g decreases-loop-g
 
 abbrev bad_row : Bad-row → Ran-row
 bad_row c = c.before.before.before.before
 
 -- no word of it is bad
 abbrev Good-row : Type 0
-Good-row = tie.Else2 invariant-loop decreases-loop
+Good-row = tie.Else-pass-ne0 invariant-loop-g decreases-loop-g
 
 abbrev good : Good-row → Ran-row
 good c = c.before.before.before.before
@@ -174,276 +174,276 @@ good_group c = of_row (good c)
 
 -- and its notices are noted
 abbrev Noted-row : Type 0
-Noted-row = tie.After-note-row invariant-loop decreases-loop
+Noted-row = tie.After-note_row-noted invariant-loop-g decreases-loop-g
 
 abbrev noted : Noted-row → Good-row
 noted c = c.before.before.before.before
 
 noted_next : (c : Noted-row)
     → let e = good_group (noted c) in
-    let l = group e in NotedTo (start l).args.kinds (plan l) (capture l) (start l).args.groups (l.loop.g + 1) c.note-row.result.found c.note-row.new.1.1.1.1.1.0
+    let l = group e in NotedTo (start l).args.kinds (plan l) (capture l) (start l).args.groups (l.loop-g.g + 1) c.note_row-noted.result.found c.note_row-noted.new.1.1.1.1.1.0
 noted_next c =
     let e = good_group (noted c) in
     let l = group e in
-    noted_more (start l).args.kinds (plan l) (capture l) (start l).args.groups l.loop.g (in_loop (dealt e)).loop-test.taken l.loop.inv.5 l.loop.from (part e)
-    l.loop.inv.1 (part_is e) c.note-row.ensures.0
+    noted_more (start l).args.kinds (plan l) (capture l) (start l).args.groups l.loop-g.g (in_loop (dealt e)).loop-g-test.taken l.loop-g.inv.5 l.loop-g.from (part e)
+    l.loop-g.inv.1 (part_is e) c.note_row-noted.ensures.0
 
 -- all groups were passed
 abbrev Passed : Type 0
-Passed = tie.After-loop invariant-loop decreases-loop
+Passed = tie.After-loop-g invariant-loop-g decreases-loop-g
 
-last : (c : Passed) → c.before.loop.g ≡ (start c.before).args.groups
-last c = omega (arith, c.loop-test.false, c.before.loop.invariant.0)
+last : (c : Passed) → c.before.loop-g.g ≡ (start c.before).args.groups
+last c = omega (arith, c.loop-g-test.false, c.before.loop-g.invariant.0)
 
-earliest : (c : Passed) → let l = c.before in earliest_of l.loop.noted.found l.loop.table ≡ open_number (start l).args.kinds (plan l) (capture l) (start l).args.groups
+earliest : (c : Passed) → let l = c.before in earliest_of l.loop-g.noted.found l.loop-g.table-1 ≡ open_number (start l).args.kinds (plan l) (capture l) (start l).args.groups
 earliest c =
     let l = c.before in
-    noted_all (start l).args.kinds (plan l) (capture l) (start l).args.groups (all_bytes (capture l) (bytes l)) l.loop.g (last c) l.loop.invariant.5
+    noted_all (start l).args.kinds (plan l) (capture l) (start l).args.groups (all_bytes (capture l) (bytes l)) l.loop-g.g (last c) l.loop-g.invariant.5
 
 -- ---- the needs
 
-mul-size : tie.Need-overflow-mul-size invariant-loop decreases-loop
-mul-size c = let s = c.before.before.before.before in omega (arith, group_most s.args.plan s.requires.0.0)
+overflow_mul-size : tie.Need-overflow_mul-size invariant-loop-g decreases-loop-g
+overflow_mul-size c = let s = c.before.before.before.before in omega (arith, group_most s.args.plan s.requires.0.0)
 
-lead-requires : tie.Need-lead-requires invariant-loop decreases-loop
-lead-requires c κs = search rules
+lead-first-requires : tie.Need-lead-first-requires invariant-loop-g decreases-loop-g
+lead-first-requires c κs = search rules
 
-add-behind : tie.Need-overflow-add-behind invariant-loop decreases-loop
-add-behind c =
+overflow_add-behind : tie.Need-overflow_add-behind invariant-loop-g decreases-loop-g
+overflow_add-behind c =
     let s = c.before.before.before.before.before in
-    omega (arith, c.lead.ensures, lead_few s.args.plan, s.requires.0.1, slots_most s.args.plan s.requires.0.0)
+    omega (arith, c.lead-first.ensures, lead_few s.args.plan, s.requires.0.1, slots_most s.args.plan s.requires.0.0)
 
-start-pass-requires : tie.Need-start-pass-requires invariant-loop decreases-loop
-start-pass-requires c κs = search rules
+start_pass-start-requires : tie.Need-start_pass-start-requires invariant-loop-g decreases-loop-g
+start_pass-start-requires c κs = search rules
 
-has-arinc-requires : tie.Need-has-arinc-requires invariant-loop decreases-loop
-has-arinc-requires c κs = search rules
+has_arinc-arinc-requires : tie.Need-has_arinc-arinc-requires invariant-loop-g decreases-loop-g
+has_arinc-arinc-requires c κs = search rules
 
-loop-holds : tie.Need-loop-init invariant-loop decreases-loop
+loop-g-init : tie.Need-loop-g-init invariant-loop-g decreases-loop-g
 unfolding all_zero
-loop-holds c = (omega arith, omega arith, refl, over_none _ _ _ _ _ c.before.start-pass.ensures, refl, noted_none _ _ _ _, refl)
+loop-g-init c = (omega arith, omega arith, refl, over_none _ _ _ _ _ c.before.start_pass-start.ensures, refl, noted_none _ _ _ _, refl)
 
-mul-begin : tie.Need-overflow-mul-begin invariant-loop decreases-loop
-mul-begin c = omega (arith, size c.before)
+overflow_mul-begin : tie.Need-overflow_mul-begin invariant-loop-g decreases-loop-g
+overflow_mul-begin c = omega (arith, size c.before)
 
-mul-begin-2 : tie.Need-overflow-mul-begin-2 invariant-loop decreases-loop
-mul-begin-2 c = omega (arith, room c, (start c.before).pre.1.1)
+overflow_mul-begin-in-loop-g : tie.Need-overflow_mul-begin-in-loop-g invariant-loop-g decreases-loop-g
+overflow_mul-begin-in-loop-g c = omega (arith, room c, (start c.before).pre.1.1)
 
-mul-end : tie.Need-overflow-mul-end invariant-loop decreases-loop
-mul-end c = omega (arith, size c.before)
+overflow_mul-end : tie.Need-overflow_mul-end invariant-loop-g decreases-loop-g
+overflow_mul-end c = omega (arith, size c.before)
 
-add-end : tie.Need-overflow-add-end invariant-loop decreases-loop
-add-end c = omega (arith, room c, (start c.before).pre.1.1)
+overflow_add-end : tie.Need-overflow_add-end invariant-loop-g decreases-loop-g
+overflow_add-end c = omega (arith, room c, (start c.before).pre.1.1)
 
-sub-deal : tie.Need-overflow-sub-deal invariant-loop decreases-loop
-sub-deal c = search rules
+slice_bounds-deal-count : tie.Need-slice_bounds-deal-count invariant-loop-g decreases-loop-g
+slice_bounds-deal-count c = search rules
 
-part-deal-start : tie.Need-slice-bounds-deal-start invariant-loop decreases-loop
-part-deal-start c = search rules
+slice_bounds-deal-start : tie.Need-slice_bounds-deal-start invariant-loop-g decreases-loop-g
+slice_bounds-deal-start c = search rules
 
-part-deal-end : tie.Need-slice-bounds-deal-end invariant-loop decreases-loop
-part-deal-end c = room c
+slice_bounds-deal-end : tie.Need-slice_bounds-deal-end invariant-loop-g decreases-loop-g
+slice_bounds-deal-end c = room c
 
-deal-requires : tie.Need-deal-requires invariant-loop decreases-loop
-deal-requires c κs =
+deal-fault-requires : tie.Need-deal-fault-requires invariant-loop-g decreases-loop-g
+deal-fault-requires c κs =
     let i = c.before.before in
     let l = i.before in (
       shape l,
-      part_length (plan l) (shape l) (capture l) (start l).args.groups l.loop.g (all l) i.loop-test.true,
-      omega (arith, l.loop.invariant.2, (start l).requires.0.2 (omega (arith, i.loop-test.true))),
+      part_length (plan l) (shape l) (capture l) (start l).args.groups l.loop-g.g (all l) i.loop-g-test.true,
+      omega (arith, l.loop-g.invariant.2, (start l).requires.0.2 (omega (arith, i.loop-g-test.true))),
     )
 
-mul-place : tie.Need-overflow-mul-place invariant-loop decreases-loop
-mul-place c = let d = c.before.before.before.before in omega (arith, room (in_loop d), (start (loop d)).pre.1.1)
+overflow_mul-place : tie.Need-overflow_mul-place invariant-loop-g decreases-loop-g
+overflow_mul-place c = let d = c.before.before.before.before in omega (arith, room (in_loop d), (start (loop d)).pre.1.1)
 
-add-place : tie.Need-overflow-add-place invariant-loop decreases-loop
-add-place c = let d = c.before.before.before.before.before in omega (arith, low d, room (in_loop d), (start (loop d)).pre.1.1)
+overflow_add-place : tie.Need-overflow_add-place invariant-loop-g decreases-loop-g
+overflow_add-place c = let d = c.before.before.before.before.before in omega (arith, low d, room (in_loop d), (start (loop d)).pre.1.1)
 
-same_length : tie.Need-same-length invariant-loop decreases-loop
-same_length c = search rules
+shape_of-row-then-fault-ne0 : tie.Need-shape_of-row-then-fault-ne0 invariant-loop-g decreases-loop-g
+shape_of-row-then-fault-ne0 c = search rules
 
-same-length-2 : tie.Need-same-length-2 invariant-loop decreases-loop
-same-length-2 c = search rules
+shape_of-out-then-fault-ne0 : tie.Need-shape_of-out-then-fault-ne0 invariant-loop-g decreases-loop-g
+shape_of-out-then-fault-ne0 c = search rules
 
-returns : tie.Need-returns invariant-loop decreases-loop
-returns c =
+returns-then-fault-ne0 : tie.Need-returns-then-fault-ne0 invariant-loop-g decreases-loop-g
+returns-then-fault-ne0 c =
     let t = c.before in
     let d = t.before.before.before.before in
     let l = loop d in
     record {
-      through = λ z. absurd (t.if1.true z);
-      notice = λ z. absurd (t.if1.true z);
+      through = λ z. absurd (t.if-fault-ne0.true z);
+      notice = λ z. absurd (t.if-fault-ne0.true z);
       stops = λ z.
-          over-fault (start l).args.kinds (plan l) (capture l) (start l).args.groups (start l).args.out.now (shape l) l.loop.g (in_loop d).loop-test.true l.loop.pass
-          l.loop.out (over l) (dealt-found (plan l) (shape l) (capture l) l.loop.g d.deal.ensures z);
+          over-fault (start l).args.kinds (plan l) (capture l) (start l).args.groups (start l).args.out-1.now (shape l) l.loop-g.g (in_loop d).loop-g-test.true l.loop-g.pass
+          l.loop-g.out-1 (over l) (dealt-found (plan l) (shape l) (capture l) l.loop-g.g d.deal-fault.ensures z);
     }
 
-mul-on-row : tie.Need-overflow-mul-on-row invariant-loop decreases-loop
-mul-on-row c = omega (arith, first c, lead_few (plan (group c)))
+offset_bounds-row-first : tie.Need-offset_bounds-row-first invariant-loop-g decreases-loop-g
+offset_bounds-row-first c = omega (arith, first c, lead_few (plan (group c)))
 
-sub-on-row : tie.Need-overflow-sub-on-row invariant-loop decreases-loop
-sub-on-row c = search rules
+slice_bounds-on_row-count : tie.Need-slice_bounds-on_row-count invariant-loop-g decreases-loop-g
+slice_bounds-on_row-count c = search rules
 
-part-on-row-start : tie.Need-slice-bounds-on-row-start invariant-loop decreases-loop
-part-on-row-start c = search rules
+slice_bounds-on_row-start : tie.Need-slice_bounds-on_row-start invariant-loop-g decreases-loop-g
+slice_bounds-on_row-start c = search rules
 
-part-on-row-end : tie.Need-slice-bounds-on-row-end invariant-loop decreases-loop
-part-on-row-end c = part_room c.before
+slice_bounds-on_row-end : tie.Need-slice_bounds-on_row-end invariant-loop-g decreases-loop-g
+slice_bounds-on_row-end c = part_room c.before
 
-on-row-requires : tie.Need-on-row-requires invariant-loop decreases-loop
-on-row-requires c κs =
+on_row-pass-requires : tie.Need-on_row-pass-requires invariant-loop-g decreases-loop-g
+on_row-pass-requires c κs =
     let e = c.before.before.before in
     let l = group e in (
       (over l).brought.sound,
       words_of_row e,
-      rw l.loop.inv.1 (over l).few,
-      omega (arith, l.loop.inv.1, part_length_is e, numbers e),
+      rw l.loop-g.inv.1 (over l).few,
+      omega (arith, l.loop-g.inv.1, part_length_is e, numbers e),
       (shape l).filling,
     )
 
-broken-requires : tie.Need-broken-requires invariant-loop decreases-loop
+broken-requires : tie.Need-broken-requires invariant-loop-g decreases-loop-g
 broken-requires c κs =
     let r = bad_row c in
     let l = group (of_row r) in
     let t = told_few r in
-    (shape l, (start l).pre.0.1, omega (arith, c.if2.true), t.1, t.0)
+    (shape l, (start l).pre.0.1, omega (arith, c.if-pass-ne0.true), t.1, t.0)
 
-same-length-3 : tie.Need-same-length-3 invariant-loop decreases-loop
-same-length-3 c =
+shape_of-row-then-pass-ne0 : tie.Need-shape_of-row-then-pass-ne0 invariant-loop-g decreases-loop-g
+shape_of-row-then-pass-ne0 c =
     let e = of_row (bad_row c.before) in
-    (dealt e).deal.ensures.long ∙ (group e).loop.inv.2
+    (dealt e).deal-fault.ensures.long ∙ (group e).loop-g.inv.2
 
-same-length-4 : tie.Need-same-length-4 invariant-loop decreases-loop
-same-length-4 c = c.before.before.before.before.out.given ∙ (over (group (of_row (bad_row c.before)))).brought.long
+shape_of-out-then-pass-ne0 : tie.Need-shape_of-out-then-pass-ne0 invariant-loop-g decreases-loop-g
+shape_of-out-then-pass-ne0 c = c.before.before.before.before.out-1.given ∙ (over (group (of_row (bad_row c.before)))).brought.long
 
-returns-2 : tie.Need-returns-2 invariant-loop decreases-loop
-returns-2 c =
+returns-then-pass-ne0 : tie.Need-returns-then-pass-ne0 invariant-loop-g decreases-loop-g
+returns-then-pass-ne0 c =
     let t = c.before in
     let r = bad_row t in
     let e = of_row r in
     let l = group e in
     walked_bad _ _ _ _ _ r.on_Row.result.bad r.on_Row.result.since
-    (over-bad (start l).args.kinds (plan l) (capture l) (start l).args.groups (start l).args.out.now (shape l) l.loop.g (in_loop (dealt e)).loop-test.taken
-    l.loop.pass l.loop.out (over l) (counted l.loop.from (part e)) (counted_is e) (sound e) r.on_Row.result (out r) r.on_Row.ensures.0 t.if2.true)
+    (over-bad (start l).args.kinds (plan l) (capture l) (start l).args.groups (start l).args.out-1.now (shape l) l.loop-g.g (in_loop (dealt e)).loop-g-test.taken
+    l.loop-g.pass l.loop-g.out-1 (over l) (counted l.loop-g.from (part e)) (counted_is e) (sound e) r.on_Row.result (out r) r.on_Row.ensures.0 t.if-pass-ne0.true)
     c.broken.ensures
 
-mul-note-row : tie.Need-overflow-mul-note-row invariant-loop decreases-loop
-mul-note-row c = let e = good_group c in omega (arith, first e, lead_few (plan (group e)))
+offset_bounds-row-first-in-loop-g : tie.Need-offset_bounds-row-first-in-loop-g invariant-loop-g decreases-loop-g
+offset_bounds-row-first-in-loop-g c = let e = good_group c in omega (arith, first e, lead_few (plan (group e)))
 
-sub-note-row : tie.Need-overflow-sub-note-row invariant-loop decreases-loop
-sub-note-row c = search rules
+slice_bounds-note_row-count : tie.Need-slice_bounds-note_row-count invariant-loop-g decreases-loop-g
+slice_bounds-note_row-count c = search rules
 
-part-note-row-start : tie.Need-slice-bounds-note-row-start invariant-loop decreases-loop
-part-note-row-start c = search rules
+slice_bounds-note_row-start : tie.Need-slice_bounds-note_row-start invariant-loop-g decreases-loop-g
+slice_bounds-note_row-start c = search rules
 
-part-note-row-end : tie.Need-slice-bounds-note-row-end invariant-loop decreases-loop
-part-note-row-end c = part_room (good_group c.before)
+slice_bounds-note_row-end : tie.Need-slice_bounds-note_row-end invariant-loop-g decreases-loop-g
+slice_bounds-note_row-end c = part_room (good_group c.before)
 
-slice-aggregate-note-row : tie.Need-slice-aggregate-note-row invariant-loop decreases-loop
-slice-aggregate-note-row c = sym (group (good_group c.before.before.before)).loop.inv.4
+slice_bounds-note_row-end-in-loop-g : tie.Need-slice_bounds-note_row-end-in-loop-g invariant-loop-g decreases-loop-g
+slice_bounds-note_row-end-in-loop-g c = sym (group (good_group c.before.before.before)).loop-g.inv.4
 
-note-row-requires : tie.Need-note-row-requires invariant-loop decreases-loop
-note-row-requires c κs =
+note_row-noted-requires : tie.Need-note_row-noted-requires invariant-loop-g decreases-loop-g
+note_row-noted-requires c κs =
     let e = good_group c.before.before.before in
     let l = group e in (
-      l.before.has-arinc.ensures,
+      l.before.has_arinc-arinc.ensures,
       words_of_row e,
       omega (arith, part_length_is e, numbers e),
-      omega (arith, l.loop.inv.1, part_length_is e, numbers e),
-      l.loop.inv.4,
-      l.loop.inv.6,
+      omega (arith, l.loop-g.inv.1, part_length_is e, numbers e),
+      l.loop-g.inv.4,
+      l.loop-g.inv.6,
     )
 
-add-from : tie.Need-overflow-add-from invariant-loop decreases-loop
-add-from c = let e = good_group (noted c.before) in omega (arith, (group e).loop.inv.1, (start (group e)).pre.0.1, numbers e)
+overflow_add-from : tie.Need-overflow_add-from invariant-loop-g decreases-loop-g
+overflow_add-from c = let e = good_group (noted c.before) in omega (arith, (group e).loop-g.inv.1, (start (group e)).pre.0.1, numbers e)
 
-add-g : tie.Need-overflow-add-g invariant-loop decreases-loop
-add-g c = let e = good_group (noted c.before) in omega (arith, (in_loop (dealt e)).loop-test.taken, (start (group e)).fits.groups)
+overflow_add-g : tie.Need-overflow_add-g invariant-loop-g decreases-loop-g
+overflow_add-g c = let e = good_group (noted c.before) in omega (arith, (in_loop (dealt e)).loop-g-test.taken, (start (group e)).fits.groups)
 
-loop-less : tie.Need-loop-smaller invariant-loop decreases-loop
-loop-less c = omega (arith, (in_loop (dealt (good_group (noted c.before)))).loop-test.taken)
+loop-g-smaller : tie.Need-loop-g-smaller invariant-loop-g decreases-loop-g
+loop-g-smaller c = omega (arith, (in_loop (dealt (good_group (noted c.before)))).loop-g-test.taken)
 
-loop-again : tie.Need-loop-preserved invariant-loop decreases-loop
-loop-again c =
+loop-g-preserved : tie.Need-loop-g-preserved invariant-loop-g decreases-loop-g
+loop-g-preserved c =
     let q = noted c.before in
     let r = good q in
     let e = of_row r in
     let l = group e in (
-      omega (arith, (in_loop (dealt e)).loop-test.taken),
-      omega (arith, l.loop.inv.1, (start l).pre.0.1),
-      (dealt e).deal.ensures.long ∙ l.loop.inv.2,
-      over-more (start l).args.kinds (plan l) (capture l) (start l).args.groups (start l).args.out.now (shape l) l.loop.g (in_loop (dealt e)).loop-test.taken
-          l.loop.pass l.loop.out (over l) (counted l.loop.from (part e)) (counted_is e) (sound e) r.on_Row.result (out r) r.on_Row.ensures.0 q.if2.left
-          (omega (arith, r.on_Row.ensures.1 q.if2.left, l.loop.inv.1, part_length_is e)),
-      c.table2.given,
+      omega (arith, (in_loop (dealt e)).loop-g-test.taken),
+      omega (arith, l.loop-g.inv.1, (start l).pre.0.1),
+      (dealt e).deal-fault.ensures.long ∙ l.loop-g.inv.2,
+      over-more (start l).args.kinds (plan l) (capture l) (start l).args.groups (start l).args.out-1.now (shape l) l.loop-g.g (in_loop (dealt e)).loop-g-test.taken
+          l.loop-g.pass l.loop-g.out-1 (over l) (counted l.loop-g.from (part e)) (counted_is e) (sound e) r.on_Row.result (out r) r.on_Row.ensures.0 q.if-pass-ne0.left
+          (omega (arith, r.on_Row.ensures.1 q.if-pass-ne0.left, l.loop-g.inv.1, part_length_is e)),
+      c.table-in-loop-g-1.given,
       noted_next c.before,
-      c.before.note-row.ensures.1,
+      c.before.note_row-noted.ensures.1,
     )
 
-slice-aggregate-at-end : tie.Need-slice-aggregate-at-end invariant-loop decreases-loop
-slice-aggregate-at-end c = search rules
+slice_bounds-at_end-end : tie.Need-slice_bounds-at_end-end invariant-loop-g decreases-loop-g
+slice_bounds-at_end-end c = search rules
 
-at-end-requires : tie.Need-at-end-requires invariant-loop decreases-loop
-at-end-requires c κs = let l = c.before.before in (omega (arith, l.loop.invariant.4), l.loop.invariant.6)
+at_end-notice-requires : tie.Need-at_end-notice-requires invariant-loop-g decreases-loop-g
+at_end-notice-requires c κs = let l = c.before.before in (omega (arith, l.loop-g.invariant.4), l.loop-g.invariant.6)
 
-same-length-5 : tie.Need-same-length-5 invariant-loop decreases-loop
-same-length-5 c = search rules
+shape_of-row : tie.Need-shape_of-row invariant-loop-g decreases-loop-g
+shape_of-row c = search rules
 
-same-length-6 : tie.Need-same-length-6 invariant-loop decreases-loop
-same-length-6 c = search rules
+shape_of-out : tie.Need-shape_of-out invariant-loop-g decreases-loop-g
+shape_of-out c = search rules
 
-returns-3 : tie.Need-returns-3 invariant-loop decreases-loop
-returns-3 c =
+returns : tie.Need-returns invariant-loop-g decreases-loop-g
+returns c =
     let e = c.before.before in
     let l = e.before in
-    record { through = λ z. over_all _ _ _ _ _ _ (last e) (over l); notice = λ z. c.at-end.ensures ∙ earliest e; stops = λ z. absurd (z refl) }
+    record { through = λ z. over_all _ _ _ _ _ _ (last e) (over l); notice = λ z. c.at_end-notice.ensures ∙ earliest e; stops = λ z. absurd (z refl) }
 
 pub over_groups_spec : {M : Type 1} → statement M
 over_groups_spec =
     tie.close
     (tie.spec
-    invariant-loop
-    decreases-loop
-    mul-size
-    lead-requires
-    add-behind
-    start-pass-requires
-    has-arinc-requires
-    loop-holds
-    mul-begin
-    mul-begin-2
-    mul-end
-    add-end
-    sub-deal
-    part-deal-start
-    part-deal-end
-    deal-requires
-    mul-place
-    add-place
-    same_length
-    same-length-2
-    returns
-    mul-on-row
-    sub-on-row
-    part-on-row-start
-    part-on-row-end
-    on-row-requires
+    invariant-loop-g
+    decreases-loop-g
+    overflow_mul-size
+    lead-first-requires
+    overflow_add-behind
+    start_pass-start-requires
+    has_arinc-arinc-requires
+    loop-g-init
+    overflow_mul-begin
+    overflow_mul-begin-in-loop-g
+    overflow_mul-end
+    overflow_add-end
+    slice_bounds-deal-count
+    slice_bounds-deal-start
+    slice_bounds-deal-end
+    deal-fault-requires
+    overflow_mul-place
+    overflow_add-place
+    shape_of-row-then-fault-ne0
+    shape_of-out-then-fault-ne0
+    returns-then-fault-ne0
+    offset_bounds-row-first
+    slice_bounds-on_row-count
+    slice_bounds-on_row-start
+    slice_bounds-on_row-end
+    on_row-pass-requires
     broken-requires
-    same-length-3
-    same-length-4
-    returns-2
-    mul-note-row
-    sub-note-row
-    part-note-row-start
-    part-note-row-end
-    slice-aggregate-note-row
-    note-row-requires
-    add-from
-    add-g
-    loop-less
-    loop-again
-    slice-aggregate-at-end
-    at-end-requires
-    same-length-5
-    same-length-6
-    returns-3)
+    shape_of-row-then-pass-ne0
+    shape_of-out-then-pass-ne0
+    returns-then-pass-ne0
+    offset_bounds-row-first-in-loop-g
+    slice_bounds-note_row-count
+    slice_bounds-note_row-start
+    slice_bounds-note_row-end
+    slice_bounds-note_row-end-in-loop-g
+    note_row-noted-requires
+    overflow_add-from
+    overflow_add-g
+    loop-g-smaller
+    loop-g-preserved
+    slice_bounds-at_end-end
+    at_end-notice-requires
+    shape_of-row
+    shape_of-out
+    returns)

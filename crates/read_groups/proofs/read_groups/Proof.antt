@@ -23,7 +23,7 @@ use Rattle.capture_parts.proofs.Part.{numbers_few}
 
 -- the walk is over
 abbrev Walked : Type 0
-Walked = tie.After-walk-groups
+Walked = tie.After-walk_groups-walk
 
 abbrev start : Walked → tie.Start
 start c = c.before.before.before.before
@@ -32,28 +32,28 @@ abbrev plan : Walked → Plan
 plan c = (start c).args.plan
 
 abbrev pass : Walked → Pass
-pass c = c.walk-groups.result.pass
+pass c = c.walk_groups-walk.result.pass-1
 
 abbrev out : Walked → List ℕ
-out c = c.walk-groups.new.1.1.1.1.1.0
+out c = c.walk_groups-walk.new.1.1.1.1.1.0
 
 -- all groups were passed
 abbrev All : Type 0
-All = tie.Else1
+All = tie.Else-walk-ne0
 
 abbrev walked : All → Walked
 walked c = c.before.before.before.before
 
 through : (c : All) → Through (start (walked c)).args.kinds (plan (walked c)) (start (walked c)).args.capture.now (start (walked c)).args.groups
-    (start (walked c)).args.out.now (pass (walked c)) (out (walked c))
-through c = (walked c).walk-groups.ensures.through c.if1.false
+    (start (walked c)).args.out-1.now (pass (walked c)) (out (walked c))
+through c = (walked c).walk_groups-walk.ensures.through c.if-walk-ne0.false
 
 few : (c : All) → (start (walked c)).args.groups * slots (plan (walked c)) ≤ 349525
 few c = let s = start (walked c) in numbers_few s.args.plan s.pre.0.0 s.args.groups _ s.pre.1.0 s.pre.1.1
 
 -- what is held is finished, or cut
 abbrev Finished : Type 0
-Finished = tie.After-finish
+Finished = tie.After-finish-step
 
 abbrev all : Finished → All
 all c = c.before.before
@@ -61,16 +61,16 @@ all c = c.before.before
 abbrev since : Finished → ℕ
 since c = stored_at (plan (walked (all c))) (pass (walked (all c))).since
 
-closes : (c : Finished) → Closes (finish (held_of (pass (walked (all c))).held) (since c)) c.finish.result
+closes : (c : Finished) → Closes (finish (held_of (pass (walked (all c))).held) (since c)) c.finish-step.result
 closes c =
-    subst (Closes (finish (held_of (pass (walked (all c))).held) (since c))) (sym (c.finish.ensures (since c)))
+    subst (Closes (finish (held_of (pass (walked (all c))).held) (since c))) (sym (c.finish-step.ensures (since c)))
     (finish_means (pass (walked (all c))).held (through (all c)).brought.sound.sane (since c))
 
 -- its bits are put
 abbrev Put : Type 0
-Put = tie.After-put-step
+Put = tie.After-put_step-pen
 
-abbrev good : Put → tie.Else2
+abbrev good : Put → tie.Else-step
 good c = c.before.before
 
 abbrev finished : Put → Finished
@@ -78,75 +78,75 @@ finished c = (good c).before
 
 -- ---- the needs
 
-walk-groups-requires : tie.Need-walk-groups-requires
-walk-groups-requires c κs = let s = c.before.before.before in (s.requires.0, s.requires.1)
+walk_groups-walk-requires : tie.Need-walk_groups-walk-requires
+walk_groups-walk-requires c κs = let s = c.before.before.before in (s.requires.0, s.requires.1)
 
-same_length : tie.Need-same-length
-same_length c = search rules
+shape_of-out-then-walk-ne0 : tie.Need-shape_of-out-then-walk-ne0
+shape_of-out-then-walk-ne0 c = search rules
 
-returns : tie.Need-returns
-returns c = ends_stopped _ _ _ _ _ _ c.before.before.before.before.walk-groups.ensures c.if1.true
+returns-then-walk-ne0 : tie.Need-returns-then-walk-ne0
+returns-then-walk-ne0 c = ends_stopped _ _ _ _ _ _ c.before.before.before.before.walk_groups-walk.ensures c.if-walk-ne0.true
 
-finish-requires : tie.Need-finish-requires
-finish-requires c κs = (through c.before).brought.sound.sane
+finish-step-requires : tie.Need-finish-step-requires
+finish-step-requires c κs = (through c.before).brought.sound.sane
 
-stored-place-requires : tie.Need-stored-place-requires
-stored-place-requires c κs =
+stored_place-first-requires : tie.Need-stored_place-first-requires
+stored_place-first-requires c κs =
     let a = all c.before in
     let s = start (walked a) in
     (s.pre.0.0, s.pre.0.1, omega (arith, (through a).low, few a))
 
-same-length-2 : tie.Need-same-length-2
-same-length-2 c = search rules
+shape_of-out-then-step : tie.Need-shape_of-out-then-step
+shape_of-out-then-step c = search rules
 
-returns-2 : tie.Need-returns-2
-returns-2 c =
+returns-then-step : tie.Need-returns-then-step
+returns-then-step c =
     let f = c.before.before in
     let a = all f in
-    ends_cut _ _ _ _ _ _ _ (through a) f.finish.result (closes f) _ c.before.if2.true c.stored-place.ensures
+    ends_cut _ _ _ _ _ _ _ (through a) f.finish-step.result (closes f) _ c.before.if-step.true c.stored_place-first.ensures
 
-put-step-requires : tie.Need-put-step-requires
-put-step-requires c κs =
+put_step-pen-requires : tie.Need-put_step-pen-requires
+put_step-pen-requires c κs =
     let f = c.before.before in
     let a = all f in
-    (omega (arith, (through a).few, few a), closing_fits (finish (held_of (pass (walked a)).held) (since f)) f.finish.result (closes f) c.before.if2.false)
+    (omega (arith, (through a).few, few a), closing_fits (finish (held_of (pass (walked a)).held) (since f)) f.finish-step.result (closes f) c.before.if-step.false)
 
-close-requires : tie.Need-close-requires
-close-requires c κs =
+close-bytes-requires : tie.Need-close-bytes-requires
+close-bytes-requires c κs =
     let p = c.before.before.before in
     let f = finished p in
     let a = all f in
-    let b = closed_bits _ _ _ _ _ (through a).brought (since f) f.finish.result (closes f) (good p).if2.false in
-    rw p.put_step.ensures.0 (omega (arith, b, (through a).few, few a))
+    let b = closed_bits _ _ _ _ _ (through a).brought (since f) f.finish-step.result (closes f) (good p).if-step.false in
+    rw p.put_step-pen.ensures.0 (omega (arith, b, (through a).few, few a))
 
-same-length-3 : tie.Need-same-length-3
-same-length-3 c = search rules
+shape_of-out : tie.Need-shape_of-out
+shape_of-out c = search rules
 
-returns-3 : tie.Need-returns-3
-returns-3 c =
+returns : tie.Need-returns
+returns c =
     let closed = c.before.before in
     let p = closed.before.before.before.before in
     let f = finished p in
     let a = all f in
     let s = start (walked a) in
-    let e = p.put_step.ensures in
-    ends-log _ _ _ _ _ _ _ (through a) f.finish.result (closes f) (good p).if2.false (free s.args.plan s.pre.0.0)
-    (all_bytes s.args.capture.now (λ i. omega (arith, (walked a).before.before.before.shared-slice-known.given i))) ((walked a).walk-groups.ensures.notice a.if1.left)
-    (rw (← e.0) closed.close.ensures.0)
-    (rw (← e.0, ← e.1) closed.close.ensures.1)
+    let e = p.put_step-pen.ensures in
+    ends-log _ _ _ _ _ _ _ (through a) f.finish-step.result (closes f) (good p).if-step.false (free s.args.plan s.pre.0.0)
+    (all_bytes s.args.capture.now (λ i. omega (arith, (walked a).before.before.before.shared_slice_known-1.given i))) ((walked a).walk_groups-walk.ensures.notice a.if-walk-ne0.left)
+    (rw (← e.0) closed.close-bytes.ensures.0)
+    (rw (← e.0, ← e.1) closed.close-bytes.ensures.1)
 
 pub read_groups_spec : {M : Type 1} → statement M
 read_groups_spec =
     tie.close
     (tie.spec
-    walk-groups-requires
-    same_length
-    returns
-    finish-requires
-    stored-place-requires
-    same-length-2
-    returns-2
-    put-step-requires
-    close-requires
-    same-length-3
-    returns-3)
+    walk_groups-walk-requires
+    shape_of-out-then-walk-ne0
+    returns-then-walk-ne0
+    finish-step-requires
+    stored_place-first-requires
+    shape_of-out-then-step
+    returns-then-step
+    put_step-pen-requires
+    close-bytes-requires
+    shape_of-out
+    returns)

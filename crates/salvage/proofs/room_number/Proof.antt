@@ -5,37 +5,37 @@ use Rattle.salvage.proofs.room_number.Tie as tie
 use Rattle.salvage.proofs.room_number.Reads as reads
 use Rattle.salvage.proofs.room_number.Lts as lts
 
-returns : tie.Need-returns
-returns c = let a = c.before.before.args in long_log a.tally a.log-room a.time_room a.report-room c.if1.true
+returns-then-tally-gt32768 : tie.Need-returns-then-tally-gt32768
+returns-then-tally-gt32768 c = let a = c.before.before.args in long_log a.tally a.log_room a.time_room a.report_room c.if-tally-gt32768.true
 
-returns-2 : tie.Need-returns-2
-returns-2 c =
+returns-then-log_room-tally : tie.Need-returns-then-log_room-tally
+returns-then-log_room-tally c =
     let e = c.before.before in
     let a = e.before.before.args in
-    short_log a.tally a.log-room a.time_room a.report-room e.if1.false c.if2.true
+    short_log a.tally a.log_room a.time_room a.report_room e.if-tally-gt32768.false c.if-log_room-tally.true
 
-returns-3 : tie.Need-returns-3
-returns-3 c =
+returns-then-time_room-tally : tie.Need-returns-then-time_room-tally
+returns-then-time_room-tally c =
     let l = c.before.before in
     let e = l.before.before in
     let a = e.before.before.args in
-    short_times a.tally a.log-room a.time_room a.report-room e.if1.false l.if2.false c.if3.true
+    short_times a.tally a.log_room a.time_room a.report_room e.if-tally-gt32768.false l.if-log_room-tally.false c.if-time_room-tally.true
 
-returns-4 : tie.Need-returns-4
-returns-4 c =
+returns-then-report_room-tally : tie.Need-returns-then-report_room-tally
+returns-then-report_room-tally c =
     let t = c.before.before in
     let l = t.before.before in
     let e = l.before.before in
     let a = e.before.before.args in
-    short_report a.tally a.log-room a.time_room a.report-room e.if1.false l.if2.false t.if3.false c.if4.true
+    short_report a.tally a.log_room a.time_room a.report_room e.if-tally-gt32768.false l.if-log_room-tally.false t.if-time_room-tally.false c.if-report_room-tally.true
 
-returns-5 : tie.Need-returns-5
-returns-5 c =
+returns : tie.Need-returns
+returns c =
     let t = c.before.before in
     let l = t.before.before in
     let e = l.before.before in
     let a = e.before.before.args in
-    room_for_all a.tally a.log-room a.time_room a.report-room e.if1.false l.if2.false t.if3.false c.if4.false
+    room_for_all a.tally a.log_room a.time_room a.report_room e.if-tally-gt32768.false l.if-log_room-tally.false t.if-time_room-tally.false c.if-report_room-tally.false
 
 pub room_number_spec : {M : Type 1} → statement M
-room_number_spec = tie.close (tie.spec returns returns-2 returns-3 returns-4 returns-5)
+room_number_spec = tie.close (tie.spec returns-then-tally-gt32768 returns-then-log_room-tally returns-then-time_room-tally returns-then-report_room-tally returns)

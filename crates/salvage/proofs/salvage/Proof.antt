@@ -26,17 +26,17 @@ abbrev start : Judged → tie.Start
 start c = c.before.before.before.before.before
 
 -- the plan is legal
-is_legal : (c : tie.Else1) → legal (start c.before).args.plan (start c.before).args.kinds ≡ true
-is_legal c = sym c.before.legal.ensures ∙ not-false _ c.if1.false
+is_legal : (c : tie.Else-not-legal) → legal (start c.before).args.plan (start c.before).args.kinds ≡ true
+is_legal c = sym c.before.legal.ensures ∙ not-false _ c.if-not-legal.false
 
-shape : (c : tie.Else1) → Shape (start c.before).args.plan
+shape : (c : tie.Else-not-legal) → Shape (start c.before).args.plan
 shape c = shape_of _ _ (is_legal c)
 
 -- and the capture has whole groups
-whole : (c : tie.Else3) → let a = (start c.before.before.before.before).args in eqb (length a.capture.now % (3 * group_words a.plan)) 0 ≡ true
-whole c = sym c.before.is_whole.ensures ∙ not-false _ c.if3.false
+whole : (c : tie.Else-not-is_whole) → let a = (start c.before.before.before.before).args in eqb (length a.capture.now % (3 * group_words a.plan)) 0 ≡ true
+whole c = sym c.before.is_whole.ensures ∙ not-false _ c.if-not-is_whole.false
 
-abbrev sound : tie.After-salvage-sized-arg3 → tie.Else3
+abbrev sound : tie.After-salvage_sized-arg-3-1 → tie.Else-not-is_whole
 sound c = c.before.before.before
 
 legal-requires : tie.Need-legal-requires
@@ -45,65 +45,65 @@ legal-requires c κs = search rules
 forgo-requires : tie.Need-forgo-requires
 forgo-requires c κs = search rules
 
-returns : tie.Need-returns
-returns c =
+returns-then-not-legal : tie.Need-returns-then-not-legal
+returns-then-not-legal c =
     let j = c.before.before in
     let a = (start j).args in
-    let e = sym j.legal.ensures ∙ not-true _ c.before.if1.true in
-    denies_by _ 1 0 _ a.log.now a.times.now a.report.now (not_legal a.plan a.kinds a.capture.now _ _ _ e) c.forgo.ensures
+    let e = sym j.legal.ensures ∙ not-true _ c.before.if-not-legal.true in
+    denies_by _ 1 0 _ a.log-1.now a.times-1.now a.report-1.now (not_legal a.plan a.kinds a.capture.now _ _ _ e) c.forgo.ensures
 
-forgo-requires-2 : tie.Need-forgo-requires-2
-forgo-requires-2 c κs = search rules
+forgo-requires-then-length-gt1048576 : tie.Need-forgo-requires-then-length-gt1048576
+forgo-requires-then-length-gt1048576 c κs = search rules
 
-returns-2 : tie.Need-returns-2
-returns-2 c =
+returns-then-length-gt1048576 : tie.Need-returns-then-length-gt1048576
+returns-then-length-gt1048576 c =
     let l = c.before.before in
     let a = (start l.before).args in
-    denies_by _ 8 (length a.capture.now) _ a.log.now a.times.now a.report.now
-    (too_long a.plan a.kinds a.capture.now _ _ _ (is_legal l) c.before.if2.true) c.forgo2.ensures
+    denies_by _ 8 (length a.capture.now) _ a.log-1.now a.times-1.now a.report-1.now
+    (too_long a.plan a.kinds a.capture.now _ _ _ (is_legal l) c.before.if-length-gt1048576.true) c.forgo-then-length-gt1048576.ensures
 
-is-whole-requires : tie.Need-is-whole-requires
-is-whole-requires c κs = (shape c.before, c.if2.false)
+is_whole-requires : tie.Need-is_whole-requires
+is_whole-requires c κs = (shape c.before, c.if-length-gt1048576.false)
 
-forgo-requires-3 : tie.Need-forgo-requires-3
-forgo-requires-3 c κs = search rules
+forgo-requires-then-not-is_whole : tie.Need-forgo-requires-then-not-is_whole
+forgo-requires-then-not-is_whole c κs = search rules
 
-returns-3 : tie.Need-returns-3
-returns-3 c =
+returns-then-not-is_whole : tie.Need-returns-then-not-is_whole
+returns-then-not-is_whole c =
     let t = c.before in
     let f = t.before.before in
     let l = f.before in
     let a = (start l.before).args in
-    let e = sym t.before.is_whole.ensures ∙ not-true _ t.if3.true in
-    denies_by _ 8 (length a.capture.now) _ a.log.now a.times.now a.report.now
-    (not_whole a.plan a.kinds a.capture.now _ _ _ (is_legal l) f.if2.false e) c.forgo3.ensures
+    let e = sym t.before.is_whole.ensures ∙ not-true _ t.if-not-is_whole.true in
+    denies_by _ 8 (length a.capture.now) _ a.log-1.now a.times-1.now a.report-1.now
+    (not_whole a.plan a.kinds a.capture.now _ _ _ (is_legal l) f.if-length-gt1048576.false e) c.forgo-then-not-is_whole.ensures
 
-salvage-sized-requires : tie.Need-salvage-sized-requires
-salvage-sized-requires c κs =
+salvage_sized-requires : tie.Need-salvage_sized-requires
+salvage_sized-requires c κs =
     let w = sound c in
     let f = w.before.before in
-    (shape f.before, f.if2.left, eqb-true _ _ (whole w))
+    (shape f.before, f.if-length-gt1048576.left, eqb-true _ _ (whole w))
 
-same_length : tie.Need-same-length
-same_length c = search rules
+shape_of-log : tie.Need-shape_of-log
+shape_of-log c = search rules
 
-same-length-2 : tie.Need-same-length-2
-same-length-2 c = search rules
+shape_of-times : tie.Need-shape_of-times
+shape_of-times c = search rules
 
-same-length-3 : tie.Need-same-length-3
-same-length-3 c = search rules
+shape_of-report : tie.Need-shape_of-report
+shape_of-report c = search rules
 
-returns-4 : tie.Need-returns-4
-returns-4 c =
+returns : tie.Need-returns
+returns c =
     let z = c.before.before.before.before.before.before in
     let w = sound z.before in
     let f = w.before.before in
     let a = (start f.before.before).args in
-    let y = z.salvage-sized.new.1.1.1 in
-    subst (λ (m : Salvage). Saves m z.salvage-sized.result a.log.now y.0 a.times.now y.1.0 a.report.now y.1.1.0)
-    (sym (is_saved a.plan a.kinds a.capture.now (length a.log.now) (length a.times.now) (length a.report.now)
-    (is_legal f.before) f.if2.left (whole w)))
-    z.salvage-sized.ensures
+    let y = z.salvage_sized.new.1.1.1 in
+    subst (λ (m : Salvage). Saves m z.salvage_sized.result a.log-1.now y.0 a.times-1.now y.1.0 a.report-1.now y.1.1.0)
+    (sym (is_saved a.plan a.kinds a.capture.now (length a.log-1.now) (length a.times-1.now) (length a.report-1.now)
+    (is_legal f.before) f.if-length-gt1048576.left (whole w)))
+    z.salvage_sized.ensures
 
 pub salvage_spec : {M : Type 1} → statement M
 salvage_spec =
@@ -111,14 +111,14 @@ salvage_spec =
     (tie.spec
     legal-requires
     forgo-requires
-    returns
-    forgo-requires-2
-    returns-2
-    is-whole-requires
-    forgo-requires-3
-    returns-3
-    salvage-sized-requires
-    same_length
-    same-length-2
-    same-length-3
-    returns-4)
+    returns-then-not-legal
+    forgo-requires-then-length-gt1048576
+    returns-then-length-gt1048576
+    is_whole-requires
+    forgo-requires-then-not-is_whole
+    returns-then-not-is_whole
+    salvage_sized-requires
+    shape_of-log
+    shape_of-times
+    shape_of-report
+    returns)

@@ -15,28 +15,28 @@ use Rattle.salvage_from_c.proofs.salvage_by.Tie as tie
 
 -- so many entries of the row are lent
 abbrev Lent : Type 0
-Lent = tie.After-least
+Lent = tie.After-least-entries
 
 abbrev start : Lent → tie.Start
 start c = c.before.before.before.before.before.before
 
 abbrev log : Lent → List ℕ
-log c = (start c).args.log.now
+log c = (start c).args.log-1.now
 
 abbrev times : Lent → List ℕ
-times c = (start c).args.times.now
+times c = (start c).args.times-1.now
 
 abbrev report : Lent → List ℕ
-report c = (start c).args.report.now
+report c = (start c).args.report-1.now
 
 abbrev row : Lent → List ℕ
-row c = (start c).args.row.now
+row c = (start c).args.row-1.now
 
 abbrev entries : Lent → ℕ
-entries c = c.least.result
+entries c = c.least-entries.result
 
 both : (c : Lent) → (entries c ≤ length (times c) / 8) × (entries c ≤ length (row c))
-both c = least_both (length (times c) / 8) (length (row c)) (entries c) c.least.ensures
+both c = least_both (length (times c) / 8) (length (row c)) (entries c) c.least-entries.ensures
 
 abbrev part : Lent → List ℕ
 part c = take (entries c) (row c)
@@ -53,60 +53,60 @@ given c = with c (length (part c))
 
 -- the capture was salvaged
 abbrev Done : Type 0
-Done = tie.After-salvage
+Done = tie.After-salvage-answer
 
 abbrev lent : Done → Lent
 lent c = c.before.before.before.before
 
 abbrev log' : Done → List ℕ
-log' c = c.salvage.new.1.1.1.0
+log' c = c.salvage-answer.new.1.1.1.0
 
 abbrev part' : Done → List ℕ
-part' c = c.salvage.new.1.1.1.1.0
+part' c = c.salvage-answer.new.1.1.1.1.0
 
 abbrev report' : Done → List ℕ
-report' c = c.salvage.new.1.1.1.1.1.0
+report' c = c.salvage-answer.new.1.1.1.1.1.0
 
-few : (c : Done) → c.salvage.result.times ≤ length (part (lent c))
+few : (c : Done) → c.salvage-answer.result.times-1 ≤ length (part (lent c))
 few c =
     let l = lent c in
-    saves_few c.salvage.result (log l) (log' c) (part l) (part' c) (report l) (report' c) (length (part l)) (given l)
-    (few_times (start l).args.plan (start l).args.kinds (start l).args.capture.now (length (log l)) (length (report l)) (length (part l))) c.salvage.ensures
+    saves_few c.salvage-answer.result (log l) (log' c) (part l) (part' c) (report l) (report' c) (length (part l)) (given l)
+    (few_times (start l).args.plan (start l).args.kinds (start l).args.capture.now (length (log l)) (length (report l)) (length (part l))) c.salvage-answer.ensures
 
 -- ---- the needs
 
-least-requires : tie.Need-least-requires
-least-requires c κs = search rules
+least-entries-requires : tie.Need-least-entries-requires
+least-entries-requires c κs = search rules
 
-slice-relend-prefix-salvage : tie.Need-slice-relend-prefix-salvage
-slice-relend-prefix-salvage c = (both c.before).1
+slice_bounds-salvage-end : tie.Need-slice_bounds-salvage-end
+slice_bounds-salvage-end c = (both c.before).1
 
-slice-aggregate-salvage : tie.Need-slice-aggregate-salvage
-slice-aggregate-salvage c = sym (part_long c.before.before)
+slice_bounds-salvage-end-2 : tie.Need-slice_bounds-salvage-end-2
+slice_bounds-salvage-end-2 c = sym (part_long c.before.before)
 
-salvage-requires : tie.Need-salvage-requires
-salvage-requires c κs = search rules
+salvage-answer-requires : tie.Need-salvage-answer-requires
+salvage-answer-requires c κs = search rules
 
-put-times-requires : tie.Need-put-times-requires
-put-times-requires c κs =
+put_times-requires : tie.Need-put_times-requires
+put_times-requires c κs =
     let d = c.before.before.before.before.before.before.before.before in
     let l = lent d in
-    let there : d.salvage.result.times ≤ length (part' d ++ drop (entries l) (row l)) =
+    let there : d.salvage-answer.result.times-1 ≤ length (part' d ++ drop (entries l) (row l)) =
     rw (length-append (part' d) (drop (entries l) (row l)))
-    (omega (arith, saves_there d.salvage.result (log l) (log' d) (part l) (part' d) (report l) (report' d) (given l) d.salvage.ensures)) in
+    (omega (arith, saves_there d.salvage-answer.result (log l) (log' d) (part l) (part' d) (report l) (report' d) (given l) d.salvage-answer.ensures)) in
     (there, omega (arith, few d, part_long l, (both l).0))
 
-same_length : tie.Need-same-length
-same_length c = search rules
+shape_of-log : tie.Need-shape_of-log
+shape_of-log c = search rules
 
-same-length-2 : tie.Need-same-length-2
-same-length-2 c = search rules
+shape_of-times : tie.Need-shape_of-times
+shape_of-times c = search rules
 
-same-length-3 : tie.Need-same-length-3
-same-length-3 c = search rules
+shape_of-report : tie.Need-shape_of-report
+shape_of-report c = search rules
 
-same-length-4 : tie.Need-same-length-4
-same-length-4 c = search rules
+shape_of-row : tie.Need-shape_of-row
+shape_of-row c = search rules
 
 returns : tie.Need-returns
 returns c =
@@ -114,23 +114,23 @@ returns c =
     let d = t.before.before.before.before.before.before.before.before.before in
     let l = lent d in
     let a = (start l).args in
-    let e = least_enough a.plan a.kinds a.capture.now (length (log l)) (length (report l)) (length (times l) / 8) (length (row l)) (entries l) (start l).pre l.least.ensures
+    let e = least_enough a.plan a.kinds a.capture.now (length (log l)) (length (report l)) (length (times l) / 8) (length (row l)) (entries l) (start l).pre l.least-entries.ensures
     ∙ ap (with l) (sym (part_long l)) in
     rw e
-    (saves_bytes d.salvage.result (log l) (log' d) (part l) (part' d) (report l) (report' d) (times l) t.put-times.new.1.1.0 (drop (entries l) (row l)) (given l) d.salvage.ensures
-    t.put-times.ensures)
+    (saves_bytes d.salvage-answer.result (log l) (log' d) (part l) (part' d) (report l) (report' d) (times l) t.put_times.new.1.1.0 (drop (entries l) (row l)) (given l) d.salvage-answer.ensures
+    t.put_times.ensures)
 
 pub salvage_by_spec : {M : Type 1} → statement M
 salvage_by_spec =
     tie.close
     (tie.spec
-    least-requires
-    slice-relend-prefix-salvage
-    slice-aggregate-salvage
-    salvage-requires
-    put-times-requires
-    same_length
-    same-length-2
-    same-length-3
-    same-length-4
+    least-entries-requires
+    slice_bounds-salvage-end
+    slice_bounds-salvage-end-2
+    salvage-answer-requires
+    put_times-requires
+    shape_of-log
+    shape_of-times
+    shape_of-report
+    shape_of-row
     returns)

@@ -14,64 +14,64 @@ use Rattle.salvage_from_c.proofs.salvage_from.Tie as tie
 abbrev start : tie.After-named → tie.Start
 start c = c.before.before.before.before.before.before
 
-is_named : (c : tie.Then1) → let a = (start c.before).args in named a.frame-time a.crc a.parity a.kinds.now ≡ true
-is_named c = sym c.before.named.ensures ∙ c.if1.true
+is_named : (c : tie.Then-named) → let a = (start c.before).args in named a.frame_time a.crc a.parity a.kinds.now ≡ true
+is_named c = sym c.before.named.ensures ∙ c.if-named.true
 
 -- ---- the needs
 
 named-requires : tie.Need-named-requires
 named-requires c κs = search rules
 
-plan-from-requires : tie.Need-plan-from-requires
-plan-from-requires c κs = search rules
+plan_from-plan-requires : tie.Need-plan_from-plan-requires
+plan_from-plan-requires c κs = search rules
 
-kinds-from-requires : tie.Need-kinds-from-requires
-kinds-from-requires c κs =
+kinds_from-requires : tie.Need-kinds_from-requires
+kinds_from-requires c κs =
     let t = c.before in
     let a = (start t.before).args in
-    sixteen a.frame-time a.crc a.parity a.kinds.now (is_named t)
+    sixteen a.frame_time a.crc a.parity a.kinds.now (is_named t)
 
-salvage-bytes-requires : tie.Need-salvage-bytes-requires
-salvage-bytes-requires c κs = search rules
+salvage_bytes-requires : tie.Need-salvage_bytes-requires
+salvage_bytes-requires c κs = search rules
 
-same_length : tie.Need-same-length
-same_length c = search rules
+shape_of-log-then-named : tie.Need-shape_of-log-then-named
+shape_of-log-then-named c = search rules
 
-same-length-2 : tie.Need-same-length-2
-same-length-2 c = search rules
+shape_of-times-then-named : tie.Need-shape_of-times-then-named
+shape_of-times-then-named c = search rules
 
-same-length-3 : tie.Need-same-length-3
-same-length-3 c = search rules
+shape_of-report-then-named : tie.Need-shape_of-report-then-named
+shape_of-report-then-named c = search rules
 
-returns : tie.Need-returns
-returns c =
+returns-then-named : tie.Need-returns-then-named
+returns-then-named c =
     let d = c.before.before.before.before.before.before in
     let k = d.before.before.before.before in
     let p = k.before in
     let a = (start p.before.before).args in
     rw
-    (salvage_named a.words a.tracks a.frame-time a.crc a.parity a.crc-label a.fill_bus a.kinds.now a.capture.now
-    (length a.log.now) (length a.times.now) (length a.report.now) p.plan-from.result k.kinds-from.result (is_named p.before) p.plan-from.ensures k.kinds-from.ensures)
-    d.salvage-bytes.ensures
+    (salvage_named a.words a.tracks a.frame_time a.crc a.parity a.crc_label a.fill_bus a.kinds.now a.capture.now
+    (length a.log-1.now) (length a.times-1.now) (length a.report-1.now) p.plan_from-plan.result k.kinds_from.result (is_named p.before) p.plan_from-plan.ensures k.kinds_from.ensures)
+    d.salvage_bytes.ensures
 
-returns-2 : tie.Need-returns-2
-returns-2 c =
+returns : tie.Need-returns
+returns c =
     let a = (start c.before).args in
     rw
-    (salvage_unnamed a.words a.tracks a.frame-time a.crc a.parity a.crc-label a.fill_bus a.kinds.now a.capture.now
-    (length a.log.now) (length a.times.now) (length a.report.now) (sym c.before.named.ensures ∙ c.if1.false))
-    (saves_none _ a.log.now a.times.now a.report.now 1 0 refl)
+    (salvage_unnamed a.words a.tracks a.frame_time a.crc a.parity a.crc_label a.fill_bus a.kinds.now a.capture.now
+    (length a.log-1.now) (length a.times-1.now) (length a.report-1.now) (sym c.before.named.ensures ∙ c.if-named.false))
+    (saves_none _ a.log-1.now a.times-1.now a.report-1.now 1 0 refl)
 
 pub salvage_from_spec : {M : Type 1} → statement M
 salvage_from_spec =
     tie.close
     (tie.spec
     named-requires
-    plan-from-requires
-    kinds-from-requires
-    salvage-bytes-requires
-    same_length
-    same-length-2
-    same-length-3
-    returns
-    returns-2)
+    plan_from-plan-requires
+    kinds_from-requires
+    salvage_bytes-requires
+    shape_of-log-then-named
+    shape_of-times-then-named
+    shape_of-report-then-named
+    returns-then-named
+    returns)

@@ -46,27 +46,27 @@ numbers s = numbers_upto s.args.plan (shape s) s.args.index (length s.args.captu
 
 -- a group without a fault: its words in the row
 abbrev Kept : Type 0
-Kept = tie.After-lead
+Kept = tie.After-lead-first
 
 abbrev start : Kept → tie.Start
 start c = c.before.before.before.before.before.before.before.before.before.before.before.before.before.before
 
 sound : (c : Kept) → group_fault (start c).args.plan (start c).args.capture.now ((start c).args.index * group_words (start c).args.plan) ≡ none
-sound c = let s = start c in dealt_none s.args.plan (shape s) s.args.capture.now s.args.index c.before.before.before.before.before.deal.ensures c.before.if1.false
+sound c = let s = start c in dealt_none s.args.plan (shape s) s.args.capture.now s.args.index c.before.before.before.before.before.deal-fault.ensures c.before.if-fault-ne0.false
 
 abbrev part : Kept → List ℕ
-part c = take (c.lead.result + (start c).args.count - c.lead.result) (drop c.lead.result c.before.before.before.before.before.deal.new.1.1.0)
+part c = take (c.lead-first.result + (start c).args.count - c.lead-first.result) (drop c.lead-first.result c.before.before.before.before.before.deal-fault.new.1.1.0)
 
 part_is : (c : Kept) → part c ≡ words_in (group_slots (start c).args.plan (start c).args.capture.now ((start c).args.index * group_words (start c).args.plan))
 part_is c =
     let s = start c in
-    dealt_words s.args.plan (shape s) s.args.capture.now s.args.index c.before.before.before.before.before.deal.ensures c.lead.result s.args.count c.before.if1.false c.lead.ensures s.pre.0.1
+    dealt_words s.args.plan (shape s) s.args.capture.now s.args.index c.before.before.before.before.before.deal-fault.ensures c.lead-first.result s.args.count c.before.if-fault-ne0.false c.lead-first.ensures s.pre.0.1
 
 row_long : (c : Kept) → length (part c) ≡ slots (start c).args.plan
 row_long c = let s = start c in ap length (part_is c) ∙ words_length s.args.plan s.args.capture.now (s.args.index * group_words s.args.plan)
 
 bytes : (c : Kept) (i : ℕ) → get_or (start c).args.capture.now i 0 < 2 ^ 8
-bytes c i = omega (arith, c.before.before.before.before.before.before.before.before.before.before.before.before.before.shared-slice-known.given i)
+bytes c i = omega (arith, c.before.before.before.before.before.before.before.before.before.before.before.before.before.shared_slice_known-1.given i)
 
 words_of : (c : Kept) (i : ℕ) → i < length (part c) → get_or (part c) i 0 < 2 ^ 24
 words_of c i h =
@@ -76,32 +76,32 @@ words_of c i h =
 more : (g n : ℕ) → g * n + n ≡ (g + 1) * n
 more g n = omega arith
 
-mul-size : tie.Need-overflow-mul-size
-mul-size c = omega (arith, size c.before.before.before.before.before.before)
+overflow_mul-size : tie.Need-overflow_mul-size
+overflow_mul-size c = omega (arith, size c.before.before.before.before.before.before)
 
-mul-size-2 : tie.Need-overflow-mul-size-2
-mul-size-2 c = omega (arith, size c.before.before.before.before.before.before)
+overflow_mul-size-2 : tie.Need-overflow_mul-size-2
+overflow_mul-size-2 c = omega (arith, size c.before.before.before.before.before.before)
 
-mul-begin : tie.Need-overflow-mul-begin
-mul-begin c = omega (arith, room c.before.before.before.before.before.before, few c.before.before.before.before.before.before)
+overflow_mul-begin : tie.Need-overflow_mul-begin
+overflow_mul-begin c = omega (arith, room c.before.before.before.before.before.before, few c.before.before.before.before.before.before)
 
-add-end : tie.Need-overflow-add-end
-add-end c = omega (arith, room c.before.before.before.before.before.before, few c.before.before.before.before.before.before)
+overflow_add-end : tie.Need-overflow_add-end
+overflow_add-end c = omega (arith, room c.before.before.before.before.before.before, few c.before.before.before.before.before.before)
 
-sub-deal : tie.Need-overflow-sub-deal
-sub-deal c = search rules
+slice_bounds-deal-count : tie.Need-slice_bounds-deal-count
+slice_bounds-deal-count c = search rules
 
-part-deal-start : tie.Need-slice-bounds-deal-start
-part-deal-start c = search rules
+slice_bounds-deal-start : tie.Need-slice_bounds-deal-start
+slice_bounds-deal-start c = search rules
 
-part-deal-end : tie.Need-slice-bounds-deal-end
-part-deal-end c = room c.before.before.before.before.before.before
+slice_bounds-deal-end : tie.Need-slice_bounds-deal-end
+slice_bounds-deal-end c = room c.before.before.before.before.before.before
 
-deal-requires : tie.Need-deal-requires
-deal-requires c κs = let s = c.before.before.before.before.before.before.before.before in (shape s, part_long s.args.plan (shape s) s.args.capture.now s.args.index (room s), s.requires.0.2)
+deal-fault-requires : tie.Need-deal-fault-requires
+deal-fault-requires c κs = let s = c.before.before.before.before.before.before.before.before in (shape s, part_long s.args.plan (shape s) s.args.capture.now s.args.index (room s), s.requires.0.2)
 
-drop-group-requires : tie.Need-drop-group-requires
-drop-group-requires c κs =
+drop_group-pass-requires : tie.Need-drop_group-pass-requires
+drop_group-pass-requires c κs =
     let s = c.before.before.before.before.before.before.before.before.before.before.before.before.before.before in
     let x = s.requires.0.3.sound in
     let n = numbers s in (
@@ -113,51 +113,51 @@ drop-group-requires c κs =
       omega (arith, index_few s.args.plan (shape s) s.args.index (length s.args.capture.now) (room s) (few s)),
     )
 
-same_length : tie.Need-same-length
-same_length c = c.before.before.before.before.before.before.before.row.given
+shape_of-row-then-fault-ne0 : tie.Need-shape_of-row-then-fault-ne0
+shape_of-row-then-fault-ne0 c = c.before.before.before.before.before.before.before.row-1.given
 
-same-length-2 : tie.Need-same-length-2
-same-length-2 c = c.before.report.given
+shape_of-report-then-fault-ne0 : tie.Need-shape_of-report-then-fault-ne0
+shape_of-report-then-fault-ne0 c = c.before.report-1.given
 
-returns : tie.Need-returns
-returns c =
+returns-then-fault-ne0 : tie.Need-returns-then-fault-ne0
+returns-then-fault-ne0 c =
     let s = c.before.before.before.before.before.before.before.before.before.before.before.before.before.before.before.before.before in
     let a = s.args in
-    let e = c.before.before.drop-group.ensures in
-    let f = c.before.before.before.before.before.before.before.before.deal.result in (
-      reel_dropped a.kinds a.plan a.capture.now a.index a.walk a.out.now a.times.now a.report.now f.number (a.index * group_words a.plan + f.place)
-          (dealt-found a.plan (shape s) a.capture.now a.index c.before.before.before.before.before.before.before.before.deal.ensures c.before.before.before.before.if1.true) e,
+    let e = c.before.before.drop_group-pass.ensures in
+    let f = c.before.before.before.before.before.before.before.before.deal-fault.result in (
+      reel_dropped a.kinds a.plan a.capture.now a.index a.walk a.out-1.now a.times-1.now a.report-1.now f.number (a.index * group_words a.plan + f.place)
+          (dealt-found a.plan (shape s) a.capture.now a.index c.before.before.before.before.before.before.before.before.deal-fault.ensures c.before.before.before.before.if-fault-ne0.true) e,
       record {
-        sound = dropped_sound a.plan (shape s) f.number a.index a.walk.pass c.before.before.drop-group.result a.report.now c.before.before.drop-group.new.1.1.1.1.1.0 s.requires.0.3.sound e;
+        sound = dropped_sound a.plan (shape s) f.number a.index a.walk.pass c.before.before.drop_group-pass.result a.report-1.now c.before.before.drop_group-pass.new.1.1.1.1.1.0 s.requires.0.3.sound e;
         few = omega (arith, s.requires.0.3.few);
       },
     )
 
-lead-requires : tie.Need-lead-requires
-lead-requires c κs = search rules
+lead-first-requires : tie.Need-lead-first-requires
+lead-first-requires c κs = search rules
 
-add-behind : tie.Need-overflow-add-behind
-add-behind c = let s = c.before.before.before.before.before.before.before.before.before.before.before.before.before.before in omega (arith, c.lead.ensures, lead_few s.args.plan, s.requires.0.1, slots_most s.args.plan (shape s))
+overflow_add-behind : tie.Need-overflow_add-behind
+overflow_add-behind c = let s = c.before.before.before.before.before.before.before.before.before.before.before.before.before.before in omega (arith, c.lead-first.ensures, lead_few s.args.plan, s.requires.0.1, slots_most s.args.plan (shape s))
 
-mul-from : tie.Need-overflow-mul-from
-mul-from c = let s = c.before.before.before.before.before.before.before.before.before.before.before.before.before.before in rw s.requires.0.1 (omega (arith, numbers s))
+overflow_mul-from : tie.Need-overflow_mul-from
+overflow_mul-from c = let s = c.before.before.before.before.before.before.before.before.before.before.before.before.before.before in rw s.requires.0.1 (omega (arith, numbers s))
 
-mul-on-row : tie.Need-overflow-mul-on-row
-mul-on-row c = let s = c.before.before.before.before.before.before.before.before.before.before.before.before.before.before in omega (arith, c.lead.ensures, lead_few s.args.plan)
+offset_bounds-row-first : tie.Need-offset_bounds-row-first
+offset_bounds-row-first c = let s = c.before.before.before.before.before.before.before.before.before.before.before.before.before.before in omega (arith, c.lead-first.ensures, lead_few s.args.plan)
 
-sub-on-row : tie.Need-overflow-sub-on-row
-sub-on-row c = search rules
+slice_bounds-on_row-count : tie.Need-slice_bounds-on_row-count
+slice_bounds-on_row-count c = search rules
 
-part-on-row-start : tie.Need-slice-bounds-on-row-start
-part-on-row-start c = search rules
+slice_bounds-on_row-start : tie.Need-slice_bounds-on_row-start
+slice_bounds-on_row-start c = search rules
 
-part-on-row-end : tie.Need-slice-bounds-on-row-end
-part-on-row-end c =
+slice_bounds-on_row-end : tie.Need-slice_bounds-on_row-end
+slice_bounds-on_row-end c =
     let s = c.before.before.before.before.before.before.before.before.before.before.before.before.before.before.before in
-    omega (arith, c.before.lead.ensures, s.requires.0.1, c.before.before.before.before.before.before.deal.ensures.long, s.requires.0.2, dealt_all s.args.plan (shape s))
+    omega (arith, c.before.lead-first.ensures, s.requires.0.1, c.before.before.before.before.before.before.deal-fault.ensures.long, s.requires.0.2, dealt_all s.args.plan (shape s))
 
-on-row-requires : tie.Need-on-row-requires
-on-row-requires c κs =
+on_row-pass-requires : tie.Need-on_row-pass-requires
+on_row-pass-requires c κs =
     let s = c.before.before.before.before.before.before.before.before.before.before.before.before.before.before.before.before.before.before in
     let a = s.args in
     let q = c.before.before.before.before in
@@ -169,49 +169,49 @@ on-row-requires c κs =
       omega (arith, row_long q, e, numbers s),
     )
 
-sub-keep-time : tie.Need-overflow-sub-keep-time
-sub-keep-time c = search rules
+slice_bounds-keep_time-count : tie.Need-slice_bounds-keep_time-count
+slice_bounds-keep_time-count c = search rules
 
-part-keep-time-start : tie.Need-slice-bounds-keep-time-start
-part-keep-time-start c = search rules
+slice_bounds-keep_time-start : tie.Need-slice_bounds-keep_time-start
+slice_bounds-keep_time-start c = search rules
 
-part-keep-time-end : tie.Need-slice-bounds-keep-time-end
-part-keep-time-end c = room c.before.before.before.before.before.before.before.before.before.before.before.before.before.before.before.before.before.before.before.before.before.before.before
+slice_bounds-keep_time-end : tie.Need-slice_bounds-keep_time-end
+slice_bounds-keep_time-end c = room c.before.before.before.before.before.before.before.before.before.before.before.before.before.before.before.before.before.before.before.before.before.before.before
 
-keep-time-requires : tie.Need-keep-time-requires
-keep-time-requires c κs =
+keep_time-kept-requires : tie.Need-keep_time-kept-requires
+keep_time-kept-requires c κs =
     let s = c.before.before.before.before.before.before.before.before.before.before.before.before.before.before.before.before.before.before.before.before.before.before.before.before.before in (
       shape s,
       part_long s.args.plan (shape s) s.args.capture.now s.args.index (room s),
       omega (arith, s.requires.0.3.few, index_few s.args.plan (shape s) s.args.index (length s.args.capture.now) (room s) (few s)),
     )
 
-same-length-3 : tie.Need-same-length-3
-same-length-3 c = c.before.before.before.before.before.before.before.before.before.before.before.before.before.before.before.before.before.before.row.given
+shape_of-row : tie.Need-shape_of-row
+shape_of-row c = c.before.before.before.before.before.before.before.before.before.before.before.before.before.before.before.before.before.before.row-1.given
 
-same-length-4 : tie.Need-same-length-4
-same-length-4 c = c.before.before.before.before.before.before.before.before.out.given
+shape_of-out : tie.Need-shape_of-out
+shape_of-out c = c.before.before.before.before.before.before.before.before.out-1.given
 
-same-length-5 : tie.Need-same-length-5
-same-length-5 c = c.before.times.given
+shape_of-times : tie.Need-shape_of-times
+shape_of-times c = c.before.times-1.given
 
-same-length-6 : tie.Need-same-length-6
-same-length-6 c = c.before.before.before.before.before.before.report2.given
+shape_of-report : tie.Need-shape_of-report
+shape_of-report c = c.before.before.before.before.before.before.report-2-1.given
 
-returns-2 : tie.Need-returns-2
-returns-2 c =
+returns : tie.Need-returns
+returns c =
     let s = c.before.before.before.before.before.before.before.before.before.before.before.before.before.before.before.before.before.before.before.before.before.before.before.before.before.before.before.before in
     let a = s.args in
     let q = c.before.before.before.before.before.before.before.before.before.before.before.before.before.before in
-    let k = c.before.before.keep-time.ensures in
+    let k = c.before.before.keep_time-kept.ensures in
     let w = c.before.before.before.before.before.before.before.before.before.on_Row.ensures in
     let e : a.index * a.count ≡ a.index * slots a.plan = ap (λ (n : ℕ). a.index * n) s.requires.0.1 in (
-      reel_kept a.kinds a.plan a.capture.now a.index a.walk a.out.now a.times.now a.report.now (a.index * a.count) (part q) c.before.before.keep-time.result
+      reel_kept a.kinds a.plan a.capture.now a.index a.walk a.out-1.now a.times-1.now a.report-1.now (a.index * a.count) (part q) c.before.before.keep_time-kept.result
           (group_time a.plan (part_of a.plan (shape s) a.capture.now a.index) 0) (sound q) w.0 e (part_is q) k.0 k.1
           (time_is a.plan (shape s) a.capture.now a.index),
       record {
         sound = subst (λ (n : ℕ). Sound n c.before.before.before.before.before.before.before.before.before.on_Row.result) (ap₂ ◌+◌ e (row_long q) ∙ more a.index (slots a.plan)) w.1;
-        few = kept_few a.plan a.index a.walk.times k.0 s.requires.0.3.few;
+        few = kept_few a.plan a.index a.walk.times-1 k.0 s.requires.0.3.few;
       },
     )
 
@@ -219,32 +219,32 @@ pub on_group_spec : {M : Type 1} → statement M
 on_group_spec =
     tie.close
     (tie.spec
-    mul-size
-    mul-size-2
-    mul-begin
-    add-end
-    sub-deal
-    part-deal-start
-    part-deal-end
-    deal-requires
-    drop-group-requires
-    same_length
-    same-length-2
-    returns
-    lead-requires
-    add-behind
-    mul-from
-    mul-on-row
-    sub-on-row
-    part-on-row-start
-    part-on-row-end
-    on-row-requires
-    sub-keep-time
-    part-keep-time-start
-    part-keep-time-end
-    keep-time-requires
-    same-length-3
-    same-length-4
-    same-length-5
-    same-length-6
-    returns-2)
+    overflow_mul-size
+    overflow_mul-size-2
+    overflow_mul-begin
+    overflow_add-end
+    slice_bounds-deal-count
+    slice_bounds-deal-start
+    slice_bounds-deal-end
+    deal-fault-requires
+    drop_group-pass-requires
+    shape_of-row-then-fault-ne0
+    shape_of-report-then-fault-ne0
+    returns-then-fault-ne0
+    lead-first-requires
+    overflow_add-behind
+    overflow_mul-from
+    offset_bounds-row-first
+    slice_bounds-on_row-count
+    slice_bounds-on_row-start
+    slice_bounds-on_row-end
+    on_row-pass-requires
+    slice_bounds-keep_time-count
+    slice_bounds-keep_time-start
+    slice_bounds-keep_time-end
+    keep_time-kept-requires
+    shape_of-row
+    shape_of-out
+    shape_of-times
+    shape_of-report
+    returns)

@@ -18,13 +18,13 @@ use Rattle.salvage_run.proofs.let_go.Reads as let-go-reads
 
 -- the groups are passed
 abbrev Over : Type 0
-Over = tie.After-over-groups
+Over = tie.After-over_groups-walk
 
 abbrev start : Over → tie.Start
 start c = c.before.before.before.before.before.before.before.before.before.before
 
 bytes : (c : Over) (i : ℕ) → get_or (start c).args.capture.now i 0 < 2 ^ 8
-bytes c i = omega (arith, c.before.before.before.before.before.before.before.before.before.shared-slice-known.given i)
+bytes c i = omega (arith, c.before.before.before.before.before.before.before.before.before.shared_slice_known-1.given i)
 
 -- the data words of all groups
 all : (c : Over) → (start c).args.groups * slots (start c).args.plan ≤ 349525
@@ -33,45 +33,45 @@ all c =
     numbers_few s.args.plan s.pre.0.0 s.args.groups (length s.args.capture.now) s.pre.1.0 s.pre.1.1
 
 -- what is held at the end is let go
-abbrev over : tie.After-let-go-arg2 → Over
+abbrev over : tie.After-let_go-arg-2-1 → Over
 over c = c.before.before.before.before.before.before.before.before.before.before
 
 -- the log is closed
-abbrev gone : tie.After-close-arg → tie.After-let-go
+abbrev gone : tie.After-close-arg-1 → tie.After-let_go-pass
 gone c = c.before.before.before.before.before.before
 
 -- ---- the needs
 
-over-groups-requires : tie.Need-over-groups-requires
-over-groups-requires c κs = search rules
+over_groups-walk-requires : tie.Need-over_groups-walk-requires
+over_groups-walk-requires c κs = search rules
 
-let-go-requires : tie.Need-let-go-requires
-let-go-requires c κs =
+let_go-pass-requires : tie.Need-let_go-pass-requires
+let_go-pass-requires c κs =
     let o = over c in
     let s = start o in
-    let x = o.over-groups.ensures.1.sound in
+    let x = o.over_groups-walk.ensures.1.sound in
     let n = all o in
     (s.pre.0.0, s.pre.0.1, x.sane, low_more (2 ^ 32) (omega arith) x.low, omega (arith, x.few_entries), omega (arith, x.few_bits))
 
-close-requires : tie.Need-close-requires
-close-requires c κs =
+close-bytes-requires : tie.Need-close-bytes-requires
+close-bytes-requires c κs =
     let g = gone c in
     let o = over g.before in
-    let x = o.over-groups.ensures.1.sound in
+    let x = o.over_groups-walk.ensures.1.sound in
     let n = all o in
-    omega (arith, x.few_bits, (gone_few (start o).args.plan _ x.sane g.let_go.ensures).few_bits)
+    omega (arith, x.few_bits, (gone_few (start o).args.plan _ x.sane g.let_go-pass.ensures).few_bits)
 
-same_length : tie.Need-same-length
-same_length c = search rules
+shape_of-row : tie.Need-shape_of-row
+shape_of-row c = search rules
 
-same-length-2 : tie.Need-same-length-2
-same-length-2 c = search rules
+shape_of-out : tie.Need-shape_of-out
+shape_of-out c = search rules
 
-same-length-3 : tie.Need-same-length-3
-same-length-3 c = search rules
+shape_of-times : tie.Need-shape_of-times
+shape_of-times c = search rules
 
-same-length-4 : tie.Need-same-length-4
-same-length-4 c = search rules
+shape_of-report : tie.Need-shape_of-report
+shape_of-report c = search rules
 
 returns : tie.Need-returns
 returns c =
@@ -80,18 +80,18 @@ returns c =
     let o = over g.before in
     let s = start o in
     let a = s.args in
-    tallied a.kinds a.plan s.pre.0.0 a.capture.now (bytes o) a.groups a.out.now a.times.now a.report.now
-    o.over-groups.ensures.0 g.let_go.ensures z.close.ensures.0 z.close.ensures.1
+    tallied a.kinds a.plan s.pre.0.0 a.capture.now (bytes o) a.groups a.out-1.now a.times-1.now a.report-1.now
+    o.over_groups-walk.ensures.0 g.let_go-pass.ensures z.close-bytes.ensures.0 z.close-bytes.ensures.1
 
 pub through_row_spec : {M : Type 1} → statement M
 through_row_spec =
     tie.close
     (tie.spec
-    over-groups-requires
-    let-go-requires
-    close-requires
-    same_length
-    same-length-2
-    same-length-3
-    same-length-4
+    over_groups-walk-requires
+    let_go-pass-requires
+    close-bytes-requires
+    shape_of-row
+    shape_of-out
+    shape_of-times
+    shape_of-report
     returns)

@@ -6,11 +6,11 @@ use Rattle.salvage_run.proofs.base_words.Tie as tie
 use Rattle.salvage_run.proofs.base_words.Reads as reads
 use Rattle.salvage_run.proofs.base_words.Lts as lts
 
-returns : tie.Need-returns
-returns c = (rw (lt-ltb _ _ c.if1.true), omega arith)
+returns-then-base-lt4294967296 : tie.Need-returns-then-base-lt4294967296
+returns-then-base-lt4294967296 c = (rw (lt-ltb _ _ c.if-base-lt4294967296.true), omega arith)
 
-returns-2 : tie.Need-returns-2
-returns-2 c = (rw (le-ltb _ _ c.if1.false), omega arith)
+returns-else-base-lt4294967296 : tie.Need-returns-else-base-lt4294967296
+returns-else-base-lt4294967296 c = (rw (le-ltb _ _ c.if-base-lt4294967296.false), omega arith)
 
 pub base_words_spec : {M : Type 1} → statement M
-base_words_spec = tie.close (tie.spec returns returns-2)
+base_words_spec = tie.close (tie.spec returns-then-base-lt4294967296 returns-else-base-lt4294967296)

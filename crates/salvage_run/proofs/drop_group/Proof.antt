@@ -12,33 +12,33 @@ use Rattle.salvage_run.proofs.drop_group.Lts as lts
 use Rattle.salvage_run.proofs.drop_held.Reads as drop-held-reads
 use Rattle.salvage_run.proofs.put_at.Reads as put-at-reads
 
-drop-held-requires : tie.Need-drop-held-requires
-drop-held-requires c κs = search rules
+drop_held-free-requires : tie.Need-drop_held-free-requires
+drop_held-free-requires c κs = search rules
 
-mul-put-at : tie.Need-overflow-mul-put-at
-mul-put-at c = search rules
+overflow_mul-number : tie.Need-overflow_mul-number
+overflow_mul-number c = search rules
 
-add-put-at : tie.Need-overflow-add-put-at
-add-put-at c = search rules
+overflow_add-number : tie.Need-overflow_add-number
+overflow_add-number c = search rules
 
-put-at-requires : tie.Need-put-at-requires
-put-at-requires c κs = search rules
+put_at-requires : tie.Need-put_at-requires
+put_at-requires c κs = search rules
 
-add-t21 : tie.Need-overflow-add-t21
-add-t21 c =
+overflow_add-result : tie.Need-overflow_add-result
+overflow_add-result c =
     let s = c.before.before.before.before.before.before.before.before.before.before.before.before in
-    let n = ap (λ (t : Tape). t.pass.entries) (c.before.before.before.before.before.before.before.before.before.drop-held.ensures []) in
+    let n = ap (λ (t : Tape). t.pass.entries) (c.before.before.before.before.before.before.before.before.before.drop_held-free.ensures []) in
     omega (arith, n, places_few s.args.plan s.args.pass, s.requires.4)
 
-same_length : tie.Need-same-length
-same_length c = search rules
+shape_of-report : tie.Need-shape_of-report
+shape_of-report c = search rules
 
 returns : tie.Need-returns
 returns c = λ out.
     let a = c.before.before.before.before.before.before.before.before.before.before.before.before.args in
-    rw c.before.before.put-at.ensures (tape_gap a.plan a.number a.index (tape a.pass out a.report.now) _ (c.before.before.before.before.before.before.before.before.before.drop-held.ensures out))
+    rw c.before.before.put_at.ensures (tape_gap a.plan a.number a.index (tape a.pass out a.report-1.now) _ (c.before.before.before.before.before.before.before.before.before.drop_held-free.ensures out))
 
 pub drop_group_spec : {M : Type 1} → statement M
 drop_group_spec =
     tie.close
-    (tie.spec drop-held-requires mul-put-at add-put-at put-at-requires add-t21 same_length returns)
+    (tie.spec drop_held-free-requires overflow_mul-number overflow_add-number put_at-requires overflow_add-result shape_of-report returns)

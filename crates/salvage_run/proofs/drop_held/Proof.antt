@@ -14,29 +14,29 @@ use Rattle.data_start.proofs.nothing.Reads as nothing-reads
 use Rattle.salvage_run.proofs.held_words.Reads as held-words-reads
 use Rattle.salvage_run.proofs.lose_last.Reads as lose-last-reads
 
-held-words-requires : tie.Need-held-words-requires
-held-words-requires c κs = search rules
+held_words-words-requires : tie.Need-held_words-words-requires
+held_words-words-requires c κs = search rules
 
-lose-last-requires : tie.Need-lose-last-requires
-lose-last-requires c κs =
+lose_last-entries-requires : tie.Need-lose_last-entries-requires
+lose_last-entries-requires c κs =
     let s = c.before.before.before.before.before in
-    (s.requires.0, s.requires.1, s.requires.3, omega (arith, c.before.held-words.ensures, held_few (held_of s.args.pass.held)), s.requires.4)
+    (s.requires.0, s.requires.1, s.requires.3, omega (arith, c.before.held_words-words.ensures, held_few (held_of s.args.pass.held)), s.requires.4)
 
 nothing-requires : tie.Need-nothing-requires
 nothing-requires c κs = search rules
 
-same_length : tie.Need-same-length
-same_length c = search rules
+shape_of-report : tie.Need-shape_of-report
+shape_of-report c = search rules
 
 returns : tie.Need-returns
 returns c = λ out.
     let s = c.before.before.before.before.before.before.before.before.before in
     let a = s.args in
-    let w = c.before.before.before.before.before.held-words.ensures in
-    tape_dropped a.plan a.pass out a.report.now c.nothing.ensures w c.before.before.before.lose-last.ensures.0
-    (c.before.before.before.lose-last.ensures.1 ∙ ap (λ (n : ℕ). put_all a.report.now a.pass.entries (places_of a.plan n a.pass.last)) w)
+    let w = c.before.before.before.before.before.held_words-words.ensures in
+    tape_dropped a.plan a.pass out a.report-1.now c.nothing.ensures w c.before.before.before.lose_last-entries.ensures.0
+    (c.before.before.before.lose_last-entries.ensures.1 ∙ ap (λ (n : ℕ). put_all a.report-1.now a.pass.entries (places_of a.plan n a.pass.last-1)) w)
 
 pub drop_held_spec : {M : Type 1} → statement M
 drop_held_spec =
     tie.close
-    (tie.spec held-words-requires lose-last-requires nothing-requires same_length returns)
+    (tie.spec held_words-words-requires lose_last-entries-requires nothing-requires shape_of-report returns)

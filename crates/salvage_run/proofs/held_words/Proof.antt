@@ -9,47 +9,47 @@ use Rattle.salvage_run.proofs.held_words.Reads as reads
 use Rattle.salvage_run.proofs.held_words.Lts as lts
 use Rattle.salvage_run.proofs.base_words.Reads as base-words-reads
 
-returns : tie.Need-returns
-returns c = nothing_held _ c.before.requires c.if1.true
+returns-then-awaits-eq0 : tie.Need-returns-then-awaits-eq0
+returns-then-awaits-eq0 c = nothing_held _ c.before.requires c.if-awaits-eq0.true
 
-base-words-requires : tie.Need-base-words-requires
-base-words-requires c κs = search rules
+base_words-requires : tie.Need-base_words-requires
+base_words-requires c κs = search rules
 
-base-words-requires-2 : tie.Need-base-words-requires-2
-base-words-requires-2 c κs = search rules
+base_words-requires-in-6 : tie.Need-base_words-requires-in-6
+base_words-requires-in-6 c κs = search rules
 
-add-result : tie.Need-overflow-add-result
-add-result c = omega (arith, c.base-words2.ensures.1)
+overflow_add-result : tie.Need-overflow_add-result
+overflow_add-result c = omega (arith, c.base_words-in-6.ensures.1)
 
-base-words-requires-3 : tie.Need-base-words-requires-3
-base-words-requires-3 c κs = search rules
+base_words-requires-in-5 : tie.Need-base_words-requires-in-5
+base_words-requires-in-5 c κs = search rules
 
-add-result-2 : tie.Need-overflow-add-result-2
-add-result-2 c = omega (arith, c.base-words3.ensures.1)
+overflow_add-result-in-5 : tie.Need-overflow_add-result-in-5
+overflow_add-result-in-5 c = omega (arith, c.base_words-in-5.ensures.1)
 
-returns-2 : tie.Need-returns-2
-returns-2 c = c.base_words.ensures.0 ∙ bare_held _ c.before.before.before.requires c.before.match.keys1
+returns-in-7 : tie.Need-returns-in-7
+returns-in-7 c = c.base_words.ensures.0 ∙ bare_held _ c.before.before.before.requires c.before.in_default.keys1
 
-returns-3 : tie.Need-returns-3
-returns-3 c = ap (λ (n : ℕ). n + 1) c.base-words2.ensures.0 ∙ high_held _ c.before.before.before.requires c.before.match.keys2
+returns-in-6 : tie.Need-returns-in-6
+returns-in-6 c = ap (λ (n : ℕ). n + 1) c.base_words-in-6.ensures.0 ∙ high_held _ c.before.before.before.requires c.before.in_default.keys2
 
-returns-4 : tie.Need-returns-4
-returns-4 c = ap (λ (n : ℕ). n + 2) c.base-words3.ensures.0 ∙ low_held _ c.before.before.before.requires c.before.match.keys3
+returns-in-5 : tie.Need-returns-in-5
+returns-in-5 c = ap (λ (n : ℕ). n + 2) c.base_words-in-5.ensures.0 ∙ low_held _ c.before.before.before.requires c.before.in_default.keys3
 
-returns-5 : tie.Need-returns-5
-returns-5 c = one_held _ c.before.before.requires c.before.if1.false c.match.rest.0.0.1 c.match.rest.0.1 c.match.rest.1
+returns-in_default : tie.Need-returns-in_default
+returns-in_default c = one_held _ c.before.before.requires c.before.if-awaits-eq0.false c.in_default.rest.0.0.1 c.in_default.rest.0.1 c.in_default.rest.1
 
 pub held_words_spec : {M : Type 1} → statement M
 held_words_spec =
     tie.close
     (tie.spec
-    returns
-    base-words-requires
-    base-words-requires-2
-    add-result
-    base-words-requires-3
-    add-result-2
-    returns-2
-    returns-3
-    returns-4
-    returns-5)
+    returns-then-awaits-eq0
+    base_words-requires
+    base_words-requires-in-6
+    overflow_add-result
+    base_words-requires-in-5
+    overflow_add-result-in-5
+    returns-in-7
+    returns-in-6
+    returns-in-5
+    returns-in_default)

@@ -10,41 +10,41 @@ use Rattle.data_word.proofs.finish.Reads as finish-reads
 use Rattle.salvage_run.proofs.drop_held.Reads as drop-held-reads
 use Rattle.salvage_run.proofs.put_items.Reads as put-items-reads
 
-finish-requires : tie.Need-finish-requires
-finish-requires c κs = search rules
+finish-step-requires : tie.Need-finish-step-requires
+finish-step-requires c κs = search rules
 
-drop-held-requires : tie.Need-drop-held-requires
-drop-held-requires c κs = search rules
+drop_held-requires : tie.Need-drop_held-requires
+drop_held-requires c κs = search rules
 
-same_length : tie.Need-same-length
-same_length c = search rules
+shape_of-report-then-step : tie.Need-shape_of-report-then-step
+shape_of-report-then-step c = search rules
+
+returns-then-step : tie.Need-returns-then-step
+returns-then-step c =
+    let s = c.before.before.before.before.before.before.before.before in
+    let a = s.args in
+    c.before.before.drop_held.ensures a.out-1.now ∙ let_dropped a.plan (tape a.pass a.out-1.now a.report-1.now) (c.before.before.before.before.before.finish-step.ensures 0) c.before.before.before.before.if-step.true
+
+put_items-requires : tie.Need-put_items-requires
+put_items-requires c κs = let s = c.before.before.before.before.before.before in (s.requires.5, freed_fits s.args.pass s.requires.2 (c.before.before.before.finish-step.ensures 0) c.before.before.if-step.false)
+
+shape_of-out : tie.Need-shape_of-out
+shape_of-out c = search rules
 
 returns : tie.Need-returns
 returns c =
-    let s = c.before.before.before.before.before.before.before.before in
-    let a = s.args in
-    c.before.before.drop-held.ensures a.out.now ∙ let_dropped a.plan (tape a.pass a.out.now a.report.now) (c.before.before.before.before.before.finish.ensures 0) c.before.before.before.before.if1.true
-
-put-items-requires : tie.Need-put-items-requires
-put-items-requires c κs = let s = c.before.before.before.before.before.before in (s.requires.5, freed_fits s.args.pass s.requires.2 (c.before.before.before.finish.ensures 0) c.before.before.if1.false)
-
-same-length-2 : tie.Need-same-length-2
-same-length-2 c = search rules
-
-returns-2 : tie.Need-returns-2
-returns-2 c =
     let s = c.before.before.before.before.before.before.before.before.before in
     let a = s.args in
-    c.before.before.put-items.ensures a.report.now ∙ let_put a.plan (tape a.pass a.out.now a.report.now) (c.before.before.before.before.before.before.finish.ensures 0) c.before.before.before.before.before.if1.false
+    c.before.before.put_items.ensures a.report-1.now ∙ let_put a.plan (tape a.pass a.out-1.now a.report-1.now) (c.before.before.before.before.before.before.finish-step.ensures 0) c.before.before.before.before.before.if-step.false
 
 pub let_go_spec : {M : Type 1} → statement M
 let_go_spec =
     tie.close
     (tie.spec
-    finish-requires
-    drop-held-requires
-    same_length
-    returns
-    put-items-requires
-    same-length-2
-    returns-2)
+    finish-step-requires
+    drop_held-requires
+    shape_of-report-then-step
+    returns-then-step
+    put_items-requires
+    shape_of-out
+    returns)

@@ -22,83 +22,83 @@ use Rattle.salvage_run.proofs.lose_last.Lts as lts
 use Rattle.capture_parts.proofs.stored_place.Reads as stored-place-reads
 use Rattle.salvage_run.proofs.put_at.Reads as put-at-reads
 
-abbrev invariant-loop : tie.invariant-loop
-invariant-loop words plan count at report₀ numbers index₀ entries₀ report index entries =
+abbrev invariant-loop-index : tie.invariant-loop-index
+invariant-loop-index words plan count at report₀ numbers index₀ entries₀ report index entries =
     (index ≤ 4) × (at + index ≡ entries + (4 - words)) × (length report ≡ length report₀)
     × (put_all report₀ at (map (stored_at plan) (drop (4 - words) numbers)) ≡ put_all report entries (map (stored_at plan) (drop index numbers)))
 
-abbrev decreases-loop : tie.decreases-loop
-decreases-loop words plan count at report₀ numbers index₀ entries₀ report index entries = 4 - index
+abbrev decreases-loop-index : tie.decreases-loop-index
+decreases-loop-index words plan count at report₀ numbers index₀ entries₀ report index entries = 4 - index
 
-sub-index : tie.Need-overflow-sub-index invariant-loop decreases-loop
-sub-index c = search rules
+overflow_sub-index : tie.Need-overflow_sub-index invariant-loop-index decreases-loop-index
+overflow_sub-index c = search rules
 
-loop-holds : tie.Need-loop-init invariant-loop decreases-loop
-loop-holds c = search rules
+loop-index-init : tie.Need-loop-index-init invariant-loop-index decreases-loop-index
+loop-index-init c = search rules
 
-mul-stored-place : tie.Need-overflow-mul-stored-place invariant-loop decreases-loop
-mul-stored-place c = search rules
+offset_bounds-numbers-index : tie.Need-offset_bounds-numbers-index invariant-loop-index decreases-loop-index
+offset_bounds-numbers-index c = search rules
 
-array-read-stored-place : tie.Need-array-read-stored-place invariant-loop decreases-loop
-array-read-stored-place c = search rules
+bounds-numbers-index : tie.Need-bounds-numbers-index invariant-loop-index decreases-loop-index
+bounds-numbers-index c = search rules
 
-stored-place-requires : tie.Need-stored-place-requires invariant-loop decreases-loop
-stored-place-requires c κs =
+stored_place-requires : tie.Need-stored_place-requires invariant-loop-index decreases-loop-index
+stored_place-requires c κs =
     let s = c.before.before.before.before in
-    (s.requires.0, s.requires.1, low_at (2 ^ 32) s.args.last s.requires.2 c.before.before.loop.index (omega arith))
+    (s.requires.0, s.requires.1, low_at (2 ^ 32) s.args.last s.requires.2 c.before.before.loop-index.index (omega arith))
 
-put-at-requires : tie.Need-put-at-requires invariant-loop decreases-loop
-put-at-requires c κs = search rules
+put_at-requires : tie.Need-put_at-requires invariant-loop-index decreases-loop-index
+put_at-requires c κs = search rules
 
-add-entries : tie.Need-overflow-add-entries invariant-loop decreases-loop
-add-entries c = search rules
+overflow_add-entries : tie.Need-overflow_add-entries invariant-loop-index decreases-loop-index
+overflow_add-entries c = search rules
 
-add-index : tie.Need-overflow-add-index invariant-loop decreases-loop
-add-index c = search rules
+overflow_add-index : tie.Need-overflow_add-index invariant-loop-index decreases-loop-index
+overflow_add-index c = search rules
 
-loop-less : tie.Need-loop-smaller invariant-loop decreases-loop
-loop-less c = search rules
+loop-index-smaller : tie.Need-loop-index-smaller invariant-loop-index decreases-loop-index
+loop-index-smaller c = search rules
 
-loop-again : tie.Need-loop-preserved invariant-loop decreases-loop
-loop-again c =
+loop-index-preserved : tie.Need-loop-index-preserved invariant-loop-index decreases-loop-index
+loop-index-preserved c =
     let l = c.before.before.before.before.before.before in
     let s = l.before.before in
     let f : ℕ → ℕ = stored_at s.args.plan in
-    let e : c.before.before.put-at.new.0 ≡ put_at l.loop.report l.loop.entries (f (get_or (numbers_of s.args.last) l.loop.index 0)) =
-    c.before.before.put-at.ensures ∙ ap (put_at l.loop.report l.loop.entries) c.before.before.before.stored-place.ensures in (
+    let e : c.before.before.put_at.new.0 ≡ put_at l.loop-index.report-1 l.loop-index.entries (f (get_or (numbers_of s.args.last) l.loop-index.index 0)) =
+    c.before.before.put_at.ensures ∙ ap (put_at l.loop-index.report-1 l.loop-index.entries) c.before.before.before.stored_place.ensures in (
       omega arith,
-      omega (arith, l.loop.invariant.1),
-      c.before.report.given ∙ l.loop.invariant.2,
-      l.loop.invariant.3 ∙ all_next f (numbers_of s.args.last) l.loop.report l.loop.entries l.loop.index c.before.before.before.before.before.loop-test.true
-          ∙ ap (λ (r : List ℕ). put_all r (l.loop.entries + 1) (map f (drop (l.loop.index + 1) (numbers_of s.args.last)))) (sym e),
+      omega (arith, l.loop-index.invariant.1),
+      c.before.report-1.given ∙ l.loop-index.invariant.2,
+      l.loop-index.invariant.3 ∙ all_next f (numbers_of s.args.last) l.loop-index.report-1 l.loop-index.entries l.loop-index.index c.before.before.before.before.before.loop-index-test.true
+          ∙ ap (λ (r : List ℕ). put_all r (l.loop-index.entries + 1) (map f (drop (l.loop-index.index + 1) (numbers_of s.args.last)))) (sym e),
     )
 
-same_length : tie.Need-same-length invariant-loop decreases-loop
-same_length c = search rules
+shape_of-report : tie.Need-shape_of-report invariant-loop-index decreases-loop-index
+shape_of-report c = search rules
 
-returns : tie.Need-returns invariant-loop decreases-loop
+returns : tie.Need-returns invariant-loop-index decreases-loop-index
 returns c =
     let l = c.before in
     let s = l.before.before in (
-      omega (arith, l.loop.invariant.1, c.loop-test.false, l.loop.invariant.0, s.requires.3),
-      sym (l.loop.invariant.3 ∙ all_last (stored_at s.args.plan) (numbers_of s.args.last) l.loop.report l.loop.entries l.loop.index c.loop-test.false),
+      omega (arith, l.loop-index.invariant.1, c.loop-index-test.false, l.loop-index.invariant.0, s.requires.3),
+      sym (l.loop-index.invariant.3 ∙ all_last (stored_at s.args.plan) (numbers_of s.args.last) l.loop-index.report-1 l.loop-index.entries l.loop-index.index c.loop-index-test.false),
     )
 
 pub lose_last_spec : {M : Type 1} → statement M
 lose_last_spec =
     tie.close
     (tie.spec
-    invariant-loop
-    decreases-loop
-    sub-index
-    loop-holds
-    mul-stored-place
-    array-read-stored-place
-    stored-place-requires
-    put-at-requires
-    add-entries
-    add-index
-    loop-less
-    loop-again
-    same_length
+    invariant-loop-index
+    decreases-loop-index
+    overflow_sub-index
+    loop-index-init
+    offset_bounds-numbers-index
+    bounds-numbers-index
+    stored_place-requires
+    put_at-requires
+    overflow_add-entries
+    overflow_add-index
+    loop-index-smaller
+    loop-index-preserved
+    shape_of-report
     returns)

@@ -14,124 +14,124 @@ use Rattle.salvage_run.proofs.on_row.Lts as lts
 use Rattle.salvage_run.proofs.on_word.Reads as on-word-reads
 use Rattle.word.proofs.is_fill.Reads as is-fill-reads
 
-abbrev invariant-loop : tie.invariant-loop
-invariant-loop kinds plan count row from out₀ report₀ pass₀ i₀ out report pass i =
+abbrev invariant-loop-i : tie.invariant-loop-i
+invariant-loop-i kinds plan count row from out₀ report₀ pass₀ i₀ out report pass i =
     (i ≤ length row) × (length out ≡ length out₀) × (length report ≡ length report₀) × Sound (from + i) pass
     × (on_row kinds plan from row (tape pass₀ out₀ report₀) ≡ on_row kinds plan (from + i) (drop i row) (tape pass out report))
 
-abbrev decreases-loop : tie.decreases-loop
-decreases-loop kinds plan count row from out₀ report₀ pass₀ i₀ out report pass i = length row - i
+abbrev decreases-loop-i : tie.decreases-loop-i
+decreases-loop-i kinds plan count row from out₀ report₀ pass₀ i₀ out report pass i = length row - i
 
-abbrev before : tie.Start invariant-loop decreases-loop → Tape
-before s = tape s.args.pass s.args.out.now s.args.report.now
+abbrev before : tie.Start invariant-loop-i decreases-loop-i → Tape
+before s = tape s.args.pass s.args.out-1.now s.args.report-1.now
 
-abbrev now : tie.At-loop invariant-loop decreases-loop → Tape
-now l = tape l.loop.pass l.loop.out l.loop.report
+abbrev now : tie.At-loop-i invariant-loop-i decreases-loop-i → Tape
+now l = tape l.loop-i.pass l.loop-i.out-1 l.loop-i.report-1
 
 further : (n i : ℕ) → n + i + 1 ≡ n + (i + 1)
 further n i = omega arith
 
-loop-holds : tie.Need-loop-init invariant-loop decreases-loop
-loop-holds c =
+loop-i-init : tie.Need-loop-i-init invariant-loop-i decreases-loop-i
+loop-i-init c =
     let s = c.before.before.before in
     let z : s.args.from ≡ s.args.from + 0 = omega arith in
     (omega arith, refl, refl, subst (λ (n : ℕ). Sound n s.args.pass) z s.requires.2, row_none s.args.kinds s.args.plan s.args.from s.args.row.now (before s))
 
-mul-word : tie.Need-overflow-mul-word invariant-loop decreases-loop
-mul-word c = search rules
+offset_bounds-row-i : tie.Need-offset_bounds-row-i invariant-loop-i decreases-loop-i
+offset_bounds-row-i c = search rules
 
-shared-slice-read-word : tie.Need-shared-slice-read-word invariant-loop decreases-loop
-shared-slice-read-word c = search rules
+bounds-row-i : tie.Need-bounds-row-i invariant-loop-i decreases-loop-i
+bounds-row-i c = search rules
 
-is-fill-requires : tie.Need-is-fill-requires invariant-loop decreases-loop
-is-fill-requires c κs = search rules
+is_fill-requires : tie.Need-is_fill-requires invariant-loop-i decreases-loop-i
+is_fill-requires c κs = search rules
 
-add-i : tie.Need-overflow-add-i invariant-loop decreases-loop
-add-i c = search rules
+overflow_add-i : tie.Need-overflow_add-i invariant-loop-i decreases-loop-i
+overflow_add-i c = search rules
 
-loop-less : tie.Need-loop-smaller invariant-loop decreases-loop
-loop-less c = search rules
+loop-i-smaller-then-is_fill : tie.Need-loop-i-smaller-then-is_fill invariant-loop-i decreases-loop-i
+loop-i-smaller-then-is_fill c = search rules
 
-loop-again : tie.Need-loop-preserved invariant-loop decreases-loop
-loop-again c =
+loop-i-preserved-then-is_fill : tie.Need-loop-i-preserved-then-is_fill invariant-loop-i decreases-loop-i
+loop-i-preserved-then-is_fill c =
     let l = c.before.before.before.before in
     let s = c.before.before.before.before.before.before.before.before in
     let a = s.args in
-    let h = c.before.before.before.loop-test.true in (
+    let h = c.before.before.before.loop-i-test.true in (
       omega (arith, h),
-      l.loop.invariant.1,
-      l.loop.invariant.2,
-      subst (λ (n : ℕ). Sound n l.loop.pass) (further a.from l.loop.i) (fill_sound (a.from + l.loop.i) l.loop.pass l.loop.invariant.3),
-      l.loop.invariant.4 ∙ row_fill a.kinds a.plan a.from a.row.now l.loop.i (now l) h (sym c.before.is-fill.ensures ∙ c.if1.true),
+      l.loop-i.invariant.1,
+      l.loop-i.invariant.2,
+      subst (λ (n : ℕ). Sound n l.loop-i.pass) (further a.from l.loop-i.i) (fill_sound (a.from + l.loop-i.i) l.loop-i.pass l.loop-i.invariant.3),
+      l.loop-i.invariant.4 ∙ row_fill a.kinds a.plan a.from a.row.now l.loop-i.i (now l) h (sym c.before.is_fill.ensures ∙ c.if-is_fill.true),
     )
 
-add-on-word : tie.Need-overflow-add-on-word invariant-loop decreases-loop
-add-on-word c = search rules
+overflow_add-from : tie.Need-overflow_add-from invariant-loop-i decreases-loop-i
+overflow_add-from c = search rules
 
-on-word-requires : tie.Need-on-word-requires invariant-loop decreases-loop
-on-word-requires c κs =
+on_word-pass-requires : tie.Need-on_word-pass-requires invariant-loop-i decreases-loop-i
+on_word-pass-requires c κs =
     let l = c.before.before.before.before.before.before in
     let s = c.before.before.before.before.before.before.before.before.before.before in
-    let h = c.before.before.before.before.before.loop-test.true in
-    (s.requires.0, s.requires.1, l.loop.invariant.3, omega (arith, h, s.requires.4), s.requires.3 l.loop.i h)
+    let h = c.before.before.before.before.before.loop-i-test.true in
+    (s.requires.0, s.requires.1, l.loop-i.invariant.3, omega (arith, h, s.requires.4), s.requires.3 l.loop-i.i h)
 
-add-i-2 : tie.Need-overflow-add-i-2 invariant-loop decreases-loop
-add-i-2 c = search rules
+overflow_add-i-in-loop-i : tie.Need-overflow_add-i-in-loop-i invariant-loop-i decreases-loop-i
+overflow_add-i-in-loop-i c = search rules
 
-loop-less-2 : tie.Need-loop-smaller-2 invariant-loop decreases-loop
-loop-less-2 c = search rules
+loop-i-smaller : tie.Need-loop-i-smaller invariant-loop-i decreases-loop-i
+loop-i-smaller c = search rules
 
-loop-again-2 : tie.Need-loop-preserved-2 invariant-loop decreases-loop
-loop-again-2 c =
+loop-i-preserved : tie.Need-loop-i-preserved invariant-loop-i decreases-loop-i
+loop-i-preserved c =
     let l = c.before.before.before.before.before.before.before.before.before.before.before in
     let s = c.before.before.before.before.before.before.before.before.before.before.before.before.before.before.before in
     let a = s.args in
-    let h = c.before.before.before.before.before.before.before.before.before.before.loop-test.true in
-    let w = c.before.before.before.before.on_word.ensures in (
+    let h = c.before.before.before.before.before.before.before.before.before.before.loop-i-test.true in
+    let w = c.before.before.before.before.on_word-pass.ensures in (
       omega (arith, h),
-      c.before.before.before.out.given ∙ l.loop.invariant.1,
-      c.before.report.given ∙ l.loop.invariant.2,
-      subst (λ (n : ℕ). Sound n c.before.before.before.before.on_word.result) (further a.from l.loop.i)
-          (subst (λ (t : Tape). Sound (a.from + l.loop.i + 1) t.pass) (sym w)
-          (word_sound a.plan a.kinds (a.from + l.loop.i) (get_or a.row.now l.loop.i 0) (s.requires.3 l.loop.i h) (now l) l.loop.invariant.3)),
-      l.loop.invariant.4 ∙ row_word a.kinds a.plan a.from a.row.now l.loop.i (now l) h (sym c.before.before.before.before.before.before.before.before.is-fill.ensures ∙ c.before.before.before.before.before.before.before.if1.false)
-          ∙ ap (on_row a.kinds a.plan (a.from + (l.loop.i + 1)) (drop (l.loop.i + 1) a.row.now)) (sym w),
+      c.before.before.before.out-1.given ∙ l.loop-i.invariant.1,
+      c.before.report-1.given ∙ l.loop-i.invariant.2,
+      subst (λ (n : ℕ). Sound n c.before.before.before.before.on_word-pass.result) (further a.from l.loop-i.i)
+          (subst (λ (t : Tape). Sound (a.from + l.loop-i.i + 1) t.pass) (sym w)
+          (word_sound a.plan a.kinds (a.from + l.loop-i.i) (get_or a.row.now l.loop-i.i 0) (s.requires.3 l.loop-i.i h) (now l) l.loop-i.invariant.3)),
+      l.loop-i.invariant.4 ∙ row_word a.kinds a.plan a.from a.row.now l.loop-i.i (now l) h (sym c.before.before.before.before.before.before.before.before.is_fill.ensures ∙ c.before.before.before.before.before.before.before.if-is_fill.false)
+          ∙ ap (on_row a.kinds a.plan (a.from + (l.loop-i.i + 1)) (drop (l.loop-i.i + 1) a.row.now)) (sym w),
     )
 
-same_length : tie.Need-same-length invariant-loop decreases-loop
-same_length c = c.before.loop.invariant.1
+shape_of-out : tie.Need-shape_of-out invariant-loop-i decreases-loop-i
+shape_of-out c = c.before.loop-i.invariant.1
 
-same-length-2 : tie.Need-same-length-2 invariant-loop decreases-loop
-same-length-2 c = c.before.loop.invariant.2
+shape_of-report : tie.Need-shape_of-report invariant-loop-i decreases-loop-i
+shape_of-report c = c.before.loop-i.invariant.2
 
-returns : tie.Need-returns invariant-loop decreases-loop
+returns : tie.Need-returns invariant-loop-i decreases-loop-i
 returns c =
     let l = c.before in
     let s = c.before.before.before.before.before in
     let a = s.args in
-    let e : a.from + l.loop.i ≡ a.from + length a.row.now = omega (arith, c.loop-test.false, l.loop.invariant.0) in (
-      sym (l.loop.invariant.4 ∙ row_all a.kinds a.plan a.from a.row.now l.loop.i (now l) c.loop-test.false),
-      subst (λ (n : ℕ). Sound n l.loop.pass) e l.loop.invariant.3,
+    let e : a.from + l.loop-i.i ≡ a.from + length a.row.now = omega (arith, c.loop-i-test.false, l.loop-i.invariant.0) in (
+      sym (l.loop-i.invariant.4 ∙ row_all a.kinds a.plan a.from a.row.now l.loop-i.i (now l) c.loop-i-test.false),
+      subst (λ (n : ℕ). Sound n l.loop-i.pass) e l.loop-i.invariant.3,
     )
 
 pub on_row_spec : {M : Type 1} → statement M
 on_row_spec =
     tie.close
     (tie.spec
-    invariant-loop
-    decreases-loop
-    loop-holds
-    mul-word
-    shared-slice-read-word
-    is-fill-requires
-    add-i
-    loop-less
-    loop-again
-    add-on-word
-    on-word-requires
-    add-i-2
-    loop-less-2
-    loop-again-2
-    same_length
-    same-length-2
+    invariant-loop-i
+    decreases-loop-i
+    loop-i-init
+    offset_bounds-row-i
+    bounds-row-i
+    is_fill-requires
+    overflow_add-i
+    loop-i-smaller-then-is_fill
+    loop-i-preserved-then-is_fill
+    overflow_add-from
+    on_word-pass-requires
+    overflow_add-i-in-loop-i
+    loop-i-smaller
+    loop-i-preserved
+    shape_of-out
+    shape_of-report
     returns)

@@ -21,48 +21,48 @@ use Rattle.word.proofs.information_of.Reads as information-of-reads
 use Rattle.word.proofs.label_of.Reads as label-of-reads
 
 abbrev before : tie.Start → Tape
-before s = tape s.args.pass s.args.out.now s.args.report.now
+before s = tape s.args.pass s.args.out-1.now s.args.report-1.now
 
 -- the word was fed
-abbrev start : tie.After-feed → tie.Start
+abbrev start : tie.After-feed-step → tie.Start
 start c = c.before.before.before.before.before.before.before
 
-fed_step : (c : tie.After-feed)
-    → let a = (start c).args in c.feed.result ≡ word_step a.kinds a.plan.parity (held_of a.pass.held) a.word
+fed_step : (c : tie.After-feed-step)
+    → let a = (start c).args in c.feed-step.result ≡ word_step a.kinds a.plan.parity (held_of a.pass.held) a.word
 fed_step c =
     let a = (start c).args in
     word_step_lem a.kinds a.plan.parity (held_of a.pass.held) a.word
-    c.before.before.before.bus-of.ensures c.before.before.label_of.ensures c.before.information-of.ensures c.feed.ensures
+    c.before.before.before.bus_of.ensures c.before.before.label_of.ensures c.before.information_of.ensures c.feed-step.ensures
 
 -- it is bad, and what is held is let go
-abbrev bad : tie.After-let-go-arg2 → tie.Then1
+abbrev bad : tie.After-let_go-arg-then-step-1 → tie.Then-step
 bad c = c.before.before
 
-abbrev gone : tie.After-try-start-arg2 → tie.After-let-go
+abbrev gone : tie.After-try_start-arg-then-step-1 → tie.After-let_go-free
 gone c = c.before.before.before.before.before.before
 
-bus-of-requires : tie.Need-bus-of-requires
-bus-of-requires c κs = search rules
+bus_of-requires : tie.Need-bus_of-requires
+bus_of-requires c κs = search rules
 
-label-of-requires : tie.Need-label-of-requires
-label-of-requires c κs = search rules
+label_of-requires : tie.Need-label_of-requires
+label_of-requires c κs = search rules
 
-information-of-requires : tie.Need-information-of-requires
-information-of-requires c κs = search rules
+information_of-requires : tie.Need-information_of-requires
+information_of-requires c κs = search rules
 
-feed-requires : tie.Need-feed-requires
-feed-requires c κs =
+feed-step-requires : tie.Need-feed-step-requires
+feed-step-requires c κs =
     let s = c.before.before.before.before.before.before in (
       (
-        rw c.before.before.bus-of.ensures (bus_low _ _ s.requires.4),
+        rw c.before.before.bus_of.ensures (bus_low _ _ s.requires.4),
         rw c.before.label_of.ensures (label_low _),
-        rw c.information-of.ensures (info_low _),
+        rw c.information_of.ensures (info_low _),
       ),
       s.requires.2.sane,
     )
 
-let-go-requires : tie.Need-let-go-requires
-let-go-requires c κs =
+let_go-free-requires : tie.Need-let_go-free-requires
+let_go-free-requires c κs =
     let s = start (bad c).before in
     let x = s.pre.2 in (
       s.pre.0,
@@ -73,12 +73,12 @@ let-go-requires c κs =
       omega (arith, s.pre.3, x.few_bits),
     )
 
-try-start-requires : tie.Need-try-start-requires
-try-start-requires c κs =
+try_start-requires : tie.Need-try_start-requires
+try_start-requires c κs =
     let l = gone c in
     let s = start (bad l.before).before in
     let x = s.pre.2 in
-    let g = gone_few s.args.plan (before s) x.sane l.let_go.ensures in (
+    let g = gone_few s.args.plan (before s) x.sane l.let_go-free.ensures in (
       s.pre.0,
       s.pre.1,
       omega (arith, s.pre.3),
@@ -87,61 +87,61 @@ try-start-requires c κs =
       omega (arith, s.pre.3, x.few_bits, g.few_bits),
     )
 
-same_length : tie.Need-same-length
-same_length c = search rules
+shape_of-out-then-step : tie.Need-shape_of-out-then-step
+shape_of-out-then-step c = search rules
 
-same-length-2 : tie.Need-same-length-2
-same-length-2 c = search rules
+shape_of-report-then-step : tie.Need-shape_of-report-then-step
+shape_of-report-then-step c = search rules
 
-returns : tie.Need-returns
-returns c =
+returns-then-step : tie.Need-returns-then-step
+returns-then-step c =
     let t = c.before.before.before.before in
     let l = gone t.before in
     let b = bad l.before in
     let s = start b.before in
     let a = s.args in
-    t.try-start.ensures ∙ ap (try_start a.kinds a.plan a.number a.word) l.let_go.ensures
-    ∙ word-broken a.plan (before s) a.kinds a.number a.word (fed_step b.before) b.if1.taken
+    t.try_start.ensures ∙ ap (try_start a.kinds a.plan a.number a.word) l.let_go-free.ensures
+    ∙ word-broken a.plan (before s) a.kinds a.number a.word (fed_step b.before) b.if-step.taken
 
 next-requires : tie.Need-next-requires
 next-requires c κs = search rules
 
-put-items-requires : tie.Need-put-items-requires
-put-items-requires c κs =
+put_items-requires : tie.Need-put_items-requires
+put_items-requires c κs =
     let e = c.before.before in
     let s = start e.before in
     let x = s.pre.2 in (
       omega (arith, s.pre.3, x.few_bits),
-      word_fits s.args.kinds s.args.plan.parity s.args.pass.held s.args.word s.pre.4 x.sane (fed_step e.before) e.if1.false,
+      word_fits s.args.kinds s.args.plan.parity s.args.pass.held s.args.word s.pre.4 x.sane (fed_step e.before) e.if-step.false,
     )
 
-same-length-3 : tie.Need-same-length-3
-same-length-3 c = search rules
+shape_of-out : tie.Need-shape_of-out
+shape_of-out c = search rules
 
-returns-2 : tie.Need-returns-2
-returns-2 c =
+returns : tie.Need-returns
+returns c =
     let p = c.before.before in
     let n = p.before.before in
     let e = n.before in
     let s = start e.before in
     let a = s.args in
-    p.put-items.ensures a.report.now
-    ∙ word-taken a.plan (before s) a.kinds a.number a.word (fed_step e.before) e.if1.false n.next.ensures
+    p.put_items.ensures a.report-1.now
+    ∙ word-taken a.plan (before s) a.kinds a.number a.word (fed_step e.before) e.if-step.false n.next.ensures
 
 pub on_word_spec : {M : Type 1} → statement M
 on_word_spec =
     tie.close
     (tie.spec
-    bus-of-requires
-    label-of-requires
-    information-of-requires
-    feed-requires
-    let-go-requires
-    try-start-requires
-    same_length
-    same-length-2
-    returns
+    bus_of-requires
+    label_of-requires
+    information_of-requires
+    feed-step-requires
+    let_go-free-requires
+    try_start-requires
+    shape_of-out-then-step
+    shape_of-report-then-step
+    returns-then-step
     next-requires
-    put-items-requires
-    same-length-3
-    returns-2)
+    put_items-requires
+    shape_of-out
+    returns)

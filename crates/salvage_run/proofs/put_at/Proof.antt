@@ -5,20 +5,20 @@ use Rattle.salvage_run.proofs.put_at.Tie as tie
 use Rattle.salvage_run.proofs.put_at.Reads as reads
 use Rattle.salvage_run.proofs.put_at.Lts as lts
 
-mul-row : tie.Need-overflow-mul-row
-mul-row c = search rules
+offset_bounds-row-at : tie.Need-offset_bounds-row-at
+offset_bounds-row-at c = search rules
 
-slice-write-row : tie.Need-slice-write-row
-slice-write-row c = search rules
+bounds-row-at : tie.Need-bounds-row-at
+bounds-row-at c = search rules
 
-same_length : tie.Need-same-length
-same_length c = search rules
+shape_of-row : tie.Need-shape_of-row
+shape_of-row c = search rules
 
-returns : tie.Need-returns
-returns c = put_in c.before.args.row.now c.before.args.at c.before.args.number c.if1.true
+returns-then-at-row : tie.Need-returns-then-at-row
+returns-then-at-row c = put_in c.before.args.row.now c.before.args.at c.before.args.number c.if-at-row.true
 
-returns-2 : tie.Need-returns-2
-returns-2 c = put_out c.before.args.row.now c.before.args.at c.before.args.number c.if1.false
+returns-else-at-row : tie.Need-returns-else-at-row
+returns-else-at-row c = put_out c.before.args.row.now c.before.args.at c.before.args.number c.if-at-row.false
 
 pub put_at_spec : {M : Type 1} → statement M
-put_at_spec = tie.close (tie.spec mul-row slice-write-row same_length returns returns-2)
+put_at_spec = tie.close (tie.spec offset_bounds-row-at bounds-row-at shape_of-row returns-then-at-row returns-else-at-row)

@@ -6,14 +6,14 @@ use Rattle.salvage_run.proofs.put_items.Reads as reads
 use Rattle.salvage_run.proofs.put_items.Lts as lts
 use Rattle.data_put.proofs.put_step.Reads as put-step-reads
 
-put-step-requires : tie.Need-put-step-requires
-put-step-requires c κs = search rules
+put_step-pen-requires : tie.Need-put_step-pen-requires
+put_step-pen-requires c κs = search rules
 
-same_length : tie.Need-same-length
-same_length c = search rules
+shape_of-out : tie.Need-shape_of-out
+shape_of-out c = search rules
 
 returns : tie.Need-returns
-returns c = λ report. rw (c.before.before.put_step.ensures.0, c.before.before.put_step.ensures.1) refl
+returns c = λ report. rw (c.before.before.put_step-pen.ensures.0, c.before.before.put_step-pen.ensures.1) refl
 
 pub put_items_spec : {M : Type 1} → statement M
-put_items_spec = tie.close (tie.spec put-step-requires same_length returns)
+put_items_spec = tie.close (tie.spec put_step-pen-requires shape_of-out returns)

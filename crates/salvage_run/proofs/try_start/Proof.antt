@@ -20,104 +20,104 @@ use Rattle.word.proofs.information_of.Reads as information-of-reads
 use Rattle.word.proofs.label_of.Reads as label-of-reads
 
 abbrev before : tie.Start → Tape
-before s = tape s.args.pass s.args.out.now s.args.report.now
+before s = tape s.args.pass s.args.out-1.now s.args.report-1.now
 
 -- the word was fed
-abbrev start : tie.After-feed → tie.Start
+abbrev start : tie.After-feed-step → tie.Start
 start c = c.before.before.before.before.before.before.before.before
 
-fed_step : (c : tie.After-feed) → let a = (start c).args in c.feed.result ≡ word_step a.kinds a.plan.parity Nothing a.word
+fed_step : (c : tie.After-feed-step) → let a = (start c).args in c.feed-step.result ≡ word_step a.kinds a.plan.parity Nothing a.word
 fed_step c =
     let a = (start c).args in
     let n = c.before.before.before.before.nothing in
     start_step a.kinds a.plan.parity n.result a.word n.ensures
-    c.before.before.before.bus-of.ensures c.before.before.label_of.ensures c.before.information-of.ensures c.feed.ensures
+    c.before.before.before.bus_of.ensures c.before.before.label_of.ensures c.before.information_of.ensures c.feed-step.ensures
 
 nothing-requires : tie.Need-nothing-requires
 nothing-requires c κs = search rules
 
-bus-of-requires : tie.Need-bus-of-requires
-bus-of-requires c κs = search rules
+bus_of-requires : tie.Need-bus_of-requires
+bus_of-requires c κs = search rules
 
-label-of-requires : tie.Need-label-of-requires
-label-of-requires c κs = search rules
+label_of-requires : tie.Need-label_of-requires
+label_of-requires c κs = search rules
 
-information-of-requires : tie.Need-information-of-requires
-information-of-requires c κs = search rules
+information_of-requires : tie.Need-information_of-requires
+information_of-requires c κs = search rules
 
-feed-requires : tie.Need-feed-requires
-feed-requires c κs =
+feed-step-requires : tie.Need-feed-step-requires
+feed-step-requires c κs =
     let s = c.before.before.before.before.before.before.before in (
       (
-        rw c.before.before.bus-of.ensures (bus_low _ _ s.requires.3),
+        rw c.before.before.bus_of.ensures (bus_low _ _ s.requires.3),
         rw c.before.label_of.ensures (label_low _),
-        rw c.information-of.ensures (info_low _),
+        rw c.information_of.ensures (info_low _),
       ),
       start_sane _ c.before.before.before.nothing.ensures,
     )
 
-stored-place-requires : tie.Need-stored-place-requires
-stored-place-requires c κs = search rules
+stored_place-requires : tie.Need-stored_place-requires
+stored_place-requires c κs = search rules
 
-put-at-requires : tie.Need-put-at-requires
-put-at-requires c κs = search rules
+put_at-requires : tie.Need-put_at-requires
+put_at-requires c κs = search rules
 
-nothing-requires-2 : tie.Need-nothing-requires-2
-nothing-requires-2 c κs = search rules
+nothing-requires-then-step : tie.Need-nothing-requires-then-step
+nothing-requires-then-step c κs = search rules
 
-add-t23 : tie.Need-overflow-add-t23
-add-t23 c = search rules
+overflow_add-result : tie.Need-overflow_add-result
+overflow_add-result c = search rules
 
-same_length : tie.Need-same-length
-same_length c = search rules
+shape_of-report-then-step : tie.Need-shape_of-report-then-step
+shape_of-report-then-step c = search rules
 
-returns : tie.Need-returns
-returns c =
+returns-then-step : tie.Need-returns-then-step
+returns-then-step c =
     let p = c.before.before.before in
     let t = p.before.before.before.before in
     let s = start t.before in
     let a = s.args in
-    tape_lost a.plan a.pass a.out.now a.report.now a.number c.nothing2.ensures p.before.stored-place.ensures p.put-at.ensures
-    ∙ start-lost a.plan (before s) a.kinds a.number a.word (fed_step t.before) t.if1.true
+    tape_lost a.plan a.pass a.out-1.now a.report-1.now a.number c.nothing-then-step.ensures p.before.stored_place.ensures p.put_at.ensures
+    ∙ start-lost a.plan (before s) a.kinds a.number a.word (fed_step t.before) t.if-step.true
 
 next-requires : tie.Need-next-requires
 next-requires c κs = search rules
 
-put-items-requires : tie.Need-put-items-requires
-put-items-requires c κs =
+put_items-requires : tie.Need-put_items-requires
+put_items-requires c κs =
     let e = c.before.before in
     let s = start e.before in
-    (s.pre.5, start_fits s.args.kinds s.args.plan.parity s.args.word s.pre.3 (fed_step e.before) e.if1.false)
+    (s.pre.5, start_fits s.args.kinds s.args.plan.parity s.args.word s.pre.3 (fed_step e.before) e.if-step.false)
 
-same-length-2 : tie.Need-same-length-2
-same-length-2 c = search rules
+shape_of-out : tie.Need-shape_of-out
+shape_of-out c = search rules
 
-returns-2 : tie.Need-returns-2
-returns-2 c =
+returns : tie.Need-returns
+returns c =
     let p = c.before.before in
     let n = p.before.before in
     let e = n.before in
     let s = start e.before in
     let a = s.args in
-    p.put-items.ensures a.report.now
-    ∙ start-taken a.plan (before s) a.kinds a.number a.word (fed_step e.before) e.if1.false n.next.ensures
+    p.put_items.ensures a.report-1.now
+    ∙ start-taken a.plan (before s) a.kinds a.number a.word (fed_step e.before) e.if-step.false n.next.ensures
 
 pub try_start_spec : {M : Type 1} → statement M
 try_start_spec =
     tie.close
     (tie.spec
     nothing-requires
-    bus-of-requires
-    label-of-requires
-    information-of-requires
-    feed-requires
-    stored-place-requires
-    put-at-requires
-    nothing-requires-2
-    add-t23
-    same_length
-    returns
+    bus_of-requires
+    label_of-requires
+    information_of-requires
+    feed-step-requires
+    stored_place-requires
+    put_at-requires
+    nothing-requires-then-step
+    overflow_add-result
+    shape_of-report-then-step
+    returns-then-step
     next-requires
-    put-items-requires
-    same-length-2
-    returns-2)
+    put_items-requires
+    shape_of-out
+    returns)

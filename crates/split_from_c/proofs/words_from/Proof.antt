@@ -14,64 +14,64 @@ use Rattle.split_from_c.proofs.words_from.Tie as tie
 abbrev start : tie.After-named → tie.Start
 start c = c.before.before.before.before.before
 
-is_named : (c : tie.Then1) → let a = (start c.before).args in named a.frame-time a.crc a.parity a.kinds.now ≡ true
-is_named c = sym c.before.named.ensures ∙ c.if1.true
+is_named : (c : tie.Then-named) → let a = (start c.before).args in named a.frame_time a.crc a.parity a.kinds.now ≡ true
+is_named c = sym c.before.named.ensures ∙ c.if-named.true
 
 -- ---- the needs
 
 named-requires : tie.Need-named-requires
 named-requires c κs = search rules
 
-plan-from-requires : tie.Need-plan-from-requires
-plan-from-requires c κs = search rules
+plan_from-plan-requires : tie.Need-plan_from-plan-requires
+plan_from-plan-requires c κs = search rules
 
-kinds-from-requires : tie.Need-kinds-from-requires
-kinds-from-requires c κs =
+kinds_from-requires : tie.Need-kinds_from-requires
+kinds_from-requires c κs =
     let t = c.before in
     let a = (start t.before).args in
-    sixteen a.frame-time a.crc a.parity a.kinds.now (is_named t)
+    sixteen a.frame_time a.crc a.parity a.kinds.now (is_named t)
 
-words-bytes-requires : tie.Need-words-bytes-requires
-words-bytes-requires c κs = search rules
+words_bytes-requires : tie.Need-words_bytes-requires
+words_bytes-requires c κs = search rules
 
-same_length : tie.Need-same-length
-same_length c = search rules
+shape_of-words_out-then-named : tie.Need-shape_of-words_out-then-named
+shape_of-words_out-then-named c = search rules
 
-same-length-2 : tie.Need-same-length-2
-same-length-2 c = search rules
+shape_of-times-then-named : tie.Need-shape_of-times-then-named
+shape_of-times-then-named c = search rules
 
-returns : tie.Need-returns
-returns c =
+returns-then-named : tie.Need-returns-then-named
+returns-then-named c =
     let r = c.before.before.before.before in
     let k = r.before.before.before in
     let p = k.before in
     let a = (start p.before.before).args in
     rw
-    (words-named a.words a.tracks a.frame-time a.crc a.parity a.crc-label a.fill_bus a.kinds.now p.plan-from.result k.kinds-from.result (is_named p.before)
-    p.plan-from.ensures k.kinds-from.ensures a.capture.now (length a.words-out.now) (length a.times.now))
-    r.words-bytes.ensures
+    (words-named a.words a.tracks a.frame_time a.crc a.parity a.crc_label a.fill_bus a.kinds.now p.plan_from-plan.result k.kinds_from.result (is_named p.before)
+    p.plan_from-plan.ensures k.kinds_from.ensures a.capture.now (length a.words_out-1.now) (length a.times-1.now))
+    r.words_bytes.ensures
 
 unnamed-requires : tie.Need-unnamed-requires
 unnamed-requires c κs = search rules
 
-returns-2 : tie.Need-returns-2
-returns-2 c =
+returns : tie.Need-returns
+returns c =
     let e = c.before in
     let a = (start e.before).args in
     rw
-    (words_unnamed a.words a.tracks a.frame-time a.crc a.parity a.crc-label a.fill_bus a.kinds.now a.capture.now (length a.words-out.now) (length a.times.now) (sym e.before.named.ensures ∙ e.if1.false))
-    (given_none _ a.words-out.now a.times.now 1 0 0 c.unnamed.ensures)
+    (words_unnamed a.words a.tracks a.frame_time a.crc a.parity a.crc_label a.fill_bus a.kinds.now a.capture.now (length a.words_out-1.now) (length a.times-1.now) (sym e.before.named.ensures ∙ e.if-named.false))
+    (given_none _ a.words_out-1.now a.times-1.now 1 0 0 c.unnamed.ensures)
 
 pub words_from_spec : {M : Type 1} → statement M
 words_from_spec =
     tie.close
     (tie.spec
     named-requires
-    plan-from-requires
-    kinds-from-requires
-    words-bytes-requires
-    same_length
-    same-length-2
-    returns
+    plan_from-plan-requires
+    kinds_from-requires
+    words_bytes-requires
+    shape_of-words_out-then-named
+    shape_of-times-then-named
+    returns-then-named
     unnamed-requires
-    returns-2)
+    returns)

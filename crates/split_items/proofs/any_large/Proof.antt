@@ -11,39 +11,39 @@ use Rattle.split_items.proofs.Numbers.{large_next, large_end}
 use Rattle.split_items.proofs.any_large.Statement.{statement}
 use Rattle.split_items.proofs.any_large.Tie as tie
 
-abbrev invariant-loop : tie.invariant-loop
-invariant-loop words large₀ i₀ large i = (i ≤ length words) × (large ≤ i) × (any_large words ≡ (not (eqb large 0) || any_large (drop i words)))
+abbrev invariant-loop-i : tie.invariant-loop-i
+invariant-loop-i words large₀ i₀ large i = (i ≤ length words) × (large ≤ i) × (any_large words ≡ (not (eqb large 0) || any_large (drop i words)))
 
-abbrev decreases-loop : tie.decreases-loop
-decreases-loop words large₀ i₀ large i = length words - i
+abbrev decreases-loop-i : tie.decreases-loop-i
+decreases-loop-i words large₀ i₀ large i = length words - i
 
-loop-holds : tie.Need-loop-init invariant-loop decreases-loop
-loop-holds c = (omega arith, omega arith, refl)
+loop-i-init : tie.Need-loop-i-init invariant-loop-i decreases-loop-i
+loop-i-init c = (omega arith, omega arith, refl)
 
-mul-large : tie.Need-overflow-mul-large invariant-loop decreases-loop
-mul-large c = search rules
+offset_bounds-words-i : tie.Need-offset_bounds-words-i invariant-loop-i decreases-loop-i
+offset_bounds-words-i c = search rules
 
-shared-slice-read-large : tie.Need-shared-slice-read-large invariant-loop decreases-loop
-shared-slice-read-large c = search rules
+bounds-words-i : tie.Need-bounds-words-i invariant-loop-i decreases-loop-i
+bounds-words-i c = search rules
 
-cast-large : tie.Need-overflow-cast-large invariant-loop decreases-loop
-cast-large c = tt
+overflow_cast-large : tie.Need-overflow_cast-large invariant-loop-i decreases-loop-i
+overflow_cast-large c = tt
 
-add-large : tie.Need-overflow-add-large invariant-loop decreases-loop
-add-large c =
-    let o = c.before.before.loop in
+overflow_add-large : tie.Need-overflow_add-large invariant-loop-i decreases-loop-i
+overflow_add-large c =
+    let o = c.before.before.loop-i in
     let ws = c.before.before.before.args.words.now in
     omega (arith, count_low (ltb 16777215 (get_or ws o.i 0)) o.large o.i o.invariant.1)
 
-add-i : tie.Need-overflow-add-i invariant-loop decreases-loop
-add-i c = search rules
+overflow_add-i : tie.Need-overflow_add-i invariant-loop-i decreases-loop-i
+overflow_add-i c = search rules
 
-loop-less : tie.Need-loop-smaller invariant-loop decreases-loop
-loop-less c = search rules
+loop-i-smaller : tie.Need-loop-i-smaller invariant-loop-i decreases-loop-i
+loop-i-smaller c = search rules
 
-loop-again : tie.Need-loop-preserved invariant-loop decreases-loop
-loop-again c =
-    let o = c.before.before.loop in
+loop-i-preserved : tie.Need-loop-i-preserved invariant-loop-i decreases-loop-i
+loop-i-preserved c =
+    let o = c.before.before.loop-i in
     let ws = c.before.before.before.args.words.now in (
       omega arith,
       count_low (ltb 16777215 (get_or ws o.i 0)) o.large o.i o.invariant.1,
@@ -51,9 +51,9 @@ loop-again c =
           ∙ any_count o.large (ltb 16777215 (get_or ws o.i 0)) (any_large (drop (o.i + 1) ws)),
     )
 
-returns : tie.Need-returns invariant-loop decreases-loop
+returns : tie.Need-returns invariant-loop-i decreases-loop-i
 returns c =
-    let o = c.before.loop in
+    let o = c.before.loop-i in
     let ws = c.before.before.args.words.now in
     sym (o.invariant.2 ∙ ap (λ z. not (eqb o.large 0) || z) (large_end ws o.i (omega arith)) ∙ whole (not (eqb o.large 0)))
   where
@@ -65,14 +65,14 @@ pub any_large_spec : {M : Type 1} → statement M
 any_large_spec =
     tie.close
     (tie.spec
-    invariant-loop
-    decreases-loop
-    loop-holds
-    mul-large
-    shared-slice-read-large
-    cast-large
-    add-large
-    add-i
-    loop-less
-    loop-again
+    invariant-loop-i
+    decreases-loop-i
+    loop-i-init
+    offset_bounds-words-i
+    bounds-words-i
+    overflow_cast-large
+    overflow_add-large
+    overflow_add-i
+    loop-i-smaller
+    loop-i-preserved
     returns)

@@ -15,9 +15,9 @@ use Rattle.split_items.proofs.items_by.Tie as tie
 
 -- the words were run over, into `built`
 abbrev Run-over : Type 0
-Run-over = tie.After-struct-known
+Run-over = tie.After-struct_known-1
 
-abbrev ran : Run-over → tie.After-run-words
+abbrev ran : Run-over → tie.After-run_words-run
 ran c = c.before.before.before
 
 abbrev start : Run-over → tie.Start
@@ -33,84 +33,84 @@ abbrev words : Run-over → List ℕ
 words c = (start c).args.words.now
 
 abbrev log : Run-over → List ℕ
-log c = (start c).args.log.now
+log c = (start c).args.log-1.now
 
 -- they brought items
-logged : (c : tie.Else1) → let k = c.before in Logged (kinds k) (parity k) (words k) (ran k).run-words.result (ran k).run-words.new.1.1.1.0
-logged c = (ran c.before).run-words.ensures.logged c.if1.false
+logged : (c : tie.Else-run-ne0) → let k = c.before in Logged (kinds k) (parity k) (words k) (ran k).run_words-run.result (ran k).run_words-run.new.1.1.1.0
+logged c = (ran c.before).run_words-run.ensures.logged c.if-run-ne0.false
 
 -- ---- the needs
 
-run-words-requires : tie.Need-run-words-requires
-run-words-requires c κs = let s = c.before.before.before.before in (s.requires.0, s.requires.1)
+run_words-run-requires : tie.Need-run_words-run-requires
+run_words-run-requires c κs = let s = c.before.before.before.before in (s.requires.0, s.requires.1)
 
 refusal-requires : tie.Need-refusal-requires
 refusal-requires c κs = search rules
 
-same_length : tie.Need-same-length
-same_length c = search rules
+shape_of-built-then-run-ne0 : tie.Need-shape_of-built-then-run-ne0
+shape_of-built-then-run-ne0 c = search rules
 
-returns : tie.Need-returns
-returns c =
+returns-then-run-ne0 : tie.Need-returns-then-run-ne0
+returns-then-run-ne0 c =
     let k = c.before.before in
-    log_refused (log k) (stops_settled (kinds k) (parity k) (words k) (length (log k)) ((ran k).run-words.ensures.refused c.before.if1.true)) c.refusal.ensures
+    log_refused (log k) (stops_settled (kinds k) (parity k) (words k) (length (log k)) ((ran k).run_words-run.ensures.refused c.before.if-run-ne0.true)) c.refusal.ensures
 
-first-open-requires : tie.Need-first-open-requires
-first-open-requires c κs = let k = c.before in ((logged c).words, omega (arith, (start k).requires.1))
+first_open-notice-requires : tie.Need-first_open-notice-requires
+first_open-notice-requires c κs = let k = c.before in ((logged c).words, omega (arith, (start k).requires.1))
 
-sub-refusal : tie.Need-overflow-sub-refusal
-sub-refusal c = omega (arith, c.if2.true)
+overflow_sub-notice : tie.Need-overflow_sub-notice
+overflow_sub-notice c = omega (arith, c.if-notice-ne0.true)
 
-refusal-requires-2 : tie.Need-refusal-requires-2
-refusal-requires-2 c κs = search rules
+refusal-requires-then-notice-ne0 : tie.Need-refusal-requires-then-notice-ne0
+refusal-requires-then-notice-ne0 c κs = search rules
 
-same-length-2 : tie.Need-same-length-2
-same-length-2 c = search rules
+shape_of-built-then-notice-ne0 : tie.Need-shape_of-built-then-notice-ne0
+shape_of-built-then-notice-ne0 c = search rules
 
-returns-2 : tie.Need-returns-2
-returns-2 c =
+returns-then-notice-ne0 : tie.Need-returns-then-notice-ne0
+returns-then-notice-ne0 c =
     let o = c.before.before in
     let e = o.before in
     let k = e.before in
-    log_refused (log k) (open-settled (kinds k) (parity k) (words k) (length (log k)) (logged e) o.first_open.ensures c.before.if2.true) c.refusal2.ensures
+    log_refused (log k) (open-settled (kinds k) (parity k) (words k) (length (log k)) (logged e) o.first_open-notice.ensures c.before.if-notice-ne0.true) c.refusal-then-notice-ne0.ensures
 
 give-requires : tie.Need-give-requires
 give-requires c κs =
     let e = c.before.before.before.before in
     let k = e.before in
     let r = (start k).requires.2 in
-    log_closable (kinds k) (parity k) (words k) (logged e) _ (start k).requires.1 (λ size a b. omega (arith, r size a b, k.before.before.built.given))
+    log_closable (kinds k) (parity k) (words k) (logged e) _ (start k).requires.1 (λ size a b. omega (arith, r size a b, k.before.before.built-1.given))
 
-same-length-3 : tie.Need-same-length-3
-same-length-3 c = search rules
+shape_of-built : tie.Need-shape_of-built
+shape_of-built c = search rules
 
-same-length-4 : tie.Need-same-length-4
-same-length-4 c = search rules
+shape_of-log : tie.Need-shape_of-log
+shape_of-log c = search rules
 
-returns-3 : tie.Need-returns-3
-returns-3 c =
+returns : tie.Need-returns
+returns c =
     let g = c.before.before.before.before in
     let z = g.before.before.before in
     let o = z.before in
     let e = o.before in
     let k = e.before in
-    rw (log-settled (kinds k) (parity k) (words k) (length (log k)) (logged e) o.first_open.ensures z.if2.false)
+    rw (log-settled (kinds k) (parity k) (words k) (length (log k)) (logged e) o.first_open-notice.ensures z.if-notice-ne0.false)
     (log_given (length (log k)) (logged e).items _ (log k) _ (g.give.ensures (logged e).items (logged e).wrote))
 
 pub items_by_spec : {M : Type 1} → statement M
 items_by_spec =
     tie.close
     (tie.spec
-    run-words-requires
+    run_words-run-requires
     refusal-requires
-    same_length
-    returns
-    first-open-requires
-    sub-refusal
-    refusal-requires-2
-    same-length-2
-    returns-2
+    shape_of-built-then-run-ne0
+    returns-then-run-ne0
+    first_open-notice-requires
+    overflow_sub-notice
+    refusal-requires-then-notice-ne0
+    shape_of-built-then-notice-ne0
+    returns-then-notice-ne0
     give-requires
-    same-length-3
-    same-length-4
-    returns-3)
+    shape_of-built
+    shape_of-log
+    returns)

@@ -16,8 +16,8 @@ use Rattle.split_items.proofs.read_items.Tie as tie
 abbrev start : tie.After-legal → tie.Start
 start c = c.before.before.before
 
-is_legal : (c : tie.Else1) → legal (start c.before).args.plan (start c.before).args.kinds ≡ true
-is_legal c = sym c.before.legal.ensures ∙ not-false _ c.if1.false
+is_legal : (c : tie.Else-not-legal) → legal (start c.before).args.plan (start c.before).args.kinds ≡ true
+is_legal c = sym c.before.legal.ensures ∙ not-false _ c.if-not-legal.false
 
 -- ---- the needs
 
@@ -27,33 +27,33 @@ legal-requires c κs = search rules
 refusal-requires : tie.Need-refusal-requires
 refusal-requires c κs = search rules
 
-returns : tie.Need-returns
-returns c =
+returns-then-not-legal : tie.Need-returns-then-not-legal
+returns-then-not-legal c =
     let j = c.before.before in
     let s = start j in
-    log_refused s.args.log.now (illegal_refused s.args.plan s.args.kinds s.args.words.now _ (sym j.legal.ensures ∙ not-true _ c.before.if1.true)) c.refusal.ensures
+    log_refused s.args.log-1.now (illegal_refused s.args.plan s.args.kinds s.args.words.now _ (sym j.legal.ensures ∙ not-true _ c.before.if-not-legal.true)) c.refusal.ensures
 
-refusal-requires-2 : tie.Need-refusal-requires-2
-refusal-requires-2 c κs = search rules
+refusal-requires-then-count-gt349525 : tie.Need-refusal-requires-then-count-gt349525
+refusal-requires-then-count-gt349525 c κs = search rules
 
-returns-2 : tie.Need-returns-2
-returns-2 c =
+returns-then-count-gt349525 : tie.Need-returns-then-count-gt349525
+returns-then-count-gt349525 c =
     let l = c.before.before in
     let s = start l.before in
-    log_refused s.args.log.now (many_refused s.args.plan s.args.kinds s.args.words.now _ (is_legal l) c.before.if2.true) c.refusal2.ensures
+    log_refused s.args.log-1.now (many_refused s.args.plan s.args.kinds s.args.words.now _ (is_legal l) c.before.if-count-gt349525.true) c.refusal-then-count-gt349525.ensures
 
-items-of-requires : tie.Need-items-of-requires
-items-of-requires c κs = let e = c.before in (shape_of _ _ (is_legal e.before), e.if2.false)
+items_of-requires : tie.Need-items_of-requires
+items_of-requires c κs = let e = c.before in (shape_of _ _ (is_legal e.before), e.if-count-gt349525.false)
 
-same_length : tie.Need-same-length
-same_length c = search rules
+shape_of-log : tie.Need-shape_of-log
+shape_of-log c = search rules
 
-returns-3 : tie.Need-returns-3
-returns-3 c =
+returns : tie.Need-returns
+returns c =
     let r = c.before.before in
     let e = r.before.before in
     let s = start e.before.before in
-    rw (read_on s.args.plan s.args.kinds s.args.words.now (length s.args.log.now) (is_legal e.before) e.if2.false) r.items_of.ensures
+    rw (read_on s.args.plan s.args.kinds s.args.words.now (length s.args.log-1.now) (is_legal e.before) e.if-count-gt349525.false) r.items_of.ensures
 
 pub read_items_spec : {M : Type 1} → statement M
 read_items_spec =
@@ -61,9 +61,9 @@ read_items_spec =
     (tie.spec
     legal-requires
     refusal-requires
-    returns
-    refusal-requires-2
-    returns-2
-    items-of-requires
-    same_length
-    returns-3)
+    returns-then-not-legal
+    refusal-requires-then-count-gt349525
+    returns-then-count-gt349525
+    items_of-requires
+    shape_of-log
+    returns)

@@ -27,9 +27,9 @@ use Rattle.split_items.proofs.run_words.Tie as tie
 
 -- the row was run over
 abbrev Row : Type 0
-Row = tie.After-on-row
+Row = tie.After-on_row-pass
 
-abbrev first : Row → tie.After-low-front
+abbrev first : Row → tie.After-low_front-low
 first c = c.before.before.before.before
 
 abbrev start : Row → tie.Start
@@ -45,10 +45,10 @@ abbrev words : Row → List ℕ
 words c = (start c).args.words.now
 
 abbrev low : Row → ℕ
-low c = (first c).low-front.result
+low c = (first c).low_front-low.result
 
 is_low : (c : Row) → LowFront (words c) (low c)
-is_low c = (first c).low-front.ensures
+is_low c = (first c).low_front-low.ensures
 
 abbrev pass : Row → Pass
 pass c = c.on_Row.result
@@ -58,137 +58,137 @@ out c = c.on_Row.new.1.1.1.1.1.1.0
 
 abbrev fills : Row → Fills
 fills c =
-    fills_in (parity c) (start c).args.plan.fill_bus 0 (counted 0 (take (low c) (words c))) c.before.before.before.start-pass.result.fills
+    fills_in (parity c) (start c).args.plan.fill_bus 0 (counted 0 (take (low c) (words c))) c.before.before.before.start_pass-start.result.fills
 
-is_ran : (c : Row) → RanTo start_pass (start c).args.out.now (run (kinds c) (parity c) (counted 0 (take (low c) (words c))) Nothing 0) (fills c) (pass c) (out c)
+is_ran : (c : Row) → RanTo start_pass (start c).args.out-1.now (run (kinds c) (parity c) (counted 0 (take (low c) (words c))) Nothing 0) (fills c) (pass c) (out c)
 is_ran c =
-    from_start (kinds c) (parity c) (words c) (low c) (is_low c) (start c).args.out.now (out c) (pass c) (fills c) c.before.before.before.start-pass.ensures
+    from_start (kinds c) (parity c) (words c) (low c) (is_low c) (start c).args.out-1.now (out c) (pass c) (fills c) c.before.before.before.start_pass-start.ensures
     c.on_Row.ensures.0
 
 -- what it carries is known
-abbrev ran : tie.After-struct-known → Row
+abbrev ran : tie.After-struct_known-1 → Row
 ran c = c.before.before.before.before.before
 
 -- no word of it is bad
 abbrev Good-row : Type 0
-Good-row = tie.Else1
+Good-row = tie.Else-pass-ne0
 
 good_row : (c : Good-row) → let k = ran c.before in
-    Good (kinds k) (parity k) (words k) (low k) (is_low k) (start k).args.out.now (pass k) (out k) (fills k) (is_ran k)
+    Good (kinds k) (parity k) (words k) (low k) (is_low k) (start k).args.out-1.now (pass k) (out k) (fills k) (is_ran k)
 good_row c =
     let k = ran c.before in
-    good (kinds k) (parity k) (words k) (low k) (is_low k) (start k).args.out.now (pass k) (out k) (fills k) (is_ran k) c.if1.false
+    good (kinds k) (parity k) (words k) (low k) (is_low k) (start k).args.out-1.now (pass k) (out k) (fills k) (is_ran k) c.if-pass-ne0.false
 
-few : (c : Good-row) → let k = ran c.before in (pass k).pen.bits ≤ 128 * length (words k)
+few : (c : Good-row) → let k = ran c.before in (pass k).pen-1.bits ≤ 128 * length (words k)
 few c =
     let k = ran c.before in
-    omega (arith, k.on_Row.ensures.1 c.if1.false, length-take-le (low k) (words k) (is_low k).few, (is_low k).few)
+    omega (arith, k.on_Row.ensures.1 c.if-pass-ne0.false, length-take-le (low k) (words k) (is_low k).few, (is_low k).few)
 
 -- what is held is finished, or cut
-closes : (c : tie.After-finish) → let k = ran c.before.before.before in Closes (finish (held_of (pass k).held) (pass k).since) c.finish.result
+closes : (c : tie.After-finish-step) → let k = ran c.before.before.before in Closes (finish (held_of (pass k).held-1) (pass k).since) c.finish-step.result
 closes c =
     let g = c.before.before in
     let k = ran g.before in
-    subst (Closes (finish (held_of (pass k).held) (pass k).since)) (sym (c.finish.ensures (pass k).since))
-    (finish_means (pass k).held (good_row g).brought.sound.sane (pass k).since)
+    subst (Closes (finish (held_of (pass k).held-1) (pass k).since)) (sym (c.finish-step.ensures (pass k).since))
+    (finish_means (pass k).held-1 (good_row g).brought.sound.sane (pass k).since)
 
 -- ---- the needs
 
-low-front-requires : tie.Need-low-front-requires
-low-front-requires c κs = let s = c.before.before in omega (arith, s.requires.1)
+low_front-low-requires : tie.Need-low_front-low-requires
+low_front-low-requires c κs = let s = c.before.before in omega (arith, s.requires.1)
 
-start-pass-requires : tie.Need-start-pass-requires
-start-pass-requires c κs = search rules
+start_pass-start-requires : tie.Need-start_pass-start-requires
+start_pass-start-requires c κs = search rules
 
-slice-aggregate-on-row : tie.Need-slice-aggregate-on-row
-slice-aggregate-on-row c =
+slice_bounds-on_row-end : tie.Need-slice_bounds-on_row-end
+slice_bounds-on_row-end c =
     let f = c.before.before in
-    sym (length-take-le f.low-front.result f.before.before.before.args.words.now f.low-front.ensures.few)
+    sym (length-take-le f.low_front-low.result f.before.before.before.args.words.now f.low_front-low.ensures.few)
 
-on-row-requires : tie.Need-on-row-requires
-on-row-requires c κs =
+on_row-pass-requires : tie.Need-on_row-pass-requires
+on_row-pass-requires c κs =
     let p = c.before.before in
     let l = p.before in
     let s = l.before.before.before in
     let ws = s.args.words.now in
-    let long = length-take-le l.low-front.result ws l.low-front.ensures.few in (
-      start_sound p.start-pass.ensures,
-      front_words s.args.kinds s.args.plan.parity ws l.low-front.result l.low-front.ensures,
-      start_empty p.start-pass.ensures,
-      omega (arith, long, l.low-front.ensures.few, s.requires.1),
+    let long = length-take-le l.low_front-low.result ws l.low_front-low.ensures.few in (
+      start_sound p.start_pass-start.ensures,
+      front_words s.args.kinds s.args.plan.parity ws l.low_front-low.result l.low_front-low.ensures,
+      start_empty p.start_pass-start.ensures,
+      omega (arith, long, l.low_front-low.ensures.few, s.requires.1),
       s.requires.0.filling,
     )
 
-sub-stops : tie.Need-overflow-sub-stops
-sub-stops c = omega (arith, c.before.if1.true)
+overflow_sub-pass : tie.Need-overflow_sub-pass
+overflow_sub-pass c = omega (arith, c.before.if-pass-ne0.true)
 
 stops-requires : tie.Need-stops-requires
 stops-requires c κs = search rules
 
-same_length : tie.Need-same-length
-same_length c = search rules
+shape_of-out-then-pass-ne0 : tie.Need-shape_of-out-then-pass-ne0
+shape_of-out-then-pass-ne0 c = search rules
 
-returns : tie.Need-returns
-returns c =
+returns-then-pass-ne0 : tie.Need-returns-then-pass-ne0
+returns-then-pass-ne0 c =
     let k = ran c.before.before.before in
     stops_to (kinds k) (parity k) (words k) _ c.stops.ensures
-    (bad-stops (kinds k) (parity k) (words k) (low k) (is_low k) (start k).args.out.now (pass k) (out k) (fills k) (is_ran k) c.before.before.if1.true)
+    (bad-stops (kinds k) (parity k) (words k) (low k) (is_low k) (start k).args.out-1.now (pass k) (out k) (fills k) (is_ran k) c.before.before.if-pass-ne0.true)
 
 begun-requires : tie.Need-begun-requires
 begun-requires c κs = (good_row c.before).brought.sound.sane
 
-stops-requires-2 : tie.Need-stops-requires-2
-stops-requires-2 c κs = search rules
+stops-requires-then-low-words : tie.Need-stops-requires-then-low-words
+stops-requires-then-low-words c κs = search rules
 
-same-length-2 : tie.Need-same-length-2
-same-length-2 c = search rules
+shape_of-out-then-low-words : tie.Need-shape_of-out-then-low-words
+shape_of-out-then-low-words c = search rules
 
-returns-2 : tie.Need-returns-2
-returns-2 c =
+returns-then-low-words : tie.Need-returns-then-low-words
+returns-then-low-words c =
     let t = c.before.before in
     let g = t.before in
     let k = ran g.before in
-    stops_to (kinds k) (parity k) (words k) _ c.stops2.ensures
-    (large_stops (kinds k) (parity k) (words k) (low k) (is_low k) (start k).args.out.now (pass k) (out k) (fills k) (is_ran k) g.if1.false t.if2.true
+    stops_to (kinds k) (parity k) (words k) _ c.stops-then-low-words.ensures
+    (large_stops (kinds k) (parity k) (words k) (low k) (is_low k) (start k).args.out-1.now (pass k) (out k) (fills k) (is_ran k) g.if-pass-ne0.false t.if-low-words.true
     ∙ ap (stopped 13 (low k)) (sym c.before.begun.ensures))
 
-finish-requires : tie.Need-finish-requires
-finish-requires c κs = (good_row c.before).brought.sound.sane
+finish-step-requires : tie.Need-finish-step-requires
+finish-step-requires c κs = (good_row c.before).brought.sound.sane
 
-stops-requires-3 : tie.Need-stops-requires-3
-stops-requires-3 c κs = search rules
+stops-requires-then-step : tie.Need-stops-requires-then-step
+stops-requires-then-step c κs = search rules
 
-same-length-3 : tie.Need-same-length-3
-same-length-3 c = search rules
+shape_of-out-then-step : tie.Need-shape_of-out-then-step
+shape_of-out-then-step c = search rules
 
-returns-3 : tie.Need-returns-3
-returns-3 c =
+returns-then-step : tie.Need-returns-then-step
+returns-then-step c =
     let e = c.before.before in
     let g = e.before.before in
     let k = ran g.before in
-    stops_to (kinds k) (parity k) (words k) _ c.stops3.ensures
-    (cut-stops (kinds k) (parity k) (words k) (low k) (is_low k) (start k).args.out.now (pass k) (out k) (fills k) (is_ran k) g.if1.false e.before.if2.false e.finish.result (closes e)
-    c.before.if3.true)
+    stops_to (kinds k) (parity k) (words k) _ c.stops-then-step.ensures
+    (cut-stops (kinds k) (parity k) (words k) (low k) (is_low k) (start k).args.out-1.now (pass k) (out k) (fills k) (is_ran k) g.if-pass-ne0.false e.before.if-low-words.false e.finish-step.result (closes e)
+    c.before.if-step.true)
 
-put-step-requires : tie.Need-put-step-requires
-put-step-requires c κs =
+put_step-end-requires : tie.Need-put_step-end-requires
+put_step-end-requires c κs =
     let e = c.before.before in
     let k = ran e.before.before.before in
-    (omega (arith, few e.before.before, (start k).pre.1), closing_fits (finish (held_of (pass k).held) (pass k).since) e.finish.result (closes e) c.before.if3.false)
+    (omega (arith, few e.before.before, (start k).pre.1), closing_fits (finish (held_of (pass k).held-1) (pass k).since) e.finish-step.result (closes e) c.before.if-step.false)
 
-same-length-4 : tie.Need-same-length-4
-same-length-4 c = search rules
+shape_of-out : tie.Need-shape_of-out
+shape_of-out c = search rules
 
-returns-4 : tie.Need-returns-4
-returns-4 c =
+returns : tie.Need-returns
+returns c =
     let p = c.before.before in
     let z = p.before.before in
     let e = z.before in
     let g = e.before.before in
     let k = ran g.before in
     record {
-      logged = λ _. words-log (kinds k) (parity k) (words k) (low k) (is_low k) (start k).args.out.now (pass k) (out k) (fills k) (is_ran k) g.if1.false e.before.if2.false
-          e.finish.result (closes e) z.if3.false (few g) _ p.put_step.ensures.0 p.put_step.ensures.1;
+      logged = λ _. words-log (kinds k) (parity k) (words k) (low k) (is_low k) (start k).args.out-1.now (pass k) (out k) (fills k) (is_ran k) g.if-pass-ne0.false e.before.if-low-words.false
+          e.finish-step.result (closes e) z.if-step.false (few g) _ p.put_step-end.ensures.0 p.put_step-end.ensures.1;
       refused = λ y. absurd (y refl);
     }
 
@@ -196,22 +196,22 @@ pub run_words_spec : {M : Type 1} → statement M
 run_words_spec =
     tie.close
     (tie.spec
-    low-front-requires
-    start-pass-requires
-    slice-aggregate-on-row
-    on-row-requires
-    sub-stops
+    low_front-low-requires
+    start_pass-start-requires
+    slice_bounds-on_row-end
+    on_row-pass-requires
+    overflow_sub-pass
     stops-requires
-    same_length
-    returns
+    shape_of-out-then-pass-ne0
+    returns-then-pass-ne0
     begun-requires
-    stops-requires-2
-    same-length-2
-    returns-2
-    finish-requires
-    stops-requires-3
-    same-length-3
-    returns-3
-    put-step-requires
-    same-length-4
-    returns-4)
+    stops-requires-then-low-words
+    shape_of-out-then-low-words
+    returns-then-low-words
+    finish-step-requires
+    stops-requires-then-step
+    shape_of-out-then-step
+    returns-then-step
+    put_step-end-requires
+    shape_of-out
+    returns)

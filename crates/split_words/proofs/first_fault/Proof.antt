@@ -15,20 +15,20 @@ use Rattle.split_words.proofs.Groups.{fault_first, fault_here, fault_behind, fau
 use Rattle.split_words.proofs.first_fault.Statement.{statement}
 use Rattle.split_words.proofs.first_fault.Tie as tie
 
-abbrev invariant-loop : tie.invariant-loop
-invariant-loop plan capture n row₀ size g₀ row g =
+abbrev invariant-loop-g : tie.invariant-loop-g
+invariant-loop-g plan capture n row₀ size g₀ row g =
     (g ≤ n) × (length row ≡ length row₀) × (groups_fault plan capture n 0 ≡ groups_fault plan capture (n - g) g)
 
-abbrev decreases-loop : tie.decreases-loop
-decreases-loop plan capture n row₀ size g₀ row g = n - g
+abbrev decreases-loop-g : tie.decreases-loop-g
+decreases-loop-g plan capture n row₀ size g₀ row g = n - g
 
 -- ---- the places
 
 -- at a group
 abbrev AtLoop : Type 0
-AtLoop = tie.At-loop invariant-loop decreases-loop
+AtLoop = tie.At-loop-g invariant-loop-g decreases-loop-g
 
-abbrev start : AtLoop → tie.Start invariant-loop decreases-loop
+abbrev start : AtLoop → tie.Start invariant-loop-g decreases-loop-g
 start c = c.before.before.before.before
 
 abbrev plan : AtLoop → Plan
@@ -48,14 +48,14 @@ size c = group_most (plan c) (shape c)
 
 -- in it
 abbrev InLoop : Type 0
-InLoop = tie.In-loop invariant-loop decreases-loop
+InLoop = tie.In-loop-g invariant-loop-g decreases-loop-g
 
-room : (c : InLoop) → c.before.loop.g * (3 * group_words (plan c.before)) + 3 * group_words (plan c.before) ≤ length (capture c.before)
-room c = let l = c.before in group_room (plan l) (shape l) (start l).args.n l.loop.g (length (capture l)) (all l) c.loop-test.true
+room : (c : InLoop) → c.before.loop-g.g * (3 * group_words (plan c.before)) + 3 * group_words (plan c.before) ≤ length (capture c.before)
+room c = let l = c.before in group_room (plan l) (shape l) (start l).args.n l.loop-g.g (length (capture l)) (all l) c.loop-g-test.true
 
 -- it is dealt
 abbrev Dealt : Type 0
-Dealt = tie.After-deal invariant-loop decreases-loop
+Dealt = tie.After-deal-fault invariant-loop-g decreases-loop-g
 
 abbrev in_loop : Dealt → InLoop
 in_loop c = c.before.before.before
@@ -63,121 +63,121 @@ in_loop c = c.before.before.before
 abbrev loop : Dealt → AtLoop
 loop c = (in_loop c).before
 
-low : (c : Dealt) → c.deal.result.place < group_words (plan (loop c))
-low c = dealt_low (plan (loop c)) (shape (loop c)) (capture (loop c)) (loop c).loop.g c.deal.ensures
+low : (c : Dealt) → c.deal-fault.result.place < group_words (plan (loop c))
+low c = dealt_low (plan (loop c)) (shape (loop c)) (capture (loop c)) (loop c).loop-g.g c.deal-fault.ensures
 
 -- without a fault
 abbrev Sound-group : Type 0
-Sound-group = tie.Else1 invariant-loop decreases-loop
+Sound-group = tie.Else-fault-ne0 invariant-loop-g decreases-loop-g
 
 abbrev dealt : Sound-group → Dealt
 dealt c = c.before.before.before.before
 
 -- ---- the needs
 
-mul-size : tie.Need-overflow-mul-size invariant-loop decreases-loop
-mul-size c = let s = c.before.before.before in omega (arith, group_most s.args.plan s.requires.0.0)
+overflow_mul-size : tie.Need-overflow_mul-size invariant-loop-g decreases-loop-g
+overflow_mul-size c = let s = c.before.before.before in omega (arith, group_most s.args.plan s.requires.0.0)
 
-loop-holds : tie.Need-loop-init invariant-loop decreases-loop
-loop-holds c = let s = c.before.before.before in (omega arith, refl, fault_first s.args.plan s.args.capture.now s.args.n)
+loop-g-init : tie.Need-loop-g-init invariant-loop-g decreases-loop-g
+loop-g-init c = let s = c.before.before.before in (omega arith, refl, fault_first s.args.plan s.args.capture.now s.args.n)
 
-mul-begin : tie.Need-overflow-mul-begin invariant-loop decreases-loop
-mul-begin c = omega (arith, size c.before)
+overflow_mul-begin : tie.Need-overflow_mul-begin invariant-loop-g decreases-loop-g
+overflow_mul-begin c = omega (arith, size c.before)
 
-mul-begin-2 : tie.Need-overflow-mul-begin-2 invariant-loop decreases-loop
-mul-begin-2 c = omega (arith, room c, (start c.before).pre.1.1)
+overflow_mul-begin-in-loop-g : tie.Need-overflow_mul-begin-in-loop-g invariant-loop-g decreases-loop-g
+overflow_mul-begin-in-loop-g c = omega (arith, room c, (start c.before).pre.1.1)
 
-mul-end : tie.Need-overflow-mul-end invariant-loop decreases-loop
-mul-end c = omega (arith, size c.before)
+overflow_mul-end : tie.Need-overflow_mul-end invariant-loop-g decreases-loop-g
+overflow_mul-end c = omega (arith, size c.before)
 
-add-end : tie.Need-overflow-add-end invariant-loop decreases-loop
-add-end c = omega (arith, room c, (start c.before).pre.1.1)
+overflow_add-end : tie.Need-overflow_add-end invariant-loop-g decreases-loop-g
+overflow_add-end c = omega (arith, room c, (start c.before).pre.1.1)
 
-sub-deal : tie.Need-overflow-sub-deal invariant-loop decreases-loop
-sub-deal c = search rules
+slice_bounds-deal-count : tie.Need-slice_bounds-deal-count invariant-loop-g decreases-loop-g
+slice_bounds-deal-count c = search rules
 
-part-deal-start : tie.Need-slice-bounds-deal-start invariant-loop decreases-loop
-part-deal-start c = search rules
+slice_bounds-deal-start : tie.Need-slice_bounds-deal-start invariant-loop-g decreases-loop-g
+slice_bounds-deal-start c = search rules
 
-part-deal-end : tie.Need-slice-bounds-deal-end invariant-loop decreases-loop
-part-deal-end c = room c
+slice_bounds-deal-end : tie.Need-slice_bounds-deal-end invariant-loop-g decreases-loop-g
+slice_bounds-deal-end c = room c
 
-deal-requires : tie.Need-deal-requires invariant-loop decreases-loop
-deal-requires c κs =
+deal-fault-requires : tie.Need-deal-fault-requires invariant-loop-g decreases-loop-g
+deal-fault-requires c κs =
     let i = c.before.before in
     let l = i.before in (
       shape l,
-      part_length (plan l) (shape l) (capture l) (start l).args.n l.loop.g (all l) i.loop-test.true,
-      omega (arith, l.loop.invariant.1, (start l).requires.0.1 (omega (arith, i.loop-test.true))),
+      part_length (plan l) (shape l) (capture l) (start l).args.n l.loop-g.g (all l) i.loop-g-test.true,
+      omega (arith, l.loop-g.invariant.1, (start l).requires.0.1 (omega (arith, i.loop-g-test.true))),
     )
 
-mul-t17 : tie.Need-overflow-mul-t17 invariant-loop decreases-loop
-mul-t17 c = let d = c.before.before.before.before in omega (arith, room (in_loop d), (start (loop d)).pre.1.1)
+overflow_mul-result : tie.Need-overflow_mul-result invariant-loop-g decreases-loop-g
+overflow_mul-result c = let d = c.before.before.before.before in omega (arith, room (in_loop d), (start (loop d)).pre.1.1)
 
-add-t18 : tie.Need-overflow-add-t18 invariant-loop decreases-loop
-add-t18 c = let d = c.before.before.before.before.before in omega (arith, low d, room (in_loop d), (start (loop d)).pre.1.1)
+overflow_add-result : tie.Need-overflow_add-result invariant-loop-g decreases-loop-g
+overflow_add-result c = let d = c.before.before.before.before.before in omega (arith, low d, room (in_loop d), (start (loop d)).pre.1.1)
 
-same_length : tie.Need-same-length invariant-loop decreases-loop
-same_length c = search rules
+shape_of-row-then-fault-ne0 : tie.Need-shape_of-row-then-fault-ne0 invariant-loop-g decreases-loop-g
+shape_of-row-then-fault-ne0 c = search rules
 
-returns : tie.Need-returns invariant-loop decreases-loop
-returns c =
+returns-then-fault-ne0 : tie.Need-returns-then-fault-ne0 invariant-loop-g decreases-loop-g
+returns-then-fault-ne0 c =
     let t = c.before in
     let d = t.before.before.before.before in
     let l = loop d in
     record {
-      is = sym (ap fault_of (l.loop.inv.2 ∙ fault_here (plan l) (capture l) (start l).args.n l.loop.g (in_loop d).loop-test.true
-          (dealt-found (plan l) (shape l) (capture l) l.loop.g d.deal.ensures t.if1.true)));
-      clear = λ z. absurd (t.if1.true z);
+      is = sym (ap fault_of (l.loop-g.inv.2 ∙ fault_here (plan l) (capture l) (start l).args.n l.loop-g.g (in_loop d).loop-g-test.true
+          (dealt-found (plan l) (shape l) (capture l) l.loop-g.g d.deal-fault.ensures t.if-fault-ne0.true)));
+      clear = λ z. absurd (t.if-fault-ne0.true z);
     }
 
-add-g : tie.Need-overflow-add-g invariant-loop decreases-loop
-add-g c = search rules
+overflow_add-g : tie.Need-overflow_add-g invariant-loop-g decreases-loop-g
+overflow_add-g c = search rules
 
-loop-less : tie.Need-loop-smaller invariant-loop decreases-loop
-loop-less c = search rules
+loop-g-smaller : tie.Need-loop-g-smaller invariant-loop-g decreases-loop-g
+loop-g-smaller c = search rules
 
-loop-again : tie.Need-loop-preserved invariant-loop decreases-loop
-loop-again c =
+loop-g-preserved : tie.Need-loop-g-preserved invariant-loop-g decreases-loop-g
+loop-g-preserved c =
     let d = dealt c in
     let l = loop d in (
-      omega (arith, (in_loop d).loop-test.taken),
-      d.deal.ensures.long ∙ l.loop.inv.1,
-      l.loop.inv.2 ∙ fault_behind (plan l) (capture l) (start l).args.n l.loop.g (in_loop d).loop-test.taken
-          (dealt_none (plan l) (shape l) (capture l) l.loop.g d.deal.ensures c.if1.false),
+      omega (arith, (in_loop d).loop-g-test.taken),
+      d.deal-fault.ensures.long ∙ l.loop-g.inv.1,
+      l.loop-g.inv.2 ∙ fault_behind (plan l) (capture l) (start l).args.n l.loop-g.g (in_loop d).loop-g-test.taken
+          (dealt_none (plan l) (shape l) (capture l) l.loop-g.g d.deal-fault.ensures c.if-fault-ne0.false),
     )
 
-same-length-2 : tie.Need-same-length-2 invariant-loop decreases-loop
-same-length-2 c = search rules
+shape_of-row : tie.Need-shape_of-row invariant-loop-g decreases-loop-g
+shape_of-row c = search rules
 
-returns-2 : tie.Need-returns-2 invariant-loop decreases-loop
-returns-2 c =
+returns : tie.Need-returns invariant-loop-g decreases-loop-g
+returns c =
     let l = c.before in
-    let e = l.loop.invariant.2 ∙ fault_last (plan l) (capture l) (start l).args.n l.loop.g (omega (arith, c.loop-test.false)) in
+    let e = l.loop-g.invariant.2 ∙ fault_last (plan l) (capture l) (start l).args.n l.loop-g.g (omega (arith, c.loop-g-test.false)) in
     record { is = sym (ap fault_of e); clear = λ z. e }
 
 pub first_fault_spec : {M : Type 1} → statement M
 first_fault_spec =
     tie.close
     (tie.spec
-    invariant-loop
-    decreases-loop
-    mul-size
-    loop-holds
-    mul-begin
-    mul-begin-2
-    mul-end
-    add-end
-    sub-deal
-    part-deal-start
-    part-deal-end
-    deal-requires
-    mul-t17
-    add-t18
-    same_length
-    returns
-    add-g
-    loop-less
-    loop-again
-    same-length-2
-    returns-2)
+    invariant-loop-g
+    decreases-loop-g
+    overflow_mul-size
+    loop-g-init
+    overflow_mul-begin
+    overflow_mul-begin-in-loop-g
+    overflow_mul-end
+    overflow_add-end
+    slice_bounds-deal-count
+    slice_bounds-deal-start
+    slice_bounds-deal-end
+    deal-fault-requires
+    overflow_mul-result
+    overflow_add-result
+    shape_of-row-then-fault-ne0
+    returns-then-fault-ne0
+    overflow_add-g
+    loop-g-smaller
+    loop-g-preserved
+    shape_of-row
+    returns)

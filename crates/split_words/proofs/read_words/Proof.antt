@@ -28,23 +28,23 @@ capture c = (start c).args.capture.now
 
 -- it is legal
 abbrev Legal : Type 0
-Legal = tie.Else1
+Legal = tie.Else-not-legal
 
 is_legal : (c : Legal) → legal (start c.before).args.plan (start c.before).args.kinds ≡ true
-is_legal c = sym c.before.legal.ensures ∙ not-false _ c.if1.false
+is_legal c = sym c.before.legal.ensures ∙ not-false _ c.if-not-legal.false
 
 shape : (c : Legal) → Shape (start c.before).args.plan
 shape c = shape_of _ _ (is_legal c)
 
 -- the capture is whole groups
 abbrev Whole : Type 0
-Whole = tie.Else3
+Whole = tie.Else-not-is_whole
 
 abbrev of_legal : Whole → Legal
 of_legal c = c.before.before.before
 
 whole : (c : Whole) → let j = (of_legal c).before in length (capture j) % (3 * group_words (start j).args.plan) ≡ 0
-whole c = eqb-true _ _ (sym c.before.is_whole.ensures ∙ not-false _ c.if3.false)
+whole c = eqb-true _ _ (sym c.before.is_whole.ensures ∙ not-false _ c.if-not-is_whole.false)
 
 -- ---- the needs
 
@@ -54,55 +54,55 @@ legal-requires c κs = search rules
 refusal-requires : tie.Need-refusal-requires
 refusal-requires c κs = search rules
 
-returns : tie.Need-returns
-returns c =
+returns-then-not-legal : tie.Need-returns-then-not-legal
+returns-then-not-legal c =
     let j = c.before.before in
     let s = start j in
-    given_refused s.args.words.now s.args.times.now
-    (illegal_refused s.args.plan s.args.kinds (capture j) _ _ (sym j.legal.ensures ∙ not-true _ c.before.if1.true)) c.refusal.ensures
+    given_refused s.args.words-1.now s.args.times-1.now
+    (illegal_refused s.args.plan s.args.kinds (capture j) _ _ (sym j.legal.ensures ∙ not-true _ c.before.if-not-legal.true)) c.refusal.ensures
 
-refusal-requires-2 : tie.Need-refusal-requires-2
-refusal-requires-2 c κs = search rules
+refusal-requires-then-length-gt1048576 : tie.Need-refusal-requires-then-length-gt1048576
+refusal-requires-then-length-gt1048576 c κs = search rules
 
-returns-2 : tie.Need-returns-2
-returns-2 c =
+returns-then-length-gt1048576 : tie.Need-returns-then-length-gt1048576
+returns-then-length-gt1048576 c =
     let l = c.before.before in
     let s = start l.before in
-    given_refused s.args.words.now s.args.times.now
-    (long_refused s.args.plan s.args.kinds (capture l.before) _ _ (is_legal l) c.before.if2.true) c.refusal2.ensures
+    given_refused s.args.words-1.now s.args.times-1.now
+    (long_refused s.args.plan s.args.kinds (capture l.before) _ _ (is_legal l) c.before.if-length-gt1048576.true) c.refusal-then-length-gt1048576.ensures
 
-is-whole-requires : tie.Need-is-whole-requires
-is-whole-requires c κs = (shape c.before, c.if2.false)
+is_whole-requires : tie.Need-is_whole-requires
+is_whole-requires c κs = (shape c.before, c.if-length-gt1048576.false)
 
-refusal-requires-3 : tie.Need-refusal-requires-3
-refusal-requires-3 c κs = search rules
+refusal-requires-then-not-is_whole : tie.Need-refusal-requires-then-not-is_whole
+refusal-requires-then-not-is_whole c κs = search rules
 
-returns-3 : tie.Need-returns-3
-returns-3 c =
+returns-then-not-is_whole : tie.Need-returns-then-not-is_whole
+returns-then-not-is_whole c =
     let w = c.before.before in
     let l = w.before.before in
     let s = start l.before in
-    given_refused s.args.words.now s.args.times.now
-    (ragged_refused s.args.plan s.args.kinds (capture l.before) _ _ (is_legal l) w.before.if2.false
-    (sym w.is_whole.ensures ∙ not-true _ c.before.if3.true))
-    c.refusal3.ensures
+    given_refused s.args.words-1.now s.args.times-1.now
+    (ragged_refused s.args.plan s.args.kinds (capture l.before) _ _ (is_legal l) w.before.if-length-gt1048576.false
+    (sym w.is_whole.ensures ∙ not-true _ c.before.if-not-is_whole.true))
+    c.refusal-then-not-is_whole.ensures
 
-words-of-requires : tie.Need-words-of-requires
-words-of-requires c κs = let w = c.before.before in (shape (of_legal w), w.before.before.if2.false, whole w)
+words_of-requires : tie.Need-words_of-requires
+words_of-requires c κs = let w = c.before.before in (shape (of_legal w), w.before.before.if-length-gt1048576.false, whole w)
 
-same_length : tie.Need-same-length
-same_length c = search rules
+shape_of-words : tie.Need-shape_of-words
+shape_of-words c = search rules
 
-same-length-2 : tie.Need-same-length-2
-same-length-2 c = search rules
+shape_of-times : tie.Need-shape_of-times
+shape_of-times c = search rules
 
-returns-4 : tie.Need-returns-4
-returns-4 c =
+returns : tie.Need-returns
+returns c =
     let r = c.before.before.before.before in
     let w = r.before.before.before in
     let l = of_legal w in
     let s = start l.before in
-    rw (read_on s.args.plan s.args.kinds (capture l.before) (length s.args.words.now) (length s.args.times.now) (is_legal l) w.before.before.if2.false (whole w))
+    rw (read_on s.args.plan s.args.kinds (capture l.before) (length s.args.words-1.now) (length s.args.times-1.now) (is_legal l) w.before.before.if-length-gt1048576.false (whole w))
     r.words_of.ensures
 
 pub read_words_spec : {M : Type 1} → statement M
@@ -111,13 +111,13 @@ read_words_spec =
     (tie.spec
     legal-requires
     refusal-requires
-    returns
-    refusal-requires-2
-    returns-2
-    is-whole-requires
-    refusal-requires-3
-    returns-3
-    words-of-requires
-    same_length
-    same-length-2
-    returns-4)
+    returns-then-not-legal
+    refusal-requires-then-length-gt1048576
+    returns-then-length-gt1048576
+    is_whole-requires
+    refusal-requires-then-not-is_whole
+    returns-then-not-is_whole
+    words_of-requires
+    shape_of-words
+    shape_of-times
+    returns)

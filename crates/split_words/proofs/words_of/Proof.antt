@@ -16,51 +16,51 @@ in_row s h =
     let size = length s.args.capture.now in
     row_room s.args.plan s.requires.0 (size / (3 * group_words s.args.plan)) size (whole_groups s.args.plan size s.requires.2) h
 
-slice-aggregate-words-by : tie.Need-slice-aggregate-words-by
-slice-aggregate-words-by c = search rules
+slice_bounds-words_by-end : tie.Need-slice_bounds-words_by-end
+slice_bounds-words_by-end c = search rules
 
-words-by-requires : tie.Need-words-by-requires
-words-by-requires c κs =
+words_by-requires : tie.Need-words_by-requires
+words_by-requires c κs =
     let s = c.before.before.before.before.before.before.before in
-    (s.requires, λ h. omega (arith, in_row s h, c.before.before.before.if1.true))
+    (s.requires, λ h. omega (arith, in_row s h, c.before.before.before.if-capture-le1884.true))
 
-same_length : tie.Need-same-length
-same_length c = search rules
+shape_of-words-then-capture-le1884 : tie.Need-shape_of-words-then-capture-le1884
+shape_of-words-then-capture-le1884 c = search rules
 
-same-length-2 : tie.Need-same-length-2
-same-length-2 c = search rules
+shape_of-times-then-capture-le1884 : tie.Need-shape_of-times-then-capture-le1884
+shape_of-times-then-capture-le1884 c = search rules
 
-returns : tie.Need-returns
-returns c = search rules
+returns-then-capture-le1884 : tie.Need-returns-then-capture-le1884
+returns-then-capture-le1884 c = search rules
 
-slice-aggregate-words-by-2 : tie.Need-slice-aggregate-words-by-2
-slice-aggregate-words-by-2 c = search rules
+slice_bounds-words_by-end-2 : tie.Need-slice_bounds-words_by-end-2
+slice_bounds-words_by-end-2 c = search rules
 
-words-by-requires-2 : tie.Need-words-by-requires-2
-words-by-requires-2 c κs =
+words_by-requires-2 : tie.Need-words_by-requires-2
+words_by-requires-2 c κs =
     let s = c.before.before.before.before.before.before.before in
     (s.requires, λ h. omega (arith, dealt_most s.args.plan s.requires.0))
 
-same-length-3 : tie.Need-same-length-3
-same-length-3 c = search rules
+shape_of-words : tie.Need-shape_of-words
+shape_of-words c = search rules
 
-same-length-4 : tie.Need-same-length-4
-same-length-4 c = search rules
+shape_of-times : tie.Need-shape_of-times
+shape_of-times c = search rules
 
-returns-2 : tie.Need-returns-2
-returns-2 c = search rules
+returns : tie.Need-returns
+returns c = search rules
 
 pub words_of_spec : {M : Type 1} → statement M
 words_of_spec =
     tie.close
     (tie.spec
-    slice-aggregate-words-by
-    words-by-requires
-    same_length
-    same-length-2
-    returns
-    slice-aggregate-words-by-2
-    words-by-requires-2
-    same-length-3
-    same-length-4
-    returns-2)
+    slice_bounds-words_by-end
+    words_by-requires
+    shape_of-words-then-capture-le1884
+    shape_of-times-then-capture-le1884
+    returns-then-capture-le1884
+    slice_bounds-words_by-end-2
+    words_by-requires-2
+    shape_of-words
+    shape_of-times
+    returns)

@@ -16,13 +16,13 @@ use Rattle.stream.proofs.feed.Tie as tie
 -- ---- the places
 
 abbrev Found : Type 0
-Found = tie.After-load
+Found = tie.After-load-found
 
 abbrev start : Found → tie.Start
 start c = c.before.before.before.before.before.before
 
-staged : (c : Found) → c.load.result.stage ≡ (loaded_of (start c).args.state.now).stage
-staged c = ap (λ (r : Loaded). r.stage) c.load.ensures
+staged : (c : Found) → c.load-found.result.stage ≡ (loaded_of (start c).args.state-1.now).stage
+staged c = ap (λ (r : Loaded). r.stage) c.load-found.ensures
 
 -- the limits were looked at
 abbrev Judged : Type 0
@@ -31,15 +31,15 @@ Judged = tie.After-within
 abbrev found : Judged → Found
 found c = c.before
 
-judged : (c : Judged) → c.within.result ≡ within (loaded_of (start (found c)).args.state.now).stage (length (start (found c)).args.piece.now) (length (start (found c)).args.log.now)
+judged : (c : Judged) → c.within.result ≡ within (loaded_of (start (found c)).args.state-1.now).stage (length (start (found c)).args.piece.now) (length (start (found c)).args.log-1.now)
 judged c =
     let a = (start (found c)).args in
-    c.within.ensures ∙ ap (λ (n : ℕ). within n (length a.piece.now) (length a.log.now)) (staged (found c))
+    c.within.ensures ∙ ap (λ (n : ℕ). within n (length a.piece.now) (length a.log-1.now)) (staged (found c))
 
 -- ---- the needs
 
-load-requires : tie.Need-load-requires
-load-requires c κs = search rules
+load-found-requires : tie.Need-load-found-requires
+load-found-requires c κs = search rules
 
 within-requires : tie.Need-within-requires
 within-requires c κs = search rules
@@ -47,75 +47,75 @@ within-requires c κs = search rules
 refusal-requires : tie.Need-refusal-requires
 refusal-requires c κs = search rules
 
-same_length : tie.Need-same-length
-same_length c = search rules
+shape_of-state-then-not-within : tie.Need-shape_of-state-then-not-within
+shape_of-state-then-not-within c = search rules
 
-returns : tie.Need-returns
-returns c =
+returns-then-not-within : tie.Need-returns-then-not-within
+returns-then-not-within c =
     let j = c.before.before in
     let a = (start (found j)).args in
-    unread_leaves a.state.now a.log.now a.times.now
-    (not_within a.state.now a.piece.now (length a.log.now) (length a.times.now) (sym (judged j) ∙ not-true _ c.before.if1.true)) c.refusal.ensures
+    unread_leaves a.state-1.now a.log-1.now a.times-1.now
+    (not_within a.state-1.now a.piece.now (length a.log-1.now) (length a.times-1.now) (sym (judged j) ∙ not-true _ c.before.if-not-within.true)) c.refusal.ensures
 
-refusal-requires-2 : tie.Need-refusal-requires-2
-refusal-requires-2 c κs = search rules
+refusal-requires-then-found-eq2 : tie.Need-refusal-requires-then-found-eq2
+refusal-requires-then-found-eq2 c κs = search rules
 
-same-length-2 : tie.Need-same-length-2
-same-length-2 c = search rules
+shape_of-state-then-found-eq2 : tie.Need-shape_of-state-then-found-eq2
+shape_of-state-then-found-eq2 c = search rules
 
-returns-2 : tie.Need-returns-2
-returns-2 c =
+returns-then-found-eq2 : tie.Need-returns-then-found-eq2
+returns-then-found-eq2 c =
     let j = c.before.before.before.before in
     let f = found j in
     let a = (start f).args in
-    let k = limits (loaded_of a.state.now).stage (length a.piece.now) (length a.log.now) (sym (judged j) ∙ not-false _ c.before.before.before.if1.false) in
-    let e = f.load.ensures in
-    unread_leaves a.state.now a.log.now a.times.now
-    (repeated a.state.now a.piece.now (length a.log.now) (length a.times.now) (sym (staged f) ∙ c.before.if2.true) k.short k.roomy)
-    (c.refusal2.ensures ∙ ap (λ (r : Loaded). refusal r.number r.place r.second) e)
+    let k = limits (loaded_of a.state-1.now).stage (length a.piece.now) (length a.log-1.now) (sym (judged j) ∙ not-false _ c.before.before.before.if-not-within.false) in
+    let e = f.load-found.ensures in
+    unread_leaves a.state-1.now a.log-1.now a.times-1.now
+    (repeated a.state-1.now a.piece.now (length a.log-1.now) (length a.times-1.now) (sym (staged f) ∙ c.before.if-found-eq2.true) k.short k.roomy)
+    (c.refusal-then-found-eq2.ensures ∙ ap (λ (r : Loaded). refusal r.number r.place r.second) e)
 
-feed-working-requires : tie.Need-feed-working-requires
-feed-working-requires c κs =
+feed_working-requires : tie.Need-feed_working-requires
+feed_working-requires c κs =
     let j = c.before.before.before.before.before.before.before in
     let f = found j in
     let a = (start f).args in
-    let k = limits (loaded_of a.state.now).stage (length a.piece.now) (length a.log.now)
-    (sym (judged j) ∙ not-false _ c.before.before.before.before.before.before.if1.false) in
-    let one = k.open_stage (λ z. c.before.before.before.before.if2.false (staged f ∙ z)) in
-    let w = loaded_work a.state.now one in
+    let k = limits (loaded_of a.state-1.now).stage (length a.piece.now) (length a.log-1.now)
+    (sym (judged j) ∙ not-false _ c.before.before.before.before.before.before.if-not-within.false) in
+    let one = k.open_stage (λ z. c.before.before.before.before.if-found-eq2.false (staged f ∙ z)) in
+    let w = loaded_work a.state-1.now one in
     record {
-      work = subst (AtWork a.state.now) (sym (ap (λ (r : Loaded). r.stand) f.load.ensures)) w;
+      work = subst (AtWork a.state-1.now) (sym (ap (λ (r : Loaded). r.stand-1) f.load-found.ensures)) w;
       table_is = refl;
       short = k.short;
       roomy = k.roomy;
     }
 
-same-length-3 : tie.Need-same-length-3
-same-length-3 c = search rules
+shape_of-state : tie.Need-shape_of-state
+shape_of-state c = search rules
 
-same-length-4 : tie.Need-same-length-4
-same-length-4 c = search rules
+shape_of-log : tie.Need-shape_of-log
+shape_of-log c = search rules
 
-same-length-5 : tie.Need-same-length-5
-same-length-5 c = search rules
+shape_of-times : tie.Need-shape_of-times
+shape_of-times c = search rules
 
-returns-3 : tie.Need-returns-3
-returns-3 c = search rules
+returns : tie.Need-returns
+returns c = search rules
 
 pub feed_spec : {M : Type 1} → statement M
 feed_spec =
     tie.close
     (tie.spec
-    load-requires
+    load-found-requires
     within-requires
     refusal-requires
-    same_length
-    returns
-    refusal-requires-2
-    same-length-2
-    returns-2
-    feed-working-requires
-    same-length-3
-    same-length-4
-    same-length-5
-    returns-3)
+    shape_of-state-then-not-within
+    returns-then-not-within
+    refusal-requires-then-found-eq2
+    shape_of-state-then-found-eq2
+    returns-then-found-eq2
+    feed_working-requires
+    shape_of-state
+    shape_of-log
+    shape_of-times
+    returns)

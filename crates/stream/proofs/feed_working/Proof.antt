@@ -14,158 +14,158 @@ use Rattle.stream.proofs.feed_working.Tie as tie
 
 -- the groups that are filled are counted
 abbrev Counted : Type 0
-Counted = tie.After-groups-in
+Counted = tie.After-groups_in-filled
 
 abbrev start : Counted → tie.Start
 start c = c.before.before.before.before.before.before
 
 -- how many entries are asked for
 abbrev Asked : Type 0
-Asked = tie.After-times-of
+Asked = tie.After-times_of
 
-asked : (c : Asked) → c.times-of.result ≡ times_needed (start c.before).args.stand.plan
-    (((start c.before).args.stand.waiting + length (start c.before).args.piece.now) / group_size (start c.before).args.stand.plan)
-asked c = let p = (start c.before).args.stand.plan in c.times-of.ensures ∙ ap (λ (n : ℕ). times_needed p n) c.before.groups-in.ensures
+asked : (c : Asked) → c.times_of.result ≡ times_needed (start c.before).args.stand.plan-1
+    (((start c.before).args.stand.waiting + length (start c.before).args.piece.now) / group_size (start c.before).args.stand.plan-1)
+asked c = let p = (start c.before).args.stand.plan-1 in c.times_of.ensures ∙ ap (λ (n : ℕ). times_needed p n) c.before.groups_in-filled.ensures
 
 -- there are as many, and the size of a group is known
 abbrev Sized : Type 0
-Sized = tie.After-group-words
+Sized = tie.After-group_words
 
 abbrev from : Sized → tie.Start
 from d = start d.before.before.before
 
-enough : (d : Sized) → times_needed (from d).args.stand.plan (((from d).args.stand.waiting + length (from d).args.piece.now) / group_size (from d).args.stand.plan) ≤ length
-    (from d).args.times.now
-enough d = omega (arith, asked d.before.before, d.before.if1.false)
+enough : (d : Sized) → times_needed (from d).args.stand.plan-1 (((from d).args.stand.waiting + length (from d).args.piece.now) / group_size (from d).args.stand.plan-1) ≤ length
+    (from d).args.times-1.now
+enough d = omega (arith, asked d.before.before, d.before.if-times-times_of.false)
 
-counts : (d : Sized) → (from d).args.stand.groups * (3 * d.group_words.result) ≡ (from d).args.stand.groups * group_size (from d).args.stand.plan
+counts : (d : Sized) → (from d).args.stand.groups * (3 * d.group_words.result) ≡ (from d).args.stand.groups * group_size (from d).args.stand.plan-1
 counts d = ap (λ (n : ℕ). (from d).args.stand.groups * (3 * n)) d.group_words.ensures.0
 
 -- ---- the needs
 
-add-groups-in : tie.Need-overflow-add-groups-in
-add-groups-in c = search rules
+overflow_add-waiting : tie.Need-overflow_add-waiting
+overflow_add-waiting c = search rules
 
-groups-in-requires : tie.Need-groups-in-requires
-groups-in-requires c κs = let s = c.before.before.before.before.before in
-    (s.requires.work.shape, omega (arith, s.requires.short, s.requires.work.part, group_most s.args.stand.plan s.requires.work.shape))
+groups_in-filled-requires : tie.Need-groups_in-filled-requires
+groups_in-filled-requires c κs = let s = c.before.before.before.before.before in
+    (s.requires.work.shape, omega (arith, s.requires.short, s.requires.work.part, group_most s.args.stand.plan-1 s.requires.work.shape))
 
-times-of-requires : tie.Need-times-of-requires
-times-of-requires c κs = search rules
+times_of-requires : tie.Need-times_of-requires
+times_of-requires c κs = search rules
 
 refusal-requires : tie.Need-refusal-requires
 refusal-requires c κs = search rules
 
-returns : tie.Need-returns
-returns c =
+returns-then-times-times_of : tie.Need-returns-then-times-times_of
+returns-then-times-times_of c =
     let q = c.before.before in
     let s = start q.before in
     let a = s.args in
-    unread_leaves a.state.now a.log.now a.times.now
-    (short-entries a.state.now a.stand s.pre.work a.piece.now (length a.log.now) (length a.times.now) s.pre.short (omega (arith, asked q, c.before.if1.true)))
+    unread_leaves a.state-1.now a.log-1.now a.times-1.now
+    (short-entries a.state-1.now a.stand s.pre.work a.piece.now (length a.log-1.now) (length a.times-1.now) s.pre.short (omega (arith, asked q, c.before.if-times-times_of.true)))
     c.refusal.ensures
 
-group-words-requires : tie.Need-group-words-requires
-group-words-requires c κs = search rules
+group_words-requires : tie.Need-group_words-requires
+group_words-requires c κs = search rules
 
-mul-count : tie.Need-overflow-mul-count
-mul-count c = search rules
+overflow_mul-count : tie.Need-overflow_mul-count
+overflow_mul-count c = search rules
 
-mul-count-2 : tie.Need-overflow-mul-count-2
-mul-count-2 c = let d = c.before in let s = from d in omega (arith, counts d, s.pre.work.count, s.pre.short)
+overflow_mul-count-2 : tie.Need-overflow_mul-count-2
+overflow_mul-count-2 c = let d = c.before in let s = from d in omega (arith, counts d, s.pre.work.count, s.pre.short)
 
-add-count : tie.Need-overflow-add-count
-add-count c = let d = c.before in let s = from d in omega (arith, counts d, s.pre.work.count, s.pre.short)
+overflow_add-count : tie.Need-overflow_add-count
+overflow_add-count c = let d = c.before in let s = from d in omega (arith, counts d, s.pre.work.count, s.pre.short)
 
-add-if2 : tie.Need-overflow-add-if2
-add-if2 c = let d = c.before in let s = from d in omega (arith, counts d, s.pre.work.count, s.pre.short)
+overflow_add-count-2 : tie.Need-overflow_add-count-2
+overflow_add-count-2 c = let d = c.before in let s = from d in omega (arith, counts d, s.pre.work.count, s.pre.short)
 
-refusal-requires-2 : tie.Need-refusal-requires-2
-refusal-requires-2 c κs = search rules
+refusal-requires-then-count-piece-gt1099511627776 : tie.Need-refusal-requires-then-count-piece-gt1099511627776
+refusal-requires-then-count-piece-gt1099511627776 c κs = search rules
 
-returns-2 : tie.Need-returns-2
-returns-2 c =
+returns-then-count-piece-gt1099511627776 : tie.Need-returns-then-count-piece-gt1099511627776
+returns-then-count-piece-gt1099511627776 c =
     let d = c.before.before.before in
     let s = from d in
     let a = s.args in
-    unread_leaves a.state.now a.log.now a.times.now
-    (crossed a.state.now a.stand s.pre.work a.piece.now (length a.log.now) (length a.times.now) s.pre.short s.pre.roomy (enough d) _
-    (ap (λ (n : ℕ). n + a.stand.waiting) (counts d)) c.before.if2.true)
-    c.refusal2.ensures
+    unread_leaves a.state-1.now a.log-1.now a.times-1.now
+    (crossed a.state-1.now a.stand s.pre.work a.piece.now (length a.log-1.now) (length a.times-1.now) s.pre.short s.pre.roomy (enough d) _
+    (ap (λ (n : ℕ). n + a.stand.waiting) (counts d)) c.before.if-count-piece-gt1099511627776.true)
+    c.refusal-then-count-piece-gt1099511627776.ensures
 
 keep-requires : tie.Need-keep-requires
 keep-requires c κs =
     let d = c.before.before.before.before in
     let s = from d in
     let a = s.args in
-    piece_waits a.state.now a.stand s.pre.work a.piece.now _ d.before.before.before.groups-in.ensures c.before.if3.true
+    piece_waits a.state-1.now a.stand s.pre.work a.piece.now _ d.before.before.before.groups_in-filled.ensures c.before.if-filled-eq0.true
 
-refusal-requires-3 : tie.Need-refusal-requires-3
-refusal-requires-3 c κs = search rules
+refusal-requires-then-filled-eq0 : tie.Need-refusal-requires-then-filled-eq0
+refusal-requires-then-filled-eq0 c κs = search rules
 
-same_length : tie.Need-same-length
-same_length c = search rules
+shape_of-state-then-filled-eq0 : tie.Need-shape_of-state-then-filled-eq0
+shape_of-state-then-filled-eq0 c = search rules
 
-returns-3 : tie.Need-returns-3
-returns-3 c =
+returns-then-filled-eq0 : tie.Need-returns-then-filled-eq0
+returns-then-filled-eq0 c =
     let d = c.before.before.before.before.before.before.before.before in
     let s = from d in
     let a = s.args in
-    let small : a.stand.groups * group_size a.stand.plan + a.stand.waiting + length a.piece.now ≤ most_bytes = omega
-    (arith, counts d, c.before.before.before.before.before.before.if2.false) in
-    piece_kept a.state.now a.stand s.pre.work a.piece.now a.log.now a.times.now _ _ d.before.before.before.groups-in.ensures
-    c.before.before.before.before.before.if3.true
-    (fed-bytes a.state.now a.stand s.pre.work a.piece.now (length a.log.now) (length a.times.now) s.pre.short s.pre.roomy (enough d) small)
-    c.refusal3.ensures c.before.before.before.keep.ensures
+    let small : a.stand.groups * group_size a.stand.plan-1 + a.stand.waiting + length a.piece.now ≤ most_bytes = omega
+    (arith, counts d, c.before.before.before.before.before.before.if-count-piece-gt1099511627776.false) in
+    piece_kept a.state-1.now a.stand s.pre.work a.piece.now a.log-1.now a.times-1.now _ _ d.before.before.before.groups_in-filled.ensures
+    c.before.before.before.before.before.if-filled-eq0.true
+    (fed-bytes a.state-1.now a.stand s.pre.work a.piece.now (length a.log-1.now) (length a.times-1.now) s.pre.short s.pre.roomy (enough d) small)
+    c.refusal-then-filled-eq0.ensures c.before.before.before.keep.ensures
 
-feed-groups-requires : tie.Need-feed-groups-requires
-feed-groups-requires c κs =
+feed_groups-requires : tie.Need-feed_groups-requires
+feed_groups-requires c κs =
     let d = c.before.before.before.before.before.before in
     let s = from d in
     let a = s.args in
-    let e = d.before.before.before.groups-in.ensures in
+    let e = d.before.before.before.groups_in-filled.ensures in
     record {
       fed = s.pre;
       whole = e;
-      some = omega (arith, c.before.before.before.if3.false);
+      some = omega (arith, c.before.before.before.if-filled-eq0.false);
       timed = rw e (enough d);
-      size = omega (arith, counts d, c.before.before.before.before.if2.false);
+      size = omega (arith, counts d, c.before.before.before.before.if-count-piece-gt1099511627776.false);
     }
 
-same-length-2 : tie.Need-same-length-2
-same-length-2 c = search rules
+shape_of-state : tie.Need-shape_of-state
+shape_of-state c = search rules
 
-same-length-3 : tie.Need-same-length-3
-same-length-3 c = search rules
+shape_of-log : tie.Need-shape_of-log
+shape_of-log c = search rules
 
-same-length-4 : tie.Need-same-length-4
-same-length-4 c = search rules
+shape_of-times : tie.Need-shape_of-times
+shape_of-times c = search rules
 
-returns-4 : tie.Need-returns-4
-returns-4 c = search rules
+returns : tie.Need-returns
+returns c = search rules
 
 pub feed_working_spec : {M : Type 1} → statement M
 feed_working_spec =
     tie.close
     (tie.spec
-    add-groups-in
-    groups-in-requires
-    times-of-requires
+    overflow_add-waiting
+    groups_in-filled-requires
+    times_of-requires
     refusal-requires
-    returns
-    group-words-requires
-    mul-count
-    mul-count-2
-    add-count
-    add-if2
-    refusal-requires-2
-    returns-2
+    returns-then-times-times_of
+    group_words-requires
+    overflow_mul-count
+    overflow_mul-count-2
+    overflow_add-count
+    overflow_add-count-2
+    refusal-requires-then-count-piece-gt1099511627776
+    returns-then-count-piece-gt1099511627776
     keep-requires
-    refusal-requires-3
-    same_length
-    returns-3
-    feed-groups-requires
-    same-length-2
-    same-length-3
-    same-length-4
-    returns-4)
+    refusal-requires-then-filled-eq0
+    shape_of-state-then-filled-eq0
+    returns-then-filled-eq0
+    feed_groups-requires
+    shape_of-state
+    shape_of-log
+    shape_of-times
+    returns)

@@ -28,12 +28,12 @@ work s z = at_work s z s.requires.bytes s.requires.says
 
 -- how long it is so far
 abbrev Sized : Type 0
-Sized = tie.After-group-words
+Sized = tie.After-group_words
 
 abbrev start : Sized → tie.Start
 start c = c.before.before.before.before.before.before.before.before
 
-counts : (c : Sized) → (start c).args.found.stand.groups * (3 * c.group_words.result) ≡ (start c).args.found.stand.groups * group_size (start c).args.found.stand.plan
+counts : (c : Sized) → (start c).args.found.stand.groups * (3 * c.group_words.result) ≡ (start c).args.found.stand.groups * group_size (start c).args.found.stand.plan-1
 counts c = ap (λ (n : ℕ). (start c).args.found.stand.groups * (3 * n)) c.group_words.ensures.0
 
 -- ---- the needs
@@ -41,73 +41,73 @@ counts c = ap (λ (n : ℕ). (start c).args.found.stand.groups * (3 * n)) c.grou
 refusal-requires : tie.Need-refusal-requires
 refusal-requires c κs = search rules
 
-returns : tie.Need-returns
-returns c =
+returns-then-found-eq2 : tie.Need-returns-then-found-eq2
+returns-then-found-eq2 c =
     let s = c.before.before.before.before.before in
-    λ b y. shut_failed b s.args.log.now (sym (ap (λ (x : Loaded). x.stage) y.is) ∙ c.before.if1.true) s.requires.roomy
+    λ b y. shut_failed b s.args.log-1.now (sym (ap (λ (x : Loaded). x.stage) y.is) ∙ c.before.if-found-eq2.true) s.requires.roomy
     (c.refusal.ensures ∙ ap (λ (x : Loaded). refusal x.number x.place x.second) y.is)
 
-group-words-requires : tie.Need-group-words-requires
-group-words-requires c κs = (work c.before.before.before.before.before.before.before c.before.before.before.if1.false).shape
+group_words-requires : tie.Need-group_words-requires
+group_words-requires c κs = (work c.before.before.before.before.before.before.before c.before.before.before.if-found-eq2.false).shape
 
-mul-count : tie.Need-overflow-mul-count
-mul-count c = search rules
+overflow_mul-count : tie.Need-overflow_mul-count
+overflow_mul-count c = search rules
 
-mul-count-2 : tie.Need-overflow-mul-count-2
-mul-count-2 c = let w = work c.before.before.before.before.before.before.before.before c.before.before.before.before.if1.false in omega (arith, counts c, w.count)
+overflow_mul-count-then-waiting-ne0 : tie.Need-overflow_mul-count-then-waiting-ne0
+overflow_mul-count-then-waiting-ne0 c = let w = work c.before.before.before.before.before.before.before.before c.before.before.before.before.if-found-eq2.false in omega (arith, counts c, w.count)
 
-add-count : tie.Need-overflow-add-count
-add-count c = let w = work c.before.before.before.before.before.before.before.before c.before.before.before.before.if1.false in omega (arith, counts c, w.count)
+overflow_add-count : tie.Need-overflow_add-count
+overflow_add-count c = let w = work c.before.before.before.before.before.before.before.before c.before.before.before.before.if-found-eq2.false in omega (arith, counts c, w.count)
 
-refusal-requires-2 : tie.Need-refusal-requires-2
-refusal-requires-2 c κs = search rules
+refusal-requires-then-waiting-ne0 : tie.Need-refusal-requires-then-waiting-ne0
+refusal-requires-then-waiting-ne0 c κs = search rules
 
-returns-2 : tie.Need-returns-2
-returns-2 c =
+returns-then-waiting-ne0 : tie.Need-returns-then-waiting-ne0
+returns-then-waiting-ne0 c =
     let s = c.before.before.before.before.before.before.before.before.before in
     let a = s.args in
     let x = a.found.stand in
-    λ b y. shut_part b x (at_work s c.before.before.before.before.before.if1.false b y) a.log.now s.requires.roomy _ c.before.before.if2.true
-    (ap (λ (n : ℕ). n + x.waiting) (counts c.before)) c.refusal2.ensures
+    λ b y. shut_part b x (at_work s c.before.before.before.before.before.if-found-eq2.false b y) a.log-1.now s.requires.roomy _ c.before.before.if-waiting-ne0.true
+    (ap (λ (n : ℕ). n + x.waiting) (counts c.before)) c.refusal-then-waiting-ne0.ensures
 
-cast-t16 : tie.Need-overflow-cast-t16
-cast-t16 c = search rules
+overflow_cast-pen : tie.Need-overflow_cast-pen
+overflow_cast-pen c = search rules
 
-cast-t17 : tie.Need-overflow-cast-t17
-cast-t17 c = search rules
+overflow_cast-pen-2 : tie.Need-overflow_cast-pen-2
+overflow_cast-pen-2 c = search rules
 
-end-log-requires : tie.Need-end-log-requires
-end-log-requires c κs =
+end_log-requires : tie.Need-end_log-requires
+end_log-requires c κs =
     let s = c.before.before.before.before.before.before.before.before.before.before in
     let a = s.args in
-    let z = c.before.before.before.before.before.before.if1.false in
-    shut-whole s.requires.bytes a.found.stand (work s z) a.log.now s.requires.roomy (c.before.before.before.if2.false) a.table.now (s.requires.says.table_is (s.requires.open_stage z))
+    let z = c.before.before.before.before.before.before.if-found-eq2.false in
+    shut-whole s.requires.bytes a.found.stand (work s z) a.log-1.now s.requires.roomy (c.before.before.before.if-waiting-ne0.false) a.table.now (s.requires.says.table_is (s.requires.open_stage z))
 
-same_length : tie.Need-same-length
-same_length c = search rules
+shape_of-log : tie.Need-shape_of-log
+shape_of-log c = search rules
 
-returns-3 : tie.Need-returns-3
-returns-3 c =
+returns : tie.Need-returns
+returns c =
     let s = c.before.before.before.before.before.before.before.before.before.before.before.before.before in
     let a = s.args in
-    let z = c.before.before.before.before.before.before.before.before.before.if1.false in
-    λ b y. shut-ends b a.found.stand (at_work s z b y) a.log.now s.requires.roomy (c.before.before.before.before.before.before.if2.false) a.table.now
-    (y.table_is (s.requires.open_stage z)) c.before.before.end-log.ensures
+    let z = c.before.before.before.before.before.before.before.before.before.if-found-eq2.false in
+    λ b y. shut-ends b a.found.stand (at_work s z b y) a.log-1.now s.requires.roomy (c.before.before.before.before.before.before.if-waiting-ne0.false) a.table.now
+    (y.table_is (s.requires.open_stage z)) c.before.before.end_log.ensures
 
 pub close_on_spec : {M : Type 1} → statement M
 close_on_spec =
     tie.close
     (tie.spec
     refusal-requires
-    returns
-    group-words-requires
-    mul-count
-    mul-count-2
-    add-count
-    refusal-requires-2
-    returns-2
-    cast-t16
-    cast-t17
-    end-log-requires
-    same_length
-    returns-3)
+    returns-then-found-eq2
+    group_words-requires
+    overflow_mul-count
+    overflow_mul-count-then-waiting-ne0
+    overflow_add-count
+    refusal-requires-then-waiting-ne0
+    returns-then-waiting-ne0
+    overflow_cast-pen
+    overflow_cast-pen-2
+    end_log-requires
+    shape_of-log
+    returns)

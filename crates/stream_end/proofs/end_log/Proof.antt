@@ -25,19 +25,19 @@ use Rattle.stream_group.proofs.stored_of.Reads as stored-of-reads
 
 -- what is held is finished, or cut
 abbrev Done : Type 0
-Done = tie.After-finish
+Done = tie.After-finish-step
 
 abbrev start : Done → tie.Start
 start f = f.before.before.before
 
-closes : (f : Done) → Closes (finish (held_of (start f).args.held) (start f).args.since) f.finish.result
+closes : (f : Done) → Closes (finish (held_of (start f).args.held) (start f).args.since) f.finish-step.result
 closes f =
     let s = start f in
-    subst (Closes (finish (held_of s.args.held) s.args.since)) (sym (f.finish.ensures s.args.since)) (finish_means s.args.held s.pre.sane s.args.since)
+    subst (Closes (finish (held_of s.args.held) s.args.since)) (sym (f.finish-step.ensures s.args.since)) (finish_means s.args.held s.pre.sane s.args.since)
 
 -- the earliest notice is known
 abbrev Noted : Type 0
-Noted = tie.After-at-end
+Noted = tie.After-at_end-notice
 
 abbrev done : Noted → Done
 done n = n.before.before.before
@@ -45,87 +45,87 @@ done n = n.before.before.before
 abbrev from : Noted → tie.Start
 from n = start (done n)
 
-notice : (n : Noted) → n.at-end.result ≡ earliest (from n).args.table.now
-notice n = n.at-end.ensures ∙ earliest_is (from n).args.table.now
+notice : (n : Noted) → n.at_end-notice.result ≡ earliest (from n).args.table.now
+notice n = n.at_end-notice.ensures ∙ earliest_is (from n).args.table.now
 
-none : (n : Noted) → n.at-end.result ≡ 0 → earliest (from n).args.table.now ≡ 0
+none : (n : Noted) → n.at_end-notice.result ≡ 0 → earliest (from n).args.table.now ≡ 0
 none n z = sym (notice n) ∙ z
 
 -- ---- the needs
 
-finish-requires : tie.Need-finish-requires
-finish-requires c κs = search rules
+finish-step-requires : tie.Need-finish-step-requires
+finish-step-requires c κs = search rules
 
 refusal-requires : tie.Need-refusal-requires
 refusal-requires c κs = search rules
 
-returns : tie.Need-returns
-returns c =
+returns-then-step : tie.Need-returns-then-step
+returns-then-step c =
     let f = c.before.before in
     let a = (start f).args in
-    ends_cut a.plan a.held a.since a.pen a.table.now a.log.now f.finish.result (closes f) c.before.if1.true c.refusal.ensures
+    ends_cut a.plan a.held a.since a.pen a.table.now a.log-1.now f.finish-step.result (closes f) c.before.if-step.true c.refusal.ensures
 
-is-clear-requires : tie.Need-is-clear-requires
-is-clear-requires c κs = search rules
+is_clear-requires : tie.Need-is_clear-requires
+is_clear-requires c κs = search rules
 
-at-end-requires : tie.Need-at-end-requires
-at-end-requires c κs = (omega (arith, (start c.before.before).requires.long), c.is-clear.ensures)
+at_end-notice-requires : tie.Need-at_end-notice-requires
+at_end-notice-requires c κs = (omega (arith, (start c.before.before).requires.long), c.is_clear.ensures)
 
-stored-of-requires : tie.Need-stored-of-requires
-stored-of-requires c κs =
+stored_of-requires : tie.Need-stored_of-requires
+stored_of-requires c κs =
     let n = c.before in
     let s = from n in
-    let k = stored_ok s.args.plan s.pre.shape s.args.groups n.at-end.result s.pre.size c.if2.true
+    let k = stored_ok s.args.plan s.pre.shape s.args.groups n.at_end-notice.result s.pre.size c.if-notice-ne0.true
     (subst (NumberOk s.args.plan s.args.groups) (sym (notice n)) s.pre.waits) in
     (s.pre.shape, k.some, k.dealt, k.low)
 
-refusal-requires-2 : tie.Need-refusal-requires-2
-refusal-requires-2 c κs = search rules
+refusal-requires-then-notice-ne0 : tie.Need-refusal-requires-then-notice-ne0
+refusal-requires-then-notice-ne0 c κs = search rules
 
-returns-2 : tie.Need-returns-2
-returns-2 c =
+returns-then-notice-ne0 : tie.Need-returns-then-notice-ne0
+returns-then-notice-ne0 c =
     let n = c.before.before.before in
     let f = done n in
     let a = (start f).args in
-    ends_open a.plan a.held a.since a.pen a.table.now a.log.now f.finish.result (closes f) n.before.before.if1.false n.at-end.result (notice n)
-    c.before.before.if2.true
-    (c.refusal2.ensures ∙ ap (λ (q : ℕ). refusal 15 q 0) c.before.Stored-of.ensures)
+    ends_open a.plan a.held a.since a.pen a.table.now a.log-1.now f.finish-step.result (closes f) n.before.before.if-step.false n.at_end-notice.result (notice n)
+    c.before.before.if-notice-ne0.true
+    (c.refusal-then-notice-ne0.ensures ∙ ap (λ (q : ℕ). refusal 15 q 0) c.before.Stored-of.ensures)
 
-put-end-requires : tie.Need-put-end-requires
-put-end-requires c κs =
+put_end-requires : tie.Need-put_end-requires
+put_end-requires c κs =
     let n = c.before.before in
     let f = done n in
     let s = start f in
     let a = s.args in (
-      ends_last a.plan a.held a.since a.pen a.table.now a.log.now f.finish.result (closes f) n.before.before.if1.false (none n c.before.if2.false) s.pre.bits
+      ends_last a.plan a.held a.since a.pen a.table.now a.log-1.now f.finish-step.result (closes f) n.before.before.if-step.false (none n c.before.if-notice-ne0.false) s.pre.bits
           s.pre.few,
       s.pre.room,
     )
 
-same_length : tie.Need-same-length
-same_length c = search rules
+shape_of-log : tie.Need-shape_of-log
+shape_of-log c = search rules
 
-returns-3 : tie.Need-returns-3
-returns-3 c =
+returns : tie.Need-returns
+returns c =
     let k = c.before.before in
     let n = k.before.before.before in
     let f = done n in
     let a = (start f).args in
-    ends-put a.plan a.held a.since a.pen a.table.now a.log.now f.finish.result (closes f) n.before.before.if1.false (none n k.before.before.if2.false)
-    k.put-end.ensures
+    ends-put a.plan a.held a.since a.pen a.table.now a.log-1.now f.finish-step.result (closes f) n.before.before.if-step.false (none n k.before.before.if-notice-ne0.false)
+    k.put_end.ensures
 
 pub end_log_spec : {M : Type 1} → statement M
 end_log_spec =
     tie.close
     (tie.spec
-    finish-requires
+    finish-step-requires
     refusal-requires
-    returns
-    is-clear-requires
-    at-end-requires
-    stored-of-requires
-    refusal-requires-2
-    returns-2
-    put-end-requires
-    same_length
-    returns-3)
+    returns-then-step
+    is_clear-requires
+    at_end-notice-requires
+    stored_of-requires
+    refusal-requires-then-notice-ne0
+    returns-then-notice-ne0
+    put_end-requires
+    shape_of-log
+    returns)

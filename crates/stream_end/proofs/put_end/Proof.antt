@@ -20,7 +20,7 @@ use Rattle.log_write.proofs.Pen.close.Reads as close-reads
 
 -- the item is put
 abbrev Put : Type 0
-Put = tie.After-put-step
+Put = tie.After-put_step-last
 
 abbrev start : Put → tie.Start
 start k = k.before.before.before
@@ -30,7 +30,7 @@ last s = s.requires.0
 
 -- the end mark too
 abbrev Closed : Type 0
-Closed = tie.After-close
+Closed = tie.After-close-bytes
 
 abbrev put : Closed → Put
 put e = e.before.before.before
@@ -38,19 +38,19 @@ put e = e.before.before.before
 abbrev from : Closed → tie.Start
 from e = start (put e)
 
-size : (e : Closed) → e.close.result ≡ closed_size (step_pen (from e).args.pen (from e).args.step)
-size e = e.close.ensures.0 ∙ ap closed_size (put e).put_step.ensures.0
+size : (e : Closed) → e.close-bytes.result ≡ closed_size (step_pen (from e).args.pen (from e).args.step)
+size e = e.close-bytes.ensures.0 ∙ ap closed_size (put e).put_step-last.ensures.0
 
-few : (e : Closed) → e.close.result ≤ 7
+few : (e : Closed) → e.close-bytes.result ≤ 7
 few e =
     let s = from e in
     let l = last s in
     omega (arith, size e, last_size s.args.pen l.bits s.args.step l.items l.brings [], l.few)
 
-built : (e : Closed) → e.close.new.1.0 ≡ closed_in (step_out (replicate 16 0) (from e).args.pen (from e).args.step) (step_pen (from e).args.pen (from e).args.step)
-built e = e.close.ensures.1 ∙ ap₂ closed_in (put e).put_step.ensures.1 (put e).put_step.ensures.0
+built : (e : Closed) → e.close-bytes.new.1.0 ≡ closed_in (step_out (replicate 16 0) (from e).args.pen (from e).args.step) (step_pen (from e).args.pen (from e).args.step)
+built e = e.close-bytes.ensures.1 ∙ ap₂ closed_in (put e).put_step-last.ensures.1 (put e).put_step-last.ensures.0
 
-long : (e : Closed) → length e.close.new.1.0 ≡ 16
+long : (e : Closed) → length e.close-bytes.new.1.0 ≡ 16
 long e =
     let s = from e in
     let l = last s in
@@ -58,46 +58,46 @@ long e =
 
 -- ---- the needs
 
-slice-aggregate-put-step : tie.Need-slice-aggregate-put-step
-slice-aggregate-put-step c = search rules
+slice_bounds-put_step-end : tie.Need-slice_bounds-put_step-end
+slice_bounds-put_step-end c = search rules
 
-put-step-requires : tie.Need-put-step-requires
-put-step-requires c κs = search rules
+put_step-last-requires : tie.Need-put_step-last-requires
+put_step-last-requires c κs = search rules
 
-slice-aggregate-close : tie.Need-slice-aggregate-close
-slice-aggregate-close c = search rules
+slice_bounds-close-end : tie.Need-slice_bounds-close-end
+slice_bounds-close-end c = search rules
 
-close-requires : tie.Need-close-requires
-close-requires c κs =
+close-bytes-requires : tie.Need-close-bytes-requires
+close-bytes-requires c κs =
     let k = c.before.before in
     let s = start k in
     let l = last s in
-    rw k.put_step.ensures.0 (omega (arith, few_bits s.args.pen l.bits s.args.step l.items l.brings []))
+    rw k.put_step-last.ensures.0 (omega (arith, few_bits s.args.pen l.bits s.args.step l.items l.brings []))
 
-slice-aggregate-copy : tie.Need-slice-aggregate-copy
-slice-aggregate-copy c = search rules
+slice_bounds-copy-end : tie.Need-slice_bounds-copy-end
+slice_bounds-copy-end c = search rules
 
 copy-requires : tie.Need-copy-requires
 copy-requires c κs = let e = c.before.before.before in (omega (arith, few e, (from e).requires.1), omega (arith, few e, long e))
 
-same_length : tie.Need-same-length
-same_length c = search rules
+shape_of-log : tie.Need-shape_of-log
+shape_of-log c = search rules
 
 returns : tie.Need-returns
 returns c =
     let e = c.before.before.before.before.before.before in
     let s = from e in
-    λ is b. last_put s.args.pen (last s).bits s.args.step is b (replicate 16 0) s.args.log.now refl (built e) (size e) (few e) refl c.before.before.copy.ensures
+    λ is b. last_put s.args.pen (last s).bits s.args.step is b (replicate 16 0) s.args.log-1.now refl (built e) (size e) (few e) refl c.before.before.copy.ensures
 
 pub put_end_spec : {M : Type 1} → statement M
 put_end_spec =
     tie.close
     (tie.spec
-    slice-aggregate-put-step
-    put-step-requires
-    slice-aggregate-close
-    close-requires
-    slice-aggregate-copy
+    slice_bounds-put_step-end
+    put_step-last-requires
+    slice_bounds-close-end
+    close-bytes-requires
+    slice_bounds-copy-end
     copy-requires
-    same_length
+    shape_of-log
     returns)

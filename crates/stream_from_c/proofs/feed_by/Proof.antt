@@ -21,79 +21,79 @@ use Rattle.stream.proofs.feed.Reads as feed-reads
 
 -- so many entries of the row are lent
 abbrev Lent : Type 0
-Lent = tie.After-least
+Lent = tie.After-least-entries
 
 abbrev start : Lent → tie.Start
 start c = c.before.before.before.before.before.before
 
 abbrev entries : Lent → ℕ
-entries c = c.least.result
+entries c = c.least-entries.result
 
 abbrev row : Lent → List ℕ
-row c = (start c).args.row.now
+row c = (start c).args.row-1.now
 
-both : (c : Lent) → (entries c ≤ length (start c).args.times.now / 8) × (entries c ≤ length (row c))
-both c = least_both (length (start c).args.times.now / 8) (length (row c)) (entries c) c.least.ensures
+both : (c : Lent) → (entries c ≤ length (start c).args.times-1.now / 8) × (entries c ≤ length (row c))
+both c = least_both (length (start c).args.times-1.now / 8) (length (row c)) (entries c) c.least-entries.ensures
 
 part_long : (c : Lent) → length (take (entries c) (row c)) ≡ entries c
 part_long c = length-take-le (entries c) (row c) (both c).1
 
 -- the piece was fed
 abbrev Fed : Type 0
-Fed = tie.After-feed
+Fed = tie.After-feed-answer
 
 abbrev lent : Fed → Lent
 lent c = c.before.before.before.before
 
 abbrev outcome : Lent → Outcome
-outcome l = let a = (start l).args in feeding a.state.now a.piece.now (length a.log.now) (length (take (entries l) (row l)))
+outcome l = let a = (start l).args in feeding a.state-1.now a.piece.now (length a.log-1.now) (length (take (entries l) (row l)))
 
-told : (c : Fed) → c.feed.result.times ≡ length (outcome (lent c)).times
+told : (c : Fed) → c.feed-answer.result.times-1 ≡ length (outcome (lent c)).times-1
 told c =
     let l = lent c in
     let a = (start l).args in
-    ap (λ (r : Answer). r.times) c.feed.ensures.answer ∙ told_times a.state.now a.piece.now (length a.log.now) (length (take (entries l) (row l)))
+    ap (λ (r : Answer). r.times-1) c.feed-answer.ensures.answer ∙ told_times a.state-1.now a.piece.now (length a.log-1.now) (length (take (entries l) (row l)))
 
-few : (c : Fed) → c.feed.result.times ≤ entries (lent c)
+few : (c : Fed) → c.feed-answer.result.times-1 ≤ entries (lent c)
 few c =
     let l = lent c in
     let a = (start l).args in
-    omega (arith, told c, times_few a.state.now a.piece.now (length a.log.now) (length (take (entries l) (row l))), part_long l)
+    omega (arith, told c, times_few a.state-1.now a.piece.now (length a.log-1.now) (length (take (entries l) (row l))), part_long l)
 
 -- ---- the needs
 
-least-requires : tie.Need-least-requires
-least-requires c κs = search rules
+least-entries-requires : tie.Need-least-entries-requires
+least-entries-requires c κs = search rules
 
-slice-relend-prefix-feed : tie.Need-slice-relend-prefix-feed
-slice-relend-prefix-feed c = (both c.before.before).1
+slice_bounds-feed-end : tie.Need-slice_bounds-feed-end
+slice_bounds-feed-end c = (both c.before.before).1
 
-slice-aggregate-feed : tie.Need-slice-aggregate-feed
-slice-aggregate-feed c = sym (part_long c.before.before.before)
+slice_bounds-feed-end-2 : tie.Need-slice_bounds-feed-end-2
+slice_bounds-feed-end-2 c = sym (part_long c.before.before.before)
 
-feed-requires : tie.Need-feed-requires
-feed-requires c κs = search rules
+feed-answer-requires : tie.Need-feed-answer-requires
+feed-answer-requires c κs = search rules
 
-put-times-requires : tie.Need-put-times-requires
-put-times-requires c κs =
+put_times-requires : tie.Need-put_times-requires
+put_times-requires c κs =
     let f = c.before.before.before.before.before.before.before.before in
     let l = lent f in
-    let p : List ℕ = f.feed.new.1.1.1.0 in
-    let there : f.feed.result.times ≤ length (p ++ drop (entries l) (row l)) =
-    rw (length-append p (drop (entries l) (row l))) (omega (arith, told f, ap (λ (u : List ℕ). length u) f.feed.ensures.times ∙ length-append (outcome l).times _)) in
+    let p : List ℕ = f.feed-answer.new.1.1.1.0 in
+    let there : f.feed-answer.result.times-1 ≤ length (p ++ drop (entries l) (row l)) =
+    rw (length-append p (drop (entries l) (row l))) (omega (arith, told f, ap (λ (u : List ℕ). length u) f.feed-answer.ensures.times-1 ∙ length-append (outcome l).times-1 _)) in
     (there, omega (arith, few f, (both l).0))
 
-same_length : tie.Need-same-length
-same_length c = search rules
+shape_of-state : tie.Need-shape_of-state
+shape_of-state c = search rules
 
-same-length-2 : tie.Need-same-length-2
-same-length-2 c = search rules
+shape_of-log : tie.Need-shape_of-log
+shape_of-log c = search rules
 
-same-length-3 : tie.Need-same-length-3
-same-length-3 c = search rules
+shape_of-times : tie.Need-shape_of-times
+shape_of-times c = search rules
 
-same-length-4 : tie.Need-same-length-4
-same-length-4 c = search rules
+shape_of-row : tie.Need-shape_of-row
+shape_of-row c = search rules
 
 returns : tie.Need-returns
 returns c =
@@ -101,23 +101,23 @@ returns c =
     let f = c.before.before.before.before.before.before.before.before.before.before.before in
     let l = lent f in
     let a = (start l).args in
-    let e = least_same a.state.now a.piece.now (length a.log.now) (length a.times.now / 8) (length (row l)) (entries l) (start l).pre l.least.ensures
-    ∙ ap (feeding a.state.now a.piece.now (length a.log.now)) (sym (part_long l)) in
+    let e = least_same a.state-1.now a.piece.now (length a.log-1.now) (length a.times-1.now / 8) (length (row l)) (entries l) (start l).pre l.least-entries.ensures
+    ∙ ap (feeding a.state-1.now a.piece.now (length a.log-1.now)) (sym (part_long l)) in
     rw e
-    (leaves_bytes (outcome l) (take (entries l) (row l)) f.feed.new.1.1.1.0 (drop (entries l) (row l)) a.times.now f.feed.ensures t.put-times.ensures
-    (told_times a.state.now a.piece.now (length a.log.now) (length (take (entries l) (row l)))))
+    (leaves_bytes (outcome l) (take (entries l) (row l)) f.feed-answer.new.1.1.1.0 (drop (entries l) (row l)) a.times-1.now f.feed-answer.ensures t.put_times.ensures
+    (told_times a.state-1.now a.piece.now (length a.log-1.now) (length (take (entries l) (row l)))))
 
 pub feed_by_spec : {M : Type 1} → statement M
 feed_by_spec =
     tie.close
     (tie.spec
-    least-requires
-    slice-relend-prefix-feed
-    slice-aggregate-feed
-    feed-requires
-    put-times-requires
-    same_length
-    same-length-2
-    same-length-3
-    same-length-4
+    least-entries-requires
+    slice_bounds-feed-end
+    slice_bounds-feed-end-2
+    feed-answer-requires
+    put_times-requires
+    shape_of-state
+    shape_of-log
+    shape_of-times
+    shape_of-row
     returns)

@@ -3,31 +3,31 @@ use borrow.Author.Rules.{rules}
 use Rattle.stream_from_c.proofs.feed_from.Statement.{statement}
 use Rattle.stream_from_c.proofs.feed_from.Tie as tie
 
-slice-aggregate-feed-by : tie.Need-slice-aggregate-feed-by
-slice-aggregate-feed-by c = search rules
+slice_bounds-feed_by-end : tie.Need-slice_bounds-feed_by-end
+slice_bounds-feed_by-end c = search rules
 
-feed-by-requires : tie.Need-feed-by-requires
-feed-by-requires c κs = refl
+feed_by-requires : tie.Need-feed_by-requires
+feed_by-requires c κs = refl
 
-same_length : tie.Need-same-length
-same_length c = search rules
+shape_of-state : tie.Need-shape_of-state
+shape_of-state c = search rules
 
-same-length-2 : tie.Need-same-length-2
-same-length-2 c = search rules
+shape_of-log : tie.Need-shape_of-log
+shape_of-log c = search rules
 
-same-length-3 : tie.Need-same-length-3
-same-length-3 c = search rules
+shape_of-times : tie.Need-shape_of-times
+shape_of-times c = search rules
 
 returns : tie.Need-returns
-returns c = c.before.before.before.before.before.before.before.feed-by.ensures
+returns c = c.before.before.before.before.before.before.before.feed_by.ensures
 
 pub feed_from_spec : {M : Type 1} → statement M
 feed_from_spec =
     tie.close
     (tie.spec
-    slice-aggregate-feed-by
-    feed-by-requires
-    same_length
-    same-length-2
-    same-length-3
+    slice_bounds-feed_by-end
+    feed_by-requires
+    shape_of-state
+    shape_of-log
+    shape_of-times
     returns)

@@ -13,31 +13,31 @@ use Rattle.stream_group.proofs.place_from.Lts as lts
 use Rattle.group_read.proofs.lead.Reads as lead-reads
 use Rattle.group_read.proofs.place_of.Reads as place-of-reads
 
-returns : tie.Need-returns
-returns c = rw (eq-eqb _ 0 c.if1.true)
+returns-then-number-eq0 : tie.Need-returns-then-number-eq0
+returns-then-number-eq0 c = rw (eq-eqb _ 0 c.if-number-eq0.true)
 
 lead-requires : tie.Need-lead-requires
 lead-requires c κs = search rules
 
-sub-dealt : tie.Need-overflow-sub-dealt
-sub-dealt c = search rules
+overflow_sub-dealt : tie.Need-overflow_sub-dealt
+overflow_sub-dealt c = search rules
 
-add-dealt : tie.Need-overflow-add-dealt
-add-dealt c = omega (arith, c.lead.ensures, c.before.before.requires.1, dealt_in _ c.before.before.requires.0, dealt_most _ c.before.before.requires.0)
+overflow_add-dealt : tie.Need-overflow_add-dealt
+overflow_add-dealt c = omega (arith, c.lead.ensures, c.before.before.requires.1, dealt_in _ c.before.before.requires.0, dealt_most _ c.before.before.requires.0)
 
-place-of-requires : tie.Need-place-of-requires
-place-of-requires c κs = (c.before.before.requires.0, omega (arith, c.lead.ensures, c.before.if1.false, c.before.before.requires.1, dealt_in _ c.before.before.requires.0))
+place_of-requires : tie.Need-place_of-requires
+place_of-requires c κs = (c.before.before.requires.0, omega (arith, c.lead.ensures, c.before.if-number-eq0.false, c.before.before.requires.1, dealt_in _ c.before.before.requires.0))
 
-add-result : tie.Need-overflow-add-result
-add-result c = omega (arith, c.place_of.ensures.1, c.before.before.before.requires.2, group_most _ c.before.before.before.requires.0)
+overflow_add-result : tie.Need-overflow_add-result
+overflow_add-result c = omega (arith, c.place_of.ensures.1, c.before.before.before.requires.2, group_most _ c.before.before.before.requires.0)
 
-returns-2 : tie.Need-returns-2
-returns-2 c =
+returns : tie.Need-returns
+returns c =
     let a = c.before.before.before.args in
-    rw (ne_eqb a.number 0 c.before.before.if1.false)
+    rw (ne_eqb a.number 0 c.before.before.if-number-eq0.false)
     (ap (λ (q : ℕ). a.at + q) (c.place_of.ensures.0 ∙ ap (λ (n : ℕ). place_of a.plan (n + (a.number - 1))) c.before.lead.ensures))
 
 pub place_from_spec : {M : Type 1} → statement M
 place_from_spec =
     tie.close
-    (tie.spec returns lead-requires sub-dealt add-dealt place-of-requires add-result returns-2)
+    (tie.spec returns-then-number-eq0 lead-requires overflow_sub-dealt overflow_add-dealt place_of-requires overflow_add-result returns)

@@ -10,24 +10,24 @@ use Rattle.stream_group.proofs.stored_of.Reads as reads
 use Rattle.stream_group.proofs.stored_of.Lts as lts
 use Rattle.group_read.proofs.place_of.Reads as place-of-reads
 
-sub-dealt : tie.Need-overflow-sub-dealt
-sub-dealt c = search rules
+overflow_sub-dealt : tie.Need-overflow_sub-dealt
+overflow_sub-dealt c = search rules
 
-mul-size : tie.Need-overflow-mul-size
-mul-size c = omega (arith, group_most _ c.before.requires.0)
+overflow_mul-size : tie.Need-overflow_mul-size
+overflow_mul-size c = omega (arith, group_most _ c.before.requires.0)
 
-mul-result : tie.Need-overflow-mul-result
-mul-result c = omega (arith, c.before.requires.3, mul-le-mul_left (c.before.args.number / 2048) (group_most _ c.before.requires.0))
+overflow_mul-result : tie.Need-overflow_mul-result
+overflow_mul-result c = omega (arith, c.before.requires.3, mul-le-mul_left (c.before.args.number / 2048) (group_most _ c.before.requires.0))
 
-place-of-requires : tie.Need-place-of-requires
-place-of-requires c κs = search rules
+place_of-requires : tie.Need-place_of-requires
+place_of-requires c κs = search rules
 
-add-result : tie.Need-overflow-add-result
-add-result c = let s = c.before.before in omega (arith, c.place_of.ensures.1, s.requires.3, mul-le-mul_left (s.args.number / 2048) (group_most _ s.requires.0), group_most _ s.requires.0)
+overflow_add-result : tie.Need-overflow_add-result
+overflow_add-result c = let s = c.before.before in omega (arith, c.place_of.ensures.1, s.requires.3, mul-le-mul_left (s.args.number / 2048) (group_most _ s.requires.0), group_most _ s.requires.0)
 
 returns : tie.Need-returns
 returns c = let s = c.before.before in stored_is s.args.plan s.args.number c.place_of.result s.requires.1 c.place_of.ensures.0
 
 pub stored_of_spec : {M : Type 1} → statement M
 stored_of_spec =
-    tie.close (tie.spec sub-dealt mul-size mul-result place-of-requires add-result returns)
+    tie.close (tie.spec overflow_sub-dealt overflow_mul-size overflow_mul-result place_of-requires overflow_add-result returns)

@@ -24,36 +24,36 @@ use Rattle.stream_group.proofs.take_row.Reads as take-row-reads
 
 -- the words are dealt
 abbrev Dealt : Type 0
-Dealt = tie.After-deal
+Dealt = tie.After-deal-fault
 
 abbrev start : Dealt → tie.Start
 start c = c.before.before.before.before.before.before
 
 bytes : (c : Dealt) (i : ℕ) → get_or (start c).args.group.now i 0 < 2 ^ 8
-bytes c i = omega (arith, c.before.before.before.before.before.shared-slice-known.given i)
+bytes c i = omega (arith, c.before.before.before.before.before.shared_slice_known-1.given i)
 
-abbrev dealt : tie.After-struct-known → Dealt
+abbrev dealt : tie.After-struct_known-1 → Dealt
 dealt c = c.before.before.before
 
 -- without a fault: where the data words begin
 abbrev Led : Type 0
-Led = tie.After-lead
+Led = tie.After-lead-first
 
 abbrev group : Led → Dealt
 group c = dealt c.before.before
 
 abbrev part : Led → List ℕ
 part c =
-    let n = c.lead.result in
-    take (n + (start (group c)).args.count - n) (drop n (group c).deal.new.1.1.0)
+    let n = c.lead-first.result in
+    take (n + (start (group c)).args.count - n) (drop n (group c).deal-fault.new.1.1.0)
 
 part_is : (c : Led) → let a = (start (group c)).args in part c ≡ words_in (group_slots a.plan a.group.now 0)
 part_is c =
-    let d = (group c).deal in
+    let d = (group c).deal-fault in
     let s = start (group c) in
     let a = s.args in
-    own_words a.plan s.pre.0.0 a.group.now d.last.1.1.0 _ s.pre.0.2 (d.ensures.words c.before.if1.false)
-    c.lead.result a.count c.lead.ensures s.pre.0.1
+    own_words a.plan s.pre.0.0 a.group.now d.last.1.1.0 _ s.pre.0.2 (d.ensures.words c.before.if-fault-ne0.false)
+    c.lead-first.result a.count c.lead-first.ensures s.pre.0.1
 
 words_low_in : (c : Led) (i : ℕ) → i < length (part c) → get_or (part c) i 0 < 2 ^ 24
 words_low_in c i l =
@@ -62,65 +62,65 @@ words_low_in c i l =
     subst (λ (ws : List ℕ). get_or ws i 0 < 2 ^ 24) (sym (part_is c)) (words_low a.plan a.group.now 0 (bytes (group c)) i h)
 
 -- its row is read
-abbrev led : tie.After-take-row-arg3 → Led
+abbrev led : tie.After-take_row-arg-3-1 → Led
 led c = c.before.before.before.before
 
 -- ---- the needs
 
-deal-requires : tie.Need-deal-requires
-deal-requires c κs = search rules
+deal-fault-requires : tie.Need-deal-fault-requires
+deal-fault-requires c κs = search rules
 
-mul_at : tie.Need-overflow-mul-at
-mul_at c = search rules
+overflow_mul-at : tie.Need-overflow_mul-at
+overflow_mul-at c = search rules
 
-mul-at-2 : tie.Need-overflow-mul-at-2
-mul-at-2 c = search rules
+overflow_mul-at-then-fault-ne0 : tie.Need-overflow_mul-at-then-fault-ne0
+overflow_mul-at-then-fault-ne0 c = search rules
 
-add-stops : tie.Need-overflow-add-stops
-add-stops c =
+overflow_add-at : tie.Need-overflow_add-at
+overflow_add-at c =
     let d = dealt c.before.before in
     let s = start d in
     let h = s.pre.0.0 in
-    omega (arith, at_low _ h s.args.index s.pre.1.2, place_low _ _ h d.deal.ensures.fault, group_most _ h)
+    omega (arith, at_low _ h s.args.index s.pre.1.2, place_low _ _ h d.deal-fault.ensures.fault, group_most _ h)
 
 stops-requires : tie.Need-stops-requires
 stops-requires c κs = search rules
 
-same_length : tie.Need-same-length
-same_length c = search rules
+shape_of-row-then-fault-ne0 : tie.Need-shape_of-row-then-fault-ne0
+shape_of-row-then-fault-ne0 c = search rules
 
-returns : tie.Need-returns
-returns c =
+returns-then-fault-ne0 : tie.Need-returns-then-fault-ne0
+returns-then-fault-ne0 c =
     let t = c.before.before in
     let d = dealt t.before in
-    took_stops d.deal.result.number _ 0 c.stops.ensures t.if1.true
-    (group_stops _ _ _ _ _ _ _ (number_found _ _ (start d).pre.0.0 d.deal.ensures.fault t.if1.true))
+    took_stops d.deal-fault.result.number _ 0 c.stops.ensures t.if-fault-ne0.true
+    (group_stops _ _ _ _ _ _ _ (number_found _ _ (start d).pre.0.0 d.deal-fault.ensures.fault t.if-fault-ne0.true))
 
-lead-requires : tie.Need-lead-requires
-lead-requires c κs = search rules
+lead-first-requires : tie.Need-lead-first-requires
+lead-first-requires c κs = search rules
 
-add-behind : tie.Need-overflow-add-behind
-add-behind c =
+overflow_add-behind : tie.Need-overflow_add-behind
+overflow_add-behind c =
     let s = start (group c) in
-    omega (arith, c.lead.ensures, lead_few s.args.plan, s.pre.0.1, slots_most _ s.pre.0.0)
+    omega (arith, c.lead-first.ensures, lead_few s.args.plan, s.pre.0.1, slots_most _ s.pre.0.0)
 
-mul-take-row : tie.Need-overflow-mul-take-row
-mul-take-row c = omega (arith, c.lead.ensures, lead_few (start (group c)).args.plan)
+offset_bounds-row-first : tie.Need-offset_bounds-row-first
+offset_bounds-row-first c = omega (arith, c.lead-first.ensures, lead_few (start (group c)).args.plan)
 
-sub-take-row : tie.Need-overflow-sub-take-row
-sub-take-row c = search rules
+slice_bounds-take_row-count : tie.Need-slice_bounds-take_row-count
+slice_bounds-take_row-count c = search rules
 
-part-take-row-start : tie.Need-slice-bounds-take-row-start
-part-take-row-start c = search rules
+slice_bounds-take_row-start : tie.Need-slice_bounds-take_row-start
+slice_bounds-take_row-start c = search rules
 
-part-take-row-end : tie.Need-slice-bounds-take-row-end
-part-take-row-end c =
+slice_bounds-take_row-end : tie.Need-slice_bounds-take_row-end
+slice_bounds-take_row-end c =
     let l = c.before in
     let s = start (group l) in
-    omega (arith, l.lead.ensures, s.pre.0.1, s.pre.0.3, (group l).deal.ensures.long, dealt_in _ s.pre.0.0)
+    omega (arith, l.lead-first.ensures, s.pre.0.1, s.pre.0.3, (group l).deal-fault.ensures.long, dealt_in _ s.pre.0.0)
 
-take-row-requires : tie.Need-take-row-requires
-take-row-requires c κs =
+take_row-requires : tie.Need-take_row-requires
+take_row-requires c κs =
     let l = led c in
     let s = start (group l) in (
       (
@@ -133,42 +133,42 @@ take-row-requires c κs =
       (s.pre.1.0, s.pre.1.1, s.pre.1.2),
     )
 
-same-length-2 : tie.Need-same-length-2
-same-length-2 c = search rules
+shape_of-table : tie.Need-shape_of-table
+shape_of-table c = search rules
 
-same-length-3 : tie.Need-same-length-3
-same-length-3 c = search rules
+shape_of-row : tie.Need-shape_of-row
+shape_of-row c = search rules
 
-same-length-4 : tie.Need-same-length-4
-same-length-4 c = search rules
+shape_of-out : tie.Need-shape_of-out
+shape_of-out c = search rules
 
-returns-2 : tie.Need-returns-2
-returns-2 c =
+returns : tie.Need-returns
+returns c =
     let t = c.before.before.before.before in
     let l = led t.before in
     let d = group l in
-    let n = number_none _ _ (start d).pre.0.0 d.deal.ensures.fault l.before.if1.left in
+    let n = number_none _ _ (start d).pre.0.0 d.deal-fault.ensures.fault l.before.if-fault-ne0.left in
     group_took _ _ _ _ _ _ n (part_is l) t.take_row.ensures
 
 pub take_group_spec : {M : Type 1} → statement M
 take_group_spec =
     tie.close
     (tie.spec
-    deal-requires
-    mul_at
-    mul-at-2
-    add-stops
+    deal-fault-requires
+    overflow_mul-at
+    overflow_mul-at-then-fault-ne0
+    overflow_add-at
     stops-requires
-    same_length
-    returns
-    lead-requires
-    add-behind
-    mul-take-row
-    sub-take-row
-    part-take-row-start
-    part-take-row-end
-    take-row-requires
-    same-length-2
-    same-length-3
-    same-length-4
-    returns-2)
+    shape_of-row-then-fault-ne0
+    returns-then-fault-ne0
+    lead-first-requires
+    overflow_add-behind
+    offset_bounds-row-first
+    slice_bounds-take_row-count
+    slice_bounds-take_row-start
+    slice_bounds-take_row-end
+    take_row-requires
+    shape_of-table
+    shape_of-row
+    shape_of-out
+    returns)

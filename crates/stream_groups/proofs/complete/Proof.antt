@@ -5,43 +5,43 @@ use borrow.Author.Rules.{rules}
 use Rattle.stream_groups.proofs.complete.Statement.{statement}
 use Rattle.stream_groups.proofs.complete.Tie as tie
 
-add_begin : tie.Need-overflow-add-begin
-add_begin c = search rules
+overflow_add-begin : tie.Need-overflow_add-begin
+overflow_add-begin c = search rules
 
-add-end : tie.Need-overflow-add-end
-add-end c = search rules
+overflow_add-end : tie.Need-overflow_add-end
+overflow_add-end c = search rules
 
-sub-copy : tie.Need-overflow-sub-copy
-sub-copy c = search rules
+slice_bounds-copy-count : tie.Need-slice_bounds-copy-count
+slice_bounds-copy-count c = search rules
 
-part-copy-start : tie.Need-slice-bounds-copy-start
-part-copy-start c = search rules
+slice_bounds-copy-start : tie.Need-slice_bounds-copy-start
+slice_bounds-copy-start c = search rules
 
-part-copy-end : tie.Need-slice-bounds-copy-end
-part-copy-end c = search rules
+slice_bounds-copy-end : tie.Need-slice_bounds-copy-end
+slice_bounds-copy-end c = search rules
 
 copy-requires : tie.Need-copy-requires
 copy-requires c κs = search rules
 
-same_length : tie.Need-same-length
-same_length c = search rules
+shape_of-state : tie.Need-shape_of-state
+shape_of-state c = search rules
 
 returns : tie.Need-returns
 returns c =
     let k = c.before.before in
     let a = k.before.before.before.before.args in
     let p = k.before.before.before.before.requires in
-    copy_laid a.piece.now (1024 + a.waiting) a.front a.state.now _ p.2 (omega (arith, p.0, p.1)) k.copy.ensures
+    copy_laid a.piece.now (1024 + a.waiting) a.front a.state-1.now _ p.2 (omega (arith, p.0, p.1)) k.copy.ensures
 
 pub complete_spec : {M : Type 1} → statement M
 complete_spec =
     tie.close
     (tie.spec
-    add_begin
-    add-end
-    sub-copy
-    part-copy-start
-    part-copy-end
+    overflow_add-begin
+    overflow_add-end
+    slice_bounds-copy-count
+    slice_bounds-copy-start
+    slice_bounds-copy-end
     copy-requires
-    same_length
+    shape_of-state
     returns)

@@ -14,131 +14,131 @@ use Rattle.stream_groups.proofs.feed_in.Tie as tie
 
 -- ---- the places
 
-abbrev filled : (s : tie.Start) → Filled s.args.state.now s.args.stand s.args.table.now s.args.piece.now (length s.args.log.now) (length s.args.times.now)
+abbrev filled : (s : tie.Start) → Filled s.args.state-1.now s.args.stand s.args.table-1.now s.args.piece.now (length s.args.log-1.now) (length s.args.times-1.now)
     s.args.filled
 filled s = s.requires.0
 
 -- the groups are sized
 abbrev Sized : Type 0
-Sized = tie.After-group-words
+Sized = tie.After-group_words
 
 abbrev start : Sized → tie.Start
 start c = c.before.before.before.before.before.before.before.before.before
 
-ends_are : (c : Sized) → (start c).args.filled * (3 * c.group_words.result) ≡ (start c).args.filled * group_size (start c).args.stand.plan
+ends_are : (c : Sized) → (start c).args.filled * (3 * c.group_words.result) ≡ (start c).args.filled * group_size (start c).args.stand.plan-1
 ends_are c = ap (λ (n : ℕ). (start c).args.filled * (3 * n)) c.group_words.ensures.0
 
 in_piece : (c : Sized) → (start c).args.filled * (3 * c.group_words.result) ≤ (start c).args.stand.waiting + length (start c).args.piece.now
-in_piece c = let s = start c in let a = s.args in omega (arith, ends_are c, filled_in a.state.now a.stand a.table.now a.piece.now _ _ a.filled (filled s))
+in_piece c = let s = start c in let a = s.args in omega (arith, ends_are c, filled_in a.state-1.now a.stand a.table-1.now a.piece.now _ _ a.filled (filled s))
 
 -- the groups are taken
 abbrev Through : Type 0
-Through = tie.After-through
+Through = tie.After-through-along
 
 abbrev sized : Through → Sized
 sized t = t.before.before.before.before.before.before.before.before.before.before
 
-goes : (t : Through) → Goes (start (sized t)).args.stand.plan (kinds_at (start (sized t)).args.state.now)
-    (total (start (sized t)).args.state.now (start (sized t)).args.stand (start (sized t)).args.table.now (start (sized t)).args.piece.now (length (start (sized t)).args.log.now)
-    (length (start (sized t)).args.times.now) (start (sized t)).args.filled (filled (start (sized t)))) (start_of (start (sized t)).args.stand) t.through.result
-    t.through.new.1.1.1.1.0 (start (sized t)).args.log.now t.through.new.1.1.1.1.1.1.1.1.0 (start (sized t)).args.times.now
-    t.through.new.1.1.1.1.1.1.1.1.1.0
-goes t = rw t.before.before.before.before.before.before.before.kinds-at.ensures at t.through.ensures
+goes : (t : Through) → Goes (start (sized t)).args.stand.plan-1 (kinds_at (start (sized t)).args.state-1.now)
+    (total (start (sized t)).args.state-1.now (start (sized t)).args.stand (start (sized t)).args.table-1.now (start (sized t)).args.piece.now (length (start (sized t)).args.log-1.now)
+    (length (start (sized t)).args.times-1.now) (start (sized t)).args.filled (filled (start (sized t)))) (start_of (start (sized t)).args.stand) t.through-along.result
+    t.through-along.new.1.1.1.1.0 (start (sized t)).args.log-1.now t.through-along.new.1.1.1.1.1.1.1.1.0 (start (sized t)).args.times-1.now
+    t.through-along.new.1.1.1.1.1.1.1.1.1.0
+goes t = rw t.before.before.before.before.before.before.before.kinds_at-kinds.ensures at t.through-along.ensures
 
 tail : (t : Through) → take (length (start (sized t)).args.piece.now - ((start (sized t)).args.filled * (3 * (sized t).group_words.result) - (start (sized t)).args.stand.waiting))
     (drop ((start (sized t)).args.filled * (3 * (sized t).group_words.result) - (start (sized t)).args.stand.waiting) (start (sized t)).args.piece.now)
-    ≡ drop ((start (sized t)).args.filled * group_size (start (sized t)).args.stand.plan - (start (sized t)).args.stand.waiting) (start (sized t)).args.piece.now
+    ≡ drop ((start (sized t)).args.filled * group_size (start (sized t)).args.stand.plan-1 - (start (sized t)).args.stand.waiting) (start (sized t)).args.piece.now
 tail t = let a = (start (sized t)).args in tail_is a.piece.now _ _ (ap (λ (n : ℕ). n - a.stand.waiting) (ends_are (sized t)))
 
 -- ---- the needs
 
-group-words-requires : tie.Need-group-words-requires
-group-words-requires c κs = search rules
+group_words-requires : tie.Need-group_words-requires
+group_words-requires c κs = search rules
 
-mul-begin : tie.Need-overflow-mul-begin
-mul-begin c = search rules
+overflow_mul-begin : tie.Need-overflow_mul-begin
+overflow_mul-begin c = search rules
 
-mul-begin-2 : tie.Need-overflow-mul-begin-2
-mul-begin-2 c = let s = start c in omega (arith, in_piece c, (filled s).fed.short, (filled s).fed.work.part, group_most s.args.stand.plan (filled s).fed.work.shape)
+overflow_mul-begin-2 : tie.Need-overflow_mul-begin-2
+overflow_mul-begin-2 c = let s = start c in omega (arith, in_piece c, (filled s).fed.short, (filled s).fed.work.part, group_most s.args.stand.plan-1 (filled s).fed.work.shape)
 
-sub-begin : tie.Need-overflow-sub-begin
-sub-begin c =
+overflow_sub-begin : tie.Need-overflow_sub-begin
+overflow_sub-begin c =
     let d = c.before in
     let s = start d in
     let a = s.args in
-    omega (arith, ends_are d, (filled s).fed.work.part, one_filled a.state.now a.stand a.table.now a.piece.now _ _ a.filled (filled s))
+    omega (arith, ends_are d, (filled s).fed.work.part, one_filled a.state-1.now a.stand a.table-1.now a.piece.now _ _ a.filled (filled s))
 
-kinds-at-requires : tie.Need-kinds-at-requires
-kinds-at-requires c κs = search rules
+kinds_at-kinds-requires : tie.Need-kinds_at-kinds-requires
+kinds_at-kinds-requires c κs = search rules
 
-through-requires : tie.Need-through-requires
-through-requires c κs = search rules
+through-along-requires : tie.Need-through-along-requires
+through-along-requires c κs = search rules
 
-sub-end-feed : tie.Need-overflow-sub-end-feed
-sub-end-feed c = omega (arith, in_piece (sized c.before.before.before.before.before.before.before.before.before.before.before.before.before.before))
+slice_bounds-end_feed-count : tie.Need-slice_bounds-end_feed-count
+slice_bounds-end_feed-count c = omega (arith, in_piece (sized c.before.before.before.before.before.before.before.before.before.before.before.before.before.before))
 
-part-end-feed-start : tie.Need-slice-bounds-end-feed-start
-part-end-feed-start c = omega (arith, in_piece (sized c.before.before.before.before.before.before.before.before.before.before.before.before.before.before))
+slice_bounds-end_feed-start : tie.Need-slice_bounds-end_feed-start
+slice_bounds-end_feed-start c = omega (arith, in_piece (sized c.before.before.before.before.before.before.before.before.before.before.before.before.before.before))
 
-part-end-feed-end : tie.Need-slice-bounds-end-feed-end
-part-end-feed-end c = search rules
+slice_bounds-end_feed-end : tie.Need-slice_bounds-end_feed-end
+slice_bounds-end_feed-end c = search rules
 
-end-feed-requires : tie.Need-end-feed-requires
-end-feed-requires c κs =
+end_feed-requires : tie.Need-end_feed-requires
+end_feed-requires c κs =
     let t = c.before.before.before.before.before.before.before.before.before.before.before.before.before.before.before in
     let s = start (sized t) in
     let a = s.args in
     let F = filled s in
-    rw t.before.before.before.before.before.before.before.kinds-at.ensures (
-      c.before.before.before.before.before.before.before.before.before.before.before.before.before.before.state.given ∙ F.fed.work.long,
+    rw t.before.before.before.before.before.before.before.kinds_at-kinds.ensures (
+      c.before.before.before.before.before.before.before.before.before.before.before.before.before.before.state-1.given ∙ F.fed.work.long,
       (goes t).bits,
-      stores a.state.now a.stand a.table.now a.piece.now _ _ a.filled F refl refl (goes t) _ (tail t),
+      stores a.state-1.now a.stand a.table-1.now a.piece.now _ _ a.filled F refl refl (goes t) _ (tail t),
     )
 
-same_length : tie.Need-same-length
-same_length c = let t = c.before in t.state2.given ∙ t.before.before.before.before.before.before.before.before.before.before.before.before.before.before.before.before.state.given
+shape_of-state : tie.Need-shape_of-state
+shape_of-state c = let t = c.before in t.state-2-1.given ∙ t.before.before.before.before.before.before.before.before.before.before.before.before.before.before.before.before.state-1.given
 
-same-length-2 : tie.Need-same-length-2
-same-length-2 c = c.before.before.before.before.before.before.before.before.before.before.before.before.before.before.before.table.given
+shape_of-table : tie.Need-shape_of-table
+shape_of-table c = c.before.before.before.before.before.before.before.before.before.before.before.before.before.before.before.table-1.given
 
-same-length-3 : tie.Need-same-length-3
-same-length-3 c = c.before.before.before.before.before.before.before.before.before.before.before.before.before.row.given
+shape_of-row : tie.Need-shape_of-row
+shape_of-row c = c.before.before.before.before.before.before.before.before.before.before.before.before.before.row-1.given
 
-same-length-4 : tie.Need-same-length-4
-same-length-4 c = c.before.before.before.before.before.before.before.before.before.before.before.out.given
+shape_of-out : tie.Need-shape_of-out
+shape_of-out c = c.before.before.before.before.before.before.before.before.before.before.before.out-1.given
 
-same-length-5 : tie.Need-same-length-5
-same-length-5 c = c.before.before.before.before.before.before.before.before.before.log.given
+shape_of-log : tie.Need-shape_of-log
+shape_of-log c = c.before.before.before.before.before.before.before.before.before.log-1.given
 
-same-length-6 : tie.Need-same-length-6
-same-length-6 c = c.before.before.before.before.before.before.before.times.given
+shape_of-times : tie.Need-shape_of-times
+shape_of-times c = c.before.before.before.before.before.before.before.times-1.given
 
 returns : tie.Need-returns
 returns c =
     let t = c.before.before.before.before.before.before.before.before.before.before.before.before.before.before.before.before.before.before in
     let s = start (sized t) in
     let a = s.args in
-    let e = rw t.before.before.before.before.before.before.before.kinds-at.ensures at c.before.before.end-feed.ensures.1 in
-    ends-given a.state.now a.stand a.table.now a.piece.now _ _ a.filled (filled s) refl refl (goes t) _ (tail t) _ _ c.before.before.end-feed.ensures.0 e
+    let e = rw t.before.before.before.before.before.before.before.kinds_at-kinds.ensures at c.before.before.end_feed.ensures.1 in
+    ends-given a.state-1.now a.stand a.table-1.now a.piece.now _ _ a.filled (filled s) refl refl (goes t) _ (tail t) _ _ c.before.before.end_feed.ensures.0 e
 
 pub feed_in_spec : {M : Type 1} → statement M
 feed_in_spec =
     tie.close
     (tie.spec
-    group-words-requires
-    mul-begin
-    mul-begin-2
-    sub-begin
-    kinds-at-requires
-    through-requires
-    sub-end-feed
-    part-end-feed-start
-    part-end-feed-end
-    end-feed-requires
-    same_length
-    same-length-2
-    same-length-3
-    same-length-4
-    same-length-5
-    same-length-6
+    group_words-requires
+    overflow_mul-begin
+    overflow_mul-begin-2
+    overflow_sub-begin
+    kinds_at-kinds-requires
+    through-along-requires
+    slice_bounds-end_feed-count
+    slice_bounds-end_feed-start
+    slice_bounds-end_feed-end
+    end_feed-requires
+    shape_of-state
+    shape_of-table
+    shape_of-row
+    shape_of-out
+    shape_of-log
+    shape_of-times
     returns)

@@ -9,20 +9,20 @@ use borrow.Author.Rules.{rules}
 use Rattle.stream_groups.proofs.stand_at.Statement.{statement}
 use Rattle.stream_groups.proofs.stand_at.Tie as tie
 
-cast-left : tie.Need-overflow-cast-left
-cast-left c = search rules
+overflow_cast-left : tie.Need-overflow_cast-left
+overflow_cast-left c = search rules
 
-cast-t6 : tie.Need-overflow-cast-t6
-cast-t6 c = search rules
+overflow_cast-result : tie.Need-overflow_cast-result
+overflow_cast-result c = search rules
 
-shl-t7 : tie.Need-overflow-shl-t7
-shl-t7 c = search rules
+overflow_shl-result : tie.Need-overflow_shl-result
+overflow_shl-result c = search rules
 
-rem-t8 : tie.Need-nonzero-rem-t8
-rem-t8 c = let s = c.before.before.before in rw (shifted s.args.along.pen.bits s.requires) (pow_pos s.args.along.pen.bits)
+nonzero_rem-result : tie.Need-nonzero_rem-result
+nonzero_rem-result c = let s = c.before.before.before in rw (shifted s.args.along.pen.bits s.requires) (pow_pos s.args.along.pen.bits)
 
-cast-t9 : tie.Need-overflow-cast-t9
-cast-t9 c =
+overflow_cast-result-2 : tie.Need-overflow_cast-result-2
+overflow_cast-result-2 c =
     let s = c.before.before.before in
     let n : ℕ = s.args.along.pen.bits in
     rw (shifted n s.requires) (omega (arith, mod-lt s.args.along.pen.last (pow_pos n), pow_low n s.requires))
@@ -31,4 +31,4 @@ returns : tie.Need-returns
 returns c = let s = c.before.before.before in rw (shifted s.args.along.pen.bits s.requires) refl
 
 pub stand_at_spec : {M : Type 1} → statement M
-stand_at_spec = tie.close (tie.spec cast-left cast-t6 shl-t7 rem-t8 cast-t9 returns)
+stand_at_spec = tie.close (tie.spec overflow_cast-left overflow_cast-result overflow_shl-result nonzero_rem-result overflow_cast-result-2 returns)

@@ -22,175 +22,175 @@ Whole = tie.After-complete
 abbrev start : Whole → tie.Start
 start k = k.before.before.before.before.before.before.before.before.before.before.before.before
 
-abbrev filled : (s : tie.Start) → Filled s.args.state.now s.args.stand s.args.table.now s.args.piece.now (length s.args.log.now) (length s.args.times.now)
+abbrev filled : (s : tie.Start) → Filled s.args.state-1.now s.args.stand s.args.table-1.now s.args.piece.now (length s.args.log-1.now) (length s.args.times-1.now)
     s.args.filled
 filled s = s.requires.0
 
 abbrev size : Whole → ℕ
-size k = 3 * k.before.before.before.group_words.result
+size k = 3 * k.before.before.before.group_words-size.result
 
 abbrev front : Whole → ℕ
 front k = size k - (start k).args.stand.waiting
 
-sized : (k : Whole) → size k ≡ group_size (start k).args.stand.plan
-sized k = ap (λ (n : ℕ). 3 * n) k.before.before.before.group_words.ensures.0
+sized : (k : Whole) → size k ≡ group_size (start k).args.stand.plan-1
+sized k = ap (λ (n : ℕ). 3 * n) k.before.before.before.group_words-size.ensures.0
 
-fronted : (k : Whole) → front k + (start k).args.stand.waiting ≡ group_size (start k).args.stand.plan
+fronted : (k : Whole) → front k + (start k).args.stand.waiting ≡ group_size (start k).args.stand.plan-1
 fronted k = omega (arith, sized k, (filled (start k)).fed.work.part)
 
 in_piece : (k : Whole) → front k ≤ length (start k).args.piece.now
-in_piece k = let s = start k in let a = s.args in front-in a.state.now a.stand a.table.now a.piece.now _ _ a.filled (filled s) a.kinds s.pre.1 (front k) (fronted k)
+in_piece k = let s = start k in let a = s.args in front-in a.state-1.now a.stand a.table-1.now a.piece.now _ _ a.filled (filled s) a.kinds s.pre.1 (front k) (fronted k)
 
-in_state : (k : Whole) → 1024 + size k ≤ length (start k).args.state.now
-in_state k = let w = (filled (start k)).fed.work in omega (arith, w.long, sized k, group_most (start k).args.stand.plan w.shape)
+in_state : (k : Whole) → 1024 + size k ≤ length (start k).args.state-1.now
+in_state k = let w = (filled (start k)).fed.work in omega (arith, w.long, sized k, group_most (start k).args.stand.plan-1 w.shape)
 
 -- its bytes
 abbrev group : Whole → List ℕ
 group k = take (1024 + size k - 1024) (drop 1024 k.complete.last.0)
 
-group_is : (k : Whole) → group k ≡ take (start k).args.stand.waiting (drop 1024 (start k).args.state.now) ++ take (front k) (start k).args.piece.now
+group_is : (k : Whole) → group k ≡ take (start k).args.stand.waiting (drop 1024 (start k).args.state-1.now) ++ take (front k) (start k).args.piece.now
 group_is k =
     let a = (start k).args in
-    first_group a.state.now a.piece.now k.complete.new.0 a.stand.waiting (front k) (size k) (fronted k ∙ sym (sized k)) (in_state k) (in_piece k) k.complete.ensures
+    first_group a.state-1.now a.piece.now k.complete.new.0 a.stand.waiting (front k) (size k) (fronted k ∙ sym (sized k)) (in_state k) (in_piece k) k.complete.ensures
 
 abbrev flow : Whole → Flow
-flow k = let a = (start k).args in feed_bytes (working (work_of a.stand.plan a.kinds (start_of a.stand) a.table.now)) (group k)
+flow k = let a = (start k).args in feed_bytes (working (work_of a.stand.plan-1 a.kinds (start_of a.stand) a.table-1.now)) (group k)
 
-flows : (k : Whole) → flow k ≡ feed_bytes (working (work_in (start k).args.state.now (start k).args.stand)) (take (front k) (start k).args.piece.now)
+flows : (k : Whole) → flow k ≡ feed_bytes (working (work_in (start k).args.state-1.now (start k).args.stand)) (take (front k) (start k).args.piece.now)
 flows k =
     let s = start k in
     let a = s.args in
-    one-is a.state.now a.stand a.table.now a.piece.now _ _ a.filled (filled s) a.kinds s.pre.1 (front k) (fronted k) (group k) (group_is k)
+    one-is a.state-1.now a.stand a.table-1.now a.piece.now _ _ a.filled (filled s) a.kinds s.pre.1 (front k) (fronted k) (group k) (group_is k)
 
 -- and taken
 abbrev First : Type 0
-First = tie.After-on-group
+First = tie.After-on_group-first
 
 abbrev whole : First → Whole
 whole o = o.before.before.before.before.before.before.before.before.before.before.before.before
 
-goes : (o : First) → Goes (start (whole o)).args.stand.plan (start (whole o)).args.kinds (flow (whole o)) (start_of (start (whole o)).args.stand) o.on-group.result
-    o.on-group.new.1.1.1.1.1.0 (start (whole o)).args.log.now o.on-group.new.1.1.1.1.1.1.1.1.0 (start (whole o)).args.times.now
-    o.on-group.new.1.1.1.1.1.1.1.1.1.0
-goes o = rw o.before.before.before.before.before.before.before.before.start-along.ensures at o.on-group.ensures
+goes : (o : First) → Goes (start (whole o)).args.stand.plan-1 (start (whole o)).args.kinds (flow (whole o)) (start_of (start (whole o)).args.stand) o.on_group-first.result
+    o.on_group-first.new.1.1.1.1.1.0 (start (whole o)).args.log-1.now o.on_group-first.new.1.1.1.1.1.1.1.1.0 (start (whole o)).args.times-1.now
+    o.on_group-first.new.1.1.1.1.1.1.1.1.1.0
+goes o = rw o.before.before.before.before.before.before.before.before.start_along-start.ensures at o.on_group-first.ensures
 
 -- and the others
 abbrev Others : Type 0
-Others = tie.After-on-piece
+Others = tie.After-on_piece
 
 abbrev first : Others → First
 first e = e.before.before.before.before.before.before.before.before.before.before.before.before.before.before.before.before
 
 -- ---- the needs
 
-group-words-requires : tie.Need-group-words-requires
-group-words-requires c κs = search rules
+group_words-size-requires : tie.Need-group_words-size-requires
+group_words-size-requires c κs = search rules
 
-mul-size : tie.Need-overflow-mul-size
-mul-size c = search rules
+overflow_mul-size : tie.Need-overflow_mul-size
+overflow_mul-size c = search rules
 
-sub-front : tie.Need-overflow-sub-front
-sub-front c = search rules
+overflow_sub-front : tie.Need-overflow_sub-front
+overflow_sub-front c = search rules
 
 complete-requires : tie.Need-complete-requires
 complete-requires c κs =
     let s = c.before.before.before.before.before.before.before.before.before.before.before in
     let w = (filled s).fed.work in
-    let z : 3 * c.before.before.group_words.result ≡ group_size s.args.stand.plan = ap (λ (n : ℕ). 3 * n) c.before.before.group_words.ensures.0 in
-    let f : 3 * c.before.before.group_words.result - s.args.stand.waiting + s.args.stand.waiting ≡ group_size s.args.stand.plan = omega (arith, z, w.part) in (
+    let z : 3 * c.before.before.group_words-size.result ≡ group_size s.args.stand.plan-1 = ap (λ (n : ℕ). 3 * n) c.before.before.group_words-size.ensures.0 in
+    let f : 3 * c.before.before.group_words-size.result - s.args.stand.waiting + s.args.stand.waiting ≡ group_size s.args.stand.plan-1 = omega (arith, z, w.part) in (
       w.long,
-      omega (arith, f, group_most s.args.stand.plan w.shape),
-      front-in s.args.state.now s.args.stand s.args.table.now s.args.piece.now _ _ s.args.filled (filled s) s.args.kinds s.requires.1 _ f,
+      omega (arith, f, group_most s.args.stand.plan-1 w.shape),
+      front-in s.args.state-1.now s.args.stand s.args.table-1.now s.args.piece.now _ _ s.args.filled (filled s) s.args.kinds s.requires.1 _ f,
     )
 
-slots-requires : tie.Need-slots-requires
-slots-requires c κs = search rules
+slots-count-requires : tie.Need-slots-count-requires
+slots-count-requires c κs = search rules
 
-start-along-requires : tie.Need-start-along-requires
-start-along-requires c κs = search rules
+start_along-start-requires : tie.Need-start_along-start-requires
+start_along-start-requires c κs = search rules
 
-add-end : tie.Need-overflow-add-end
-add-end c = search rules
+overflow_add-end : tie.Need-overflow_add-end
+overflow_add-end c = search rules
 
-sub-on-group : tie.Need-overflow-sub-on-group
-sub-on-group c = search rules
+slice_bounds-on_group-count : tie.Need-slice_bounds-on_group-count
+slice_bounds-on_group-count c = search rules
 
-part-on-group-start : tie.Need-slice-bounds-on-group-start
-part-on-group-start c = search rules
+slice_bounds-on_group-start : tie.Need-slice_bounds-on_group-start
+slice_bounds-on_group-start c = search rules
 
-part-on-group-end : tie.Need-slice-bounds-on-group-end
-part-on-group-end c = omega (arith, in_state c.before.before.before.before.before, c.before.before.before.before.state.given)
+slice_bounds-on_group-end : tie.Need-slice_bounds-on_group-end
+slice_bounds-on_group-end c = omega (arith, in_state c.before.before.before.before.before, c.before.before.before.before.state-1.given)
 
-on-group-requires : tie.Need-on-group-requires
-on-group-requires c κs =
+on_group-first-requires : tie.Need-on_group-first-requires
+on_group-first-requires c κs =
     let k = c.before.before.before.before.before.before.before.before.before.before.before in
     let s = start k in
     let a = s.args in
     let r = s.pre.2 in
-    let t = c.before.before.before.before.before.before.before.start-along.ensures in
+    let t = c.before.before.before.before.before.before.before.start_along-start.ensures in
     rw t (
       (
-        first-ready a.state.now a.stand a.table.now a.piece.now _ _ a.filled (filled s) a.kinds s.pre.1 (front k) (fronted k),
+        first-ready a.state-1.now a.stand a.table-1.now a.piece.now _ _ a.filled (filled s) a.kinds s.pre.1 (front k) (fronted k),
         refl,
-        record { slots_are = c.before.before.before.before.before.before.before.before.slots.ensures.0; dealt = r.dealt; built = r.built },
-        first_long a.state.now a.piece.now (group k) a.stand.waiting (front k) (size k) (fronted k ∙ sym (sized k)) (in_state k) (in_piece k) (group_is k) ∙ sized k,
-        first_small a.state.now a.stand a.table.now a.piece.now _ _ a.filled (filled s) a.kinds s.pre.1 (front k) (fronted k),
+        record { slots_are = c.before.before.before.before.before.before.before.before.slots-count.ensures.0; dealt = r.dealt; built = r.built },
+        first_long a.state-1.now a.piece.now (group k) a.stand.waiting (front k) (size k) (fronted k ∙ sym (sized k)) (in_state k) (in_piece k) (group_is k) ∙ sized k,
+        first_small a.state-1.now a.stand a.table-1.now a.piece.now _ _ a.filled (filled s) a.kinds s.pre.1 (front k) (fronted k),
       ),
-      first-takes a.state.now a.stand a.table.now a.piece.now _ _ a.filled (filled s) a.kinds s.pre.1 (front k) (fronted k) (flow k) (flows k) a.log.now
-          a.times.now refl refl,
+      first-takes a.state-1.now a.stand a.table-1.now a.piece.now _ _ a.filled (filled s) a.kinds s.pre.1 (front k) (fronted k) (flow k) (flows k) a.log-1.now
+          a.times-1.now refl refl,
     )
 
-sub-on-piece : tie.Need-overflow-sub-on-piece
-sub-on-piece c = (filled (start (whole c.before.before.before.before.before.before.before.before.before.before))).some
+overflow_sub-filled : tie.Need-overflow_sub-filled
+overflow_sub-filled c = (filled (start (whole c.before.before.before.before.before.before.before.before.before.before))).some
 
-on-piece-requires : tie.Need-on-piece-requires
-on-piece-requires c κs =
+on_piece-requires : tie.Need-on_piece-requires
+on_piece-requires c κs =
     let o = c.before.before.before.before.before.before.before.before.before.before.before.before.before.before.before in
     let k = whole o in
     let s = start k in
     let a = s.args in
     let r = s.pre.2 in
-    let b : List ℕ = a.state.now in
+    let b : List ℕ = a.state-1.now in
     let F = filled s in (
       (
         F.fed.work.shape,
-        next-ready b a.stand a.table.now a.piece.now _ _ a.filled F a.kinds s.pre.1 (front k) (fronted k) (flow k) (flows k) a.log.now a.times.now refl refl (goes o),
+        next-ready b a.stand a.table-1.now a.piece.now _ _ a.filled F a.kinds s.pre.1 (front k) (fronted k) (flow k) (flows k) a.log-1.now a.times-1.now refl refl (goes o),
         record {
-          slots_are = o.before.before.before.before.before.before.before.before.before.slots.ensures.0;
+          slots_are = o.before.before.before.before.before.before.before.before.before.slots-count.ensures.0;
           dealt = omega
-              (arith, r.dealt, c.before.before.before.before.before.before.before.before.before.before.before.before.row.given);
+              (arith, r.dealt, c.before.before.before.before.before.before.before.before.before.before.before.before.row-1.given);
           built = omega
-              (arith, r.built, c.before.before.before.before.before.before.before.before.before.before.out.given);
+              (arith, r.built, c.before.before.before.before.before.before.before.before.before.before.out-1.given);
         },
-        others-in b a.stand a.table.now a.piece.now _ _ a.filled F a.kinds s.pre.1 (front k) (fronted k),
+        others-in b a.stand a.table-1.now a.piece.now _ _ a.filled F a.kinds s.pre.1 (front k) (fronted k),
         F.fed.short,
       ),
       (
-        next-count b a.stand a.table.now a.piece.now _ _ a.filled F a.kinds s.pre.1 (front k) (fronted k) (flow k) (flows k) a.log.now a.times.now refl refl (goes o),
-        next-takes b a.stand a.table.now a.piece.now _ _ a.filled F a.kinds s.pre.1 (front k) (fronted k) (flow k) (flows k) a.log.now a.times.now refl refl (goes o)
-            c.before.before.before.before.before.before.before.before.log.given c.before.before.before.before.before.before.times.given,
+        next-count b a.stand a.table-1.now a.piece.now _ _ a.filled F a.kinds s.pre.1 (front k) (fronted k) (flow k) (flows k) a.log-1.now a.times-1.now refl refl (goes o),
+        next-takes b a.stand a.table-1.now a.piece.now _ _ a.filled F a.kinds s.pre.1 (front k) (fronted k) (flow k) (flows k) a.log-1.now a.times-1.now refl refl (goes o)
+            c.before.before.before.before.before.before.before.before.log-1.given c.before.before.before.before.before.before.times-1.given,
       ),
     )
 
-same_length : tie.Need-same-length
-same_length c = let e = c.before.before.before.before.before.before.before.before.before.before in (first
-    e).before.before.before.before.before.before.before.before.before.before.before.state.given
+shape_of-state : tie.Need-shape_of-state
+shape_of-state c = let e = c.before.before.before.before.before.before.before.before.before.before in (first
+    e).before.before.before.before.before.before.before.before.before.before.before.state-1.given
 
-same-length-2 : tie.Need-same-length-2
-same-length-2 c = let t = c.before.before.before.before.before.before.before.before.before in t.table2.given
-    ∙ t.before.before.before.before.before.before.before.before.before.before.before.before.before.before.before.before.table.given
+shape_of-table : tie.Need-shape_of-table
+shape_of-table c = let t = c.before.before.before.before.before.before.before.before.before in t.table-2-1.given
+    ∙ t.before.before.before.before.before.before.before.before.before.before.before.before.before.before.before.before.table-1.given
 
-same-length-3 : tie.Need-same-length-3
-same-length-3 c = let t = c.before.before.before.before.before.before.before in t.row2.given ∙ t.before.before.before.before.before.before.before.before.before.before.before.before.before.before.before.before.row.given
+shape_of-row : tie.Need-shape_of-row
+shape_of-row c = let t = c.before.before.before.before.before.before.before in t.row-2-1.given ∙ t.before.before.before.before.before.before.before.before.before.before.before.before.before.before.before.before.row-1.given
 
-same-length-4 : tie.Need-same-length-4
-same-length-4 c = let t = c.before.before.before.before.before in t.out2.given ∙ t.before.before.before.before.before.before.before.before.before.before.before.before.before.before.before.before.out.given
+shape_of-out : tie.Need-shape_of-out
+shape_of-out c = let t = c.before.before.before.before.before in t.out-2-1.given ∙ t.before.before.before.before.before.before.before.before.before.before.before.before.before.before.before.before.out-1.given
 
-same-length-5 : tie.Need-same-length-5
-same-length-5 c = let t = c.before.before.before in t.log2.given ∙ t.before.before.before.before.before.before.before.before.before.before.before.before.before.before.before.before.log.given
+shape_of-log : tie.Need-shape_of-log
+shape_of-log c = let t = c.before.before.before in t.log-2-1.given ∙ t.before.before.before.before.before.before.before.before.before.before.before.before.before.before.before.before.log-1.given
 
-same-length-6 : tie.Need-same-length-6
-same-length-6 c = let t = c.before in t.times2.given ∙ t.before.before.before.before.before.before.before.before.before.before.before.before.before.before.before.before.times.given
+shape_of-times : tie.Need-shape_of-times
+shape_of-times c = let t = c.before in t.times-2-1.given ∙ t.before.before.before.before.before.before.before.before.before.before.before.before.before.before.before.before.times-1.given
 
 returns : tie.Need-returns
 returns c =
@@ -198,30 +198,30 @@ returns c =
     let k = whole o in
     let s = start k in
     let a = s.args in
-    through-goes a.state.now a.stand a.table.now a.piece.now _ _ a.filled (filled s) a.kinds s.pre.1 (front k) (fronted k) (flow k) (flows k) a.log.now
-    a.times.now refl refl (goes o) c.before.before.before.before.before.before.before.before.before.before.on-piece.ensures
+    through-goes a.state-1.now a.stand a.table-1.now a.piece.now _ _ a.filled (filled s) a.kinds s.pre.1 (front k) (fronted k) (flow k) (flows k) a.log-1.now
+    a.times-1.now refl refl (goes o) c.before.before.before.before.before.before.before.before.before.before.on_piece.ensures
 
 pub through_spec : {M : Type 1} → statement M
 through_spec =
     tie.close
     (tie.spec
-    group-words-requires
-    mul-size
-    sub-front
+    group_words-size-requires
+    overflow_mul-size
+    overflow_sub-front
     complete-requires
-    slots-requires
-    start-along-requires
-    add-end
-    sub-on-group
-    part-on-group-start
-    part-on-group-end
-    on-group-requires
-    sub-on-piece
-    on-piece-requires
-    same_length
-    same-length-2
-    same-length-3
-    same-length-4
-    same-length-5
-    same-length-6
+    slots-count-requires
+    start_along-start-requires
+    overflow_add-end
+    slice_bounds-on_group-count
+    slice_bounds-on_group-start
+    slice_bounds-on_group-end
+    on_group-first-requires
+    overflow_sub-filled
+    on_piece-requires
+    shape_of-state
+    shape_of-table
+    shape_of-row
+    shape_of-out
+    shape_of-log
+    shape_of-times
     returns)

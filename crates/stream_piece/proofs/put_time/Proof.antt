@@ -9,46 +9,46 @@ use Rattle.stream_piece.proofs.put_time.Reads as reads
 use Rattle.stream_piece.proofs.put_time.Lts as lts
 use Rattle.group_read.proofs.group_time.Reads as group-time-reads
 
-abbrev start : tie.After-group-time → tie.Start
+abbrev start : tie.After-group_time → tie.Start
 start c = c.before.before.before.before
 
-group-time-requires : tie.Need-group-time-requires
-group-time-requires c κs = search rules
+group_time-requires : tie.Need-group_time-requires
+group_time-requires c κs = search rules
 
-mul-times : tie.Need-overflow-mul-times
-mul-times c = search rules
+offset_bounds-times-at : tie.Need-offset_bounds-times-at
+offset_bounds-times-at c = search rules
 
-slice-write-times : tie.Need-slice-write-times
-slice-write-times c = let s = start c in omega (arith, s.pre.2, needs_one s.args.plan c.before.if1.true)
+bounds-times-at : tie.Need-bounds-times-at
+bounds-times-at c = let s = start c in omega (arith, s.pre.2, needs_one s.args.plan c.before.if-plan.true)
 
-add-result : tie.Need-overflow-add-result
-add-result c = search rules
+overflow_add-result : tie.Need-overflow_add-result
+overflow_add-result c = search rules
 
-same_length : tie.Need-same-length
-same_length c = search rules
+shape_of-times-then-plan : tie.Need-shape_of-times-then-plan
+shape_of-times-then-plan c = search rules
 
-returns : tie.Need-returns
-returns c =
+returns-then-plan : tie.Need-returns-then-plan
+returns-then-plan c =
     let s = start c in
-    let e = c.before.if1.true in (
+    let e = c.before.if-plan.true in (
       ap (λ (n : ℕ). s.args.at + n) (sym (needs_one s.args.plan e)),
-      time_laid _ s.args.at _ _ s.args.times.now e c.group-time.ensures
+      time_laid _ s.args.at _ _ s.args.times.now e c.group_time.ensures
           (omega (arith, s.pre.2, needs_one s.args.plan e)),
     )
 
-returns-2 : tie.Need-returns-2
-returns-2 c =
+returns : tie.Need-returns
+returns c =
     let s = c.before.before.before in
-    (omega (arith, needs_none s.args.plan c.if1.false), no_time_laid _ s.args.at _ s.args.times.now c.if1.false)
+    (omega (arith, needs_none s.args.plan c.if-plan.false), no_time_laid _ s.args.at _ s.args.times.now c.if-plan.false)
 
 pub put_time_spec : {M : Type 1} → statement M
 put_time_spec =
     tie.close
     (tie.spec
-    group-time-requires
-    mul-times
-    slice-write-times
-    add-result
-    same_length
-    returns
-    returns-2)
+    group_time-requires
+    offset_bounds-times-at
+    bounds-times-at
+    overflow_add-result
+    shape_of-times-then-plan
+    returns-then-plan
+    returns)

@@ -8,14 +8,14 @@ use Rattle.stream_state.proofs.bits_fit.Tie as tie
 use Rattle.stream_state.proofs.bits_fit.Reads as reads
 use Rattle.stream_state.proofs.bits_fit.Lts as lts
 
+returns-then-left-ge8 : tie.Need-returns-then-left-ge8
+returns-then-left-ge8 c = simp (le-ltb _ _ c.if-left-ge8.true)
+
+overflow_shl-result : tie.Need-overflow_shl-result
+overflow_shl-result c = search rules
+
 returns : tie.Need-returns
-returns c = simp (le-ltb _ _ c.if1.true)
-
-shl-result : tie.Need-overflow-shl-result
-shl-result c = search rules
-
-returns-2 : tie.Need-returns-2
-returns-2 c = simp (lt-ltb _ _ c.if1.false) (rw (shifted c.before.args.left c.if1.false) refl)
+returns c = simp (lt-ltb _ _ c.if-left-ge8.false) (rw (shifted c.before.args.left c.if-left-ge8.false) refl)
 
 pub bits_fit_spec : {M : Type 1} → statement M
-bits_fit_spec = tie.close (tie.spec returns shl-result returns-2)
+bits_fit_spec = tie.close (tie.spec returns-then-left-ge8 overflow_shl-result returns)

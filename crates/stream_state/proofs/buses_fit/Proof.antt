@@ -8,25 +8,25 @@ use Rattle.stream_state.proofs.buses_fit.Lts as lts
 use Rattle.stream_state.proofs.parity_fits.Reads as parity-fits-reads
 use Rattle.stream_state.proofs.tracks_fit.Reads as tracks-fit-reads
 
+returns-then-plan-lt128 : tie.Need-returns-then-plan-lt128
+returns-then-plan-lt128 c = rw (lt-leb _ _ c.if-plan-lt128.true)
+
+tracks_fit-requires : tie.Need-tracks_fit-requires
+tracks_fit-requires c κs = search rules
+
+parity_fits-requires : tie.Need-parity_fits-requires
+parity_fits-requires c κs = search rules
+
+returns-then-tracks_fit : tie.Need-returns-then-tracks_fit
+returns-then-tracks_fit c = let t = c.before.before in
+    let e = sym t.tracks_fit.ensures ∙ c.before.if-tracks_fit.true in
+    c.parity_fits.ensures ∙ sym (rw (le-leb _ _ t.before.if-plan-lt128.false, e) refl)
+
 returns : tie.Need-returns
-returns c = rw (lt-leb _ _ c.if1.true)
-
-tracks-fit-requires : tie.Need-tracks-fit-requires
-tracks-fit-requires c κs = search rules
-
-parity-fits-requires : tie.Need-parity-fits-requires
-parity-fits-requires c κs = search rules
-
-returns-2 : tie.Need-returns-2
-returns-2 c = let t = c.before.before in
-    let e = sym t.tracks-fit.ensures ∙ c.before.if2.true in
-    c.parity-fits.ensures ∙ sym (rw (le-leb _ _ t.before.if1.false, e) refl)
-
-returns-3 : tie.Need-returns-3
-returns-3 c = let t = c.before in
-    let e = sym t.tracks-fit.ensures ∙ c.if2.false in
-    sym (rw (le-leb _ _ t.before.if1.false, e) refl)
+returns c = let t = c.before in
+    let e = sym t.tracks_fit.ensures ∙ c.if-tracks_fit.false in
+    sym (rw (le-leb _ _ t.before.if-plan-lt128.false, e) refl)
 
 pub buses_fit_spec : {M : Type 1} → statement M
 buses_fit_spec =
-    tie.close (tie.spec returns tracks-fit-requires parity-fits-requires returns-2 returns-3)
+    tie.close (tie.spec returns-then-plan-lt128 tracks_fit-requires parity_fits-requires returns-then-tracks_fit returns)

@@ -10,50 +10,50 @@ use Rattle.stream_state.proofs.bytes_zero.Lts as lts
 use Rattle.stream_state.proofs.few_zero.Reads as few-zero-reads
 use Rattle.stream_state.proofs.runs_zero.Reads as runs-zero-reads
 
-sub-few-zero : tie.Need-overflow-sub-few-zero
-sub-few-zero c = search rules
+slice_bounds-few_zero-count : tie.Need-slice_bounds-few_zero-count
+slice_bounds-few_zero-count c = search rules
 
-part-few-zero-start : tie.Need-slice-bounds-few-zero-start
-part-few-zero-start c = search rules
+slice_bounds-few_zero-start : tie.Need-slice_bounds-few_zero-start
+slice_bounds-few_zero-start c = search rules
 
-part-few-zero-end : tie.Need-slice-bounds-few-zero-end
-part-few-zero-end c = search rules
+slice_bounds-few_zero-end : tie.Need-slice_bounds-few_zero-end
+slice_bounds-few_zero-end c = search rules
 
-few-zero-requires : tie.Need-few-zero-requires
-few-zero-requires c κs = search rules
+few_zero-requires : tie.Need-few_zero-requires
+few_zero-requires c κs = search rules
 
-sub-runs-zero : tie.Need-overflow-sub-runs-zero
-sub-runs-zero c = search rules
+slice_bounds-runs_zero-count : tie.Need-slice_bounds-runs_zero-count
+slice_bounds-runs_zero-count c = search rules
 
-part-runs-zero-start : tie.Need-slice-bounds-runs-zero-start
-part-runs-zero-start c = search rules
+slice_bounds-runs_zero-start : tie.Need-slice_bounds-runs_zero-start
+slice_bounds-runs_zero-start c = search rules
 
-part-runs-zero-end : tie.Need-slice-bounds-runs-zero-end
-part-runs-zero-end c = search rules
+slice_bounds-runs_zero-end : tie.Need-slice_bounds-runs_zero-end
+slice_bounds-runs_zero-end c = search rules
 
-runs-zero-requires : tie.Need-runs-zero-requires
-runs-zero-requires c κs = search rules
+runs_zero-requires : tie.Need-runs_zero-requires
+runs_zero-requires c κs = search rules
+
+returns-then-few_zero : tie.Need-returns-then-few_zero
+returns-then-few_zero c = let t = c.before.before in
+    let l = t.before.before.before.before.args.bytes.now in
+    c.runs_zero.ensures ∙ front_zero (length l % 128) l (sym t.before.few_zero.ensures ∙ t.if-few_zero.true)
 
 returns : tie.Need-returns
-returns c = let t = c.before.before in
-    let l = t.before.before.before.before.args.bytes.now in
-    c.runs-zero.ensures ∙ front_zero (length l % 128) l (sym t.before.few-zero.ensures ∙ t.if1.true)
-
-returns-2 : tie.Need-returns-2
-returns-2 c = let l = c.before.before.before.before.args.bytes.now in
-    front_not (length l % 128) l (sym c.before.few-zero.ensures ∙ c.if1.false)
+returns c = let l = c.before.before.before.before.args.bytes.now in
+    front_not (length l % 128) l (sym c.before.few_zero.ensures ∙ c.if-few_zero.false)
 
 pub bytes_zero_spec : {M : Type 1} → statement M
 bytes_zero_spec =
     tie.close
     (tie.spec
-    sub-few-zero
-    part-few-zero-start
-    part-few-zero-end
-    few-zero-requires
-    sub-runs-zero
-    part-runs-zero-start
-    part-runs-zero-end
-    runs-zero-requires
-    returns
-    returns-2)
+    slice_bounds-few_zero-count
+    slice_bounds-few_zero-start
+    slice_bounds-few_zero-end
+    few_zero-requires
+    slice_bounds-runs_zero-count
+    slice_bounds-runs_zero-start
+    slice_bounds-runs_zero-end
+    runs_zero-requires
+    returns-then-few_zero
+    returns)

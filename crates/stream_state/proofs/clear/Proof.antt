@@ -10,45 +10,45 @@ use Rattle.stream_state.proofs.clear.Tie as tie
 use Rattle.stream_state.proofs.clear.Reads as reads
 use Rattle.stream_state.proofs.clear.Lts as lts
 
-abbrev invariant-loop : tie.invariant-loop
-invariant-loop bytes₀ index₀ bytes index = (index ≤ length bytes₀) × Front (replicate index 0) bytes₀ bytes index
+abbrev invariant-loop-index : tie.invariant-loop-index
+invariant-loop-index bytes₀ index₀ bytes index = (index ≤ length bytes₀) × Front (replicate index 0) bytes₀ bytes index
 
-abbrev decreases-loop : tie.decreases-loop
-decreases-loop bytes₀ index₀ bytes index = length bytes₀ - index
+abbrev decreases-loop-index : tie.decreases-loop-index
+decreases-loop-index bytes₀ index₀ bytes index = length bytes₀ - index
 
-loop-holds : tie.Need-loop-init invariant-loop decreases-loop
-loop-holds c = (omega arith, front_none _)
+loop-index-init : tie.Need-loop-index-init invariant-loop-index decreases-loop-index
+loop-index-init c = (omega arith, front_none _)
 
-slice-write-bytes : tie.Need-slice-write-bytes invariant-loop decreases-loop
-slice-write-bytes c = c.loop-test.true
+bounds-bytes-index : tie.Need-bounds-bytes-index invariant-loop-index decreases-loop-index
+bounds-bytes-index c = c.loop-index-test.true
 
-add-index : tie.Need-overflow-add-index invariant-loop decreases-loop
-add-index c = search rules
+overflow_add-index : tie.Need-overflow_add-index invariant-loop-index decreases-loop-index
+overflow_add-index c = search rules
 
-loop-less : tie.Need-loop-smaller invariant-loop decreases-loop
-loop-less c = omega (arith, c.loop-test.true, front_long c.before.loop.invariant.1)
+loop-index-smaller : tie.Need-loop-index-smaller invariant-loop-index decreases-loop-index
+loop-index-smaller c = omega (arith, c.loop-index-test.true, front_long c.before.loop-index.invariant.1)
 
-loop-again : tie.Need-loop-preserved invariant-loop decreases-loop
-loop-again c = let o = c.before.loop in
-    let l : o.index + 1 ≤ length c.before.before.args.bytes.now = omega (arith, c.loop-test.true, front_long o.invariant.1) in
+loop-index-preserved : tie.Need-loop-index-preserved invariant-loop-index decreases-loop-index
+loop-index-preserved c = let o = c.before.loop-index in
+    let l : o.index + 1 ≤ length c.before.before.args.bytes.now = omega (arith, c.loop-index-test.true, front_long o.invariant.1) in
     (l, zero_more o.index o.invariant.1 (omega (arith, l)))
 
-same_length : tie.Need-same-length invariant-loop decreases-loop
-same_length c = front_long c.before.loop.invariant.1
+shape_of-bytes : tie.Need-shape_of-bytes invariant-loop-index decreases-loop-index
+shape_of-bytes c = front_long c.before.loop-index.invariant.1
 
-returns : tie.Need-returns invariant-loop decreases-loop
-returns c = let o = c.before.loop in zeros_all o.index o.invariant.1 (omega (arith, front_long o.invariant.1))
+returns : tie.Need-returns invariant-loop-index decreases-loop-index
+returns c = let o = c.before.loop-index in zeros_all o.index o.invariant.1 (omega (arith, front_long o.invariant.1))
 
 pub clear_spec : {M : Type 1} → statement M
 clear_spec =
     tie.close
     (tie.spec
-    invariant-loop
-    decreases-loop
-    loop-holds
-    slice-write-bytes
-    add-index
-    loop-less
-    loop-again
-    same_length
+    invariant-loop-index
+    decreases-loop-index
+    loop-index-init
+    bounds-bytes-index
+    overflow_add-index
+    loop-index-smaller
+    loop-index-preserved
+    shape_of-bytes
     returns)

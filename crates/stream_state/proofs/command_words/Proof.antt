@@ -7,45 +7,45 @@ use Rattle.stream_state.proofs.command_words.Lts as lts
 use Rattle.stream_state.proofs.command_label.Reads as command-label-reads
 use Rattle.stream_state.proofs.word.Reads as word-reads
 
-command-label-requires : tie.Need-command-label-requires
-command-label-requires c κs = search rules
+command_label-label-requires : tie.Need-command_label-label-requires
+command_label-label-requires c κs = search rules
 
-cast-word : tie.Need-overflow-cast-word
-cast-word c = search rules
+overflow_cast-base : tie.Need-overflow_cast-base
+overflow_cast-base c = search rules
 
-word-requires : tie.Need-word-requires
-word-requires c κs = search rules
+word-first-requires : tie.Need-word-first-requires
+word-first-requires c κs = search rules
+
+returns-then-stage-eq7 : tie.Need-returns-then-stage-eq7
+returns-then-stage-eq7 c = rw (c.before.word-first.ensures, c.before.before.command_label-label.ensures, c.if-stage-eq7.true)
+
+word-high-requires : tie.Need-word-high-requires
+word-high-requires c κs = search rules
+
+returns-then-stage-eq6 : tie.Need-returns-then-stage-eq6
+returns-then-stage-eq6 c = rw (c.before.before.before.word-first.ensures, c.before.before.before.before.command_label-label.ensures, c.word-high.ensures, c.before.if-stage-eq6.true)
+
+word-high-requires-2 : tie.Need-word-high-requires-2
+word-high-requires-2 c κs = search rules
+
+word-low-requires : tie.Need-word-low-requires
+word-low-requires c κs = search rules
 
 returns : tie.Need-returns
-returns c = rw (c.before.word.ensures, c.before.before.command-label.ensures, c.if1.true)
-
-word-requires-2 : tie.Need-word-requires-2
-word-requires-2 c κs = search rules
-
-returns-2 : tie.Need-returns-2
-returns-2 c = rw (c.before.before.before.word.ensures, c.before.before.before.before.command-label.ensures, c.word2.ensures, c.before.if2.true)
-
-word-requires-3 : tie.Need-word-requires-3
-word-requires-3 c κs = search rules
-
-word-requires-4 : tie.Need-word-requires-4
-word-requires-4 c κs = search rules
-
-returns-3 : tie.Need-returns-3
-returns-3 c = let one = c.before.before.before.before in
+returns c = let one = c.before.before.before.before in
     let left = c.before.before in
-    rw (one.word.ensures, one.before.command-label.ensures, c.before.word3.ensures, c.word4.ensures, ne_eqb _ _ left.before.if1.false, ne_eqb _ _ left.if2.false)
+    rw (one.word-first.ensures, one.before.command_label-label.ensures, c.before.word-high-2.ensures, c.word-low.ensures, ne_eqb _ _ left.before.if-stage-eq7.false, ne_eqb _ _ left.if-stage-eq6.false)
 
 pub command_words_spec : {M : Type 1} → statement M
 command_words_spec =
     tie.close
     (tie.spec
-    command-label-requires
-    cast-word
-    word-requires
-    returns
-    word-requires-2
-    returns-2
-    word-requires-3
-    word-requires-4
-    returns-3)
+    command_label-label-requires
+    overflow_cast-base
+    word-first-requires
+    returns-then-stage-eq7
+    word-high-requires
+    returns-then-stage-eq6
+    word-high-requires-2
+    word-low-requires
+    returns)

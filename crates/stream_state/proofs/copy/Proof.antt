@@ -10,48 +10,48 @@ use Rattle.stream_state.proofs.copy.Tie as tie
 use Rattle.stream_state.proofs.copy.Reads as reads
 use Rattle.stream_state.proofs.copy.Lts as lts
 
-abbrev invariant-loop : tie.invariant-loop
-invariant-loop to₀ from index₀ to index = (index ≤ length from) × (length to₀ ≡ length from) × Front (take index from) to₀ to index
+abbrev invariant-loop-index : tie.invariant-loop-index
+invariant-loop-index to₀ from index₀ to index = (index ≤ length from) × (length to₀ ≡ length from) × Front (take index from) to₀ to index
 
-abbrev decreases-loop : tie.decreases-loop
-decreases-loop to₀ from index₀ to index = length from - index
+abbrev decreases-loop-index : tie.decreases-loop-index
+decreases-loop-index to₀ from index₀ to index = length from - index
 
-loop-holds : tie.Need-loop-init invariant-loop decreases-loop
-loop-holds c = search rules
+loop-index-init : tie.Need-loop-index-init invariant-loop-index decreases-loop-index
+loop-index-init c = search rules
 
-shared-slice-read-to : tie.Need-shared-slice-read-to invariant-loop decreases-loop
-shared-slice-read-to c = search rules
+bounds-from-index : tie.Need-bounds-from-index invariant-loop-index decreases-loop-index
+bounds-from-index c = search rules
 
-slice-write-to : tie.Need-slice-write-to invariant-loop decreases-loop
-slice-write-to c = omega (arith, front_long c.before.before.loop.invariant.2)
+bounds-to-index : tie.Need-bounds-to-index invariant-loop-index decreases-loop-index
+bounds-to-index c = omega (arith, front_long c.before.before.loop-index.invariant.2)
 
-add-index : tie.Need-overflow-add-index invariant-loop decreases-loop
-add-index c = search rules
+overflow_add-index : tie.Need-overflow_add-index invariant-loop-index decreases-loop-index
+overflow_add-index c = search rules
 
-loop-less : tie.Need-loop-smaller invariant-loop decreases-loop
-loop-less c = search rules
+loop-index-smaller : tie.Need-loop-index-smaller invariant-loop-index decreases-loop-index
+loop-index-smaller c = search rules
 
-loop-again : tie.Need-loop-preserved invariant-loop decreases-loop
-loop-again c = let o = c.before.before.loop in
+loop-index-preserved : tie.Need-loop-index-preserved invariant-loop-index decreases-loop-index
+loop-index-preserved c = let o = c.before.before.loop-index in
     (omega arith, o.invariant.1, rw (take_more c.before.before.before.args.from.now o.index (omega arith)) (front_more _ o.invariant.2 (omega arith)))
 
-same_length : tie.Need-same-length invariant-loop decreases-loop
-same_length c = front_long c.before.loop.invariant.2
+shape_of-to : tie.Need-shape_of-to invariant-loop-index decreases-loop-index
+shape_of-to c = front_long c.before.loop-index.invariant.2
 
-returns : tie.Need-returns invariant-loop decreases-loop
-returns c = let o = c.before.loop in all_copied c.before.before.args.from.now o.index o.invariant.2 (omega arith) o.invariant.1
+returns : tie.Need-returns invariant-loop-index decreases-loop-index
+returns c = let o = c.before.loop-index in all_copied c.before.before.args.from.now o.index o.invariant.2 (omega arith) o.invariant.1
 
 pub copy_spec : {M : Type 1} → statement M
 copy_spec =
     tie.close
     (tie.spec
-    invariant-loop
-    decreases-loop
-    loop-holds
-    shared-slice-read-to
-    slice-write-to
-    add-index
-    loop-less
-    loop-again
-    same_length
+    invariant-loop-index
+    decreases-loop-index
+    loop-index-init
+    bounds-from-index
+    bounds-to-index
+    overflow_add-index
+    loop-index-smaller
+    loop-index-preserved
+    shape_of-to
     returns)

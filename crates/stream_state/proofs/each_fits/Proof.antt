@@ -16,33 +16,33 @@ use Rattle.stream_state.proofs.lead.Reads as lead-reads
 use Rattle.stream_state.proofs.notices_at.Reads as notices-at-reads
 use Rattle.stream_state.proofs.waits_in.Reads as waits-in-reads
 
-slice-aggregate-notices-at : tie.Need-slice-aggregate-notices-at
-slice-aggregate-notices-at c = search rules
+slice_bounds-notices_at-end : tie.Need-slice_bounds-notices_at-end
+slice_bounds-notices_at-end c = search rules
 
-notices-at-requires : tie.Need-notices-at-requires
-notices-at-requires c κs = search rules
+notices_at-requires : tie.Need-notices_at-requires
+notices_at-requires c κs = search rules
 
-kinds-at-requires : tie.Need-kinds-at-requires
-kinds-at-requires c κs = search rules
+kinds_at-kinds-requires : tie.Need-kinds_at-kinds-requires
+kinds_at-kinds-requires c κs = search rules
 
-lead-requires : tie.Need-lead-requires
-lead-requires c κs = search rules
+lead-lead-requires : tie.Need-lead-lead-requires
+lead-lead-requires c κs = search rules
 
 slots-requires : tie.Need-slots-requires
 slots-requires c κs = search rules
 
-add-last : tie.Need-overflow-add-last
-add-last c = let p = c.before.before.before.before.before.before.before.args.plan in
-    omega (arith, c.before.lead.ensures, lead_is p, lead_few p, c.slots.ensures.2)
+overflow_add-last : tie.Need-overflow_add-last
+overflow_add-last c = let p = c.before.before.before.before.before.before.before.args.plan in
+    omega (arith, c.before.lead-lead.ensures, lead_is p, lead_few p, c.slots.ensures.2)
 
-slice-aggregate-waits-in : tie.Need-slice-aggregate-waits-in
-slice-aggregate-waits-in c = search rules
+slice_bounds-waits_in-end : tie.Need-slice_bounds-waits_in-end
+slice_bounds-waits_in-end c = search rules
 
-mul-waits-in : tie.Need-overflow-mul-waits-in
-mul-waits-in c = search rules
+overflow_mul-groups : tie.Need-overflow_mul-groups
+overflow_mul-groups c = search rules
 
-waits-in-requires : tie.Need-waits-in-requires
-waits-in-requires c κs = search rules
+waits_in-requires : tie.Need-waits_in-requires
+waits_in-requires c κs = search rules
 
 returns : tie.Need-returns
 returns c = let n = c.before.before in
@@ -51,20 +51,20 @@ returns c = let n = c.before.before in
     let t = k.before.before in
     let a = t.before.before.before.args in
     let b = a.state.now in
-    let w = waits_by a.plan (kinds_at b) a.groups (list (number_at b) 36 64) l.lead.result n.slots.result l.lead.ensures n.slots.ensures.0 in
-    c.waits_in.ensures ∙ rw (k.kinds-at.ensures, t.notices-at.ensures) w
+    let w = waits_by a.plan (kinds_at b) a.groups (list (number_at b) 36 64) l.lead-lead.result n.slots.result l.lead-lead.ensures n.slots.ensures.0 in
+    c.waits_in.ensures ∙ rw (k.kinds_at-kinds.ensures, t.notices_at.ensures) w
 
 pub each_fits_spec : {M : Type 1} → statement M
 each_fits_spec =
     tie.close
     (tie.spec
-    slice-aggregate-notices-at
-    notices-at-requires
-    kinds-at-requires
-    lead-requires
+    slice_bounds-notices_at-end
+    notices_at-requires
+    kinds_at-kinds-requires
+    lead-lead-requires
     slots-requires
-    add-last
-    slice-aggregate-waits-in
-    mul-waits-in
-    waits-in-requires
+    overflow_add-last
+    slice_bounds-waits_in-end
+    overflow_mul-groups
+    waits_in-requires
     returns)

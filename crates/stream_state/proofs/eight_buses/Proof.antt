@@ -13,73 +13,73 @@ use Rattle.from_c.proofs.time_at.Reads as time-at-reads
 use Rattle.stream_state.proofs.both.Reads as both-reads
 use Rattle.stream_state.proofs.one_used.Reads as one-used-reads
 
-abbrev invariant-loop : tie.invariant-loop
-invariant-loop state first named₀ used₀ index₀ named used index =
+abbrev invariant-loop-index : tie.invariant-loop-index
+invariant-loop-index state first named₀ used₀ index₀ named used index =
     (index ≤ 8) × (used ≤ index) × (first ≤ 28) × (length state ≡ 7168) × Counted (number_at state) first named used index
 
-abbrev decreases-loop : tie.decreases-loop
-decreases-loop state first named₀ used₀ index₀ named used index = 8 - index
+abbrev decreases-loop-index : tie.decreases-loop-index
+decreases-loop-index state first named₀ used₀ index₀ named used index = 8 - index
 
 -- a number more counts one at most
-one_few : (c : tie.After-one-used invariant-loop decreases-loop) → c.one-used.result ≤ 1
-one_few c = rw c.one-used.ensures (used_small c.before.before.time_at.result)
+one_few : (c : tie.After-one_used-used invariant-loop-index decreases-loop-index) → c.one_used-used.result ≤ 1
+one_few c = rw c.one_used-used.ensures (used_small c.before.before.time_at-number.result)
 
-loop-holds : tie.Need-loop-init invariant-loop decreases-loop
-loop-holds c = let s = c.before in (omega arith, omega arith, s.requires.1, s.requires.0, counted_none (number_at s.args.state.now) s.args.first)
+loop-index-init : tie.Need-loop-index-init invariant-loop-index decreases-loop-index
+loop-index-init c = let s = c.before in (omega arith, omega arith, s.requires.1, s.requires.0, counted_none (number_at s.args.state.now) s.args.first)
 
-add-time-at : tie.Need-overflow-add-time-at invariant-loop decreases-loop
-add-time-at c = search rules
+overflow_add-first : tie.Need-overflow_add-first invariant-loop-index decreases-loop-index
+overflow_add-first c = search rules
 
-mul-time-at : tie.Need-overflow-mul-time-at invariant-loop decreases-loop
-mul-time-at c = search rules
+overflow_mul-first : tie.Need-overflow_mul-first invariant-loop-index decreases-loop-index
+overflow_mul-first c = search rules
 
-time-at-requires : tie.Need-time-at-requires invariant-loop decreases-loop
-time-at-requires c κs = search rules
+time_at-number-requires : tie.Need-time_at-number-requires invariant-loop-index decreases-loop-index
+time_at-number-requires c κs = search rules
 
-both-requires : tie.Need-both-requires invariant-loop decreases-loop
-both-requires c κs = search rules
+both-named-requires : tie.Need-both-named-requires invariant-loop-index decreases-loop-index
+both-named-requires c κs = search rules
 
-one-used-requires : tie.Need-one-used-requires invariant-loop decreases-loop
-one-used-requires c κs = search rules
+one_used-used-requires : tie.Need-one_used-used-requires invariant-loop-index decreases-loop-index
+one_used-used-requires c κs = search rules
 
-add-used : tie.Need-overflow-add-used invariant-loop decreases-loop
-add-used c = let o = c.before.before.before.before.loop in omega (arith, one_few c, o.invariant.0, o.invariant.1)
+overflow_add-used : tie.Need-overflow_add-used invariant-loop-index decreases-loop-index
+overflow_add-used c = let o = c.before.before.before.before.loop-index in omega (arith, one_few c, o.invariant.0, o.invariant.1)
 
-add-index : tie.Need-overflow-add-index invariant-loop decreases-loop
-add-index c = search rules
+overflow_add-index : tie.Need-overflow_add-index invariant-loop-index decreases-loop-index
+overflow_add-index c = search rules
 
-loop-less : tie.Need-loop-smaller invariant-loop decreases-loop
-loop-less c = search rules
+loop-index-smaller : tie.Need-loop-index-smaller invariant-loop-index decreases-loop-index
+loop-index-smaller c = search rules
 
-loop-again : tie.Need-loop-preserved invariant-loop decreases-loop
-loop-again c = let n = c.before.before in
+loop-index-preserved : tie.Need-loop-index-preserved invariant-loop-index decreases-loop-index
+loop-index-preserved c = let n = c.before.before in
     let i = n.before in
-    let o = i.before.loop in
+    let o = i.before.loop-index in
     let one = one_few c in (
-      omega (arith, i.loop-test.true),
+      omega (arith, i.loop-index-test.true),
       omega (arith, one, o.invariant.1),
       o.invariant.2,
       o.invariant.3,
-      counted_more o.invariant.4 i.loop-test.true n.time_at.ensures c.before.both.ensures c.one-used.ensures,
+      counted_more o.invariant.4 i.loop-index-test.true n.time_at-number.ensures c.before.both-named.ensures c.one_used-used.ensures,
     )
 
-returns : tie.Need-returns invariant-loop decreases-loop
-returns c = let o = c.before.loop in counted_all o.invariant.4 (omega arith)
+returns : tie.Need-returns invariant-loop-index decreases-loop-index
+returns c = let o = c.before.loop-index in counted_all o.invariant.4 (omega arith)
 
 pub eight_buses_spec : {M : Type 1} → statement M
 eight_buses_spec =
     tie.close
     (tie.spec
-    invariant-loop
-    decreases-loop
-    loop-holds
-    add-time-at
-    mul-time-at
-    time-at-requires
-    both-requires
-    one-used-requires
-    add-used
-    add-index
-    loop-less
-    loop-again
+    invariant-loop-index
+    decreases-loop-index
+    loop-index-init
+    overflow_add-first
+    overflow_mul-first
+    time_at-number-requires
+    both-named-requires
+    one_used-used-requires
+    overflow_add-used
+    overflow_add-index
+    loop-index-smaller
+    loop-index-preserved
     returns)

@@ -6,11 +6,11 @@ use Rattle.stream_state.proofs.ended.Reads as reads
 use Rattle.stream_state.proofs.ended.Lts as lts
 use Rattle.stream_state.proofs.no_stand.Reads as no-stand-reads
 
-no-stand-requires : tie.Need-no-stand-requires
-no-stand-requires c κs = search rules
+no_stand-requires : tie.Need-no_stand-requires
+no_stand-requires c κs = search rules
 
 returns : tie.Need-returns
-returns c = rw c.no-stand.ensures refl
+returns c = rw c.no_stand.ensures refl
 
 pub ended_spec : {M : Type 1} → statement M
-ended_spec = tie.close (tie.spec no-stand-requires returns)
+ended_spec = tie.close (tie.spec no_stand-requires returns)

@@ -6,28 +6,28 @@ use Rattle.stream_state.proofs.fault_fits.Tie as tie
 use Rattle.stream_state.proofs.fault_fits.Reads as reads
 use Rattle.stream_state.proofs.fault_fits.Lts as lts
 
+returns-then-number-lt9 : tie.Need-returns-then-number-lt9
+returns-then-number-lt9 c = sym (too_low c.before.args.number c.before.args.place c.before.args.second c.if-number-lt9.true)
+
+returns-then-number-gt15 : tie.Need-returns-then-number-gt15
+returns-then-number-gt15 c = sym (too_high c.before.before.args.number c.before.before.args.place c.before.before.args.second c.if-number-gt15.true)
+
+returns-then-number-eq14 : tie.Need-returns-then-number-eq14
+returns-then-number-eq14 c = sym (fourteen c.before.before.before.args.number c.before.before.before.args.place c.before.before.before.args.second c.if-number-eq14.true)
+
+returns-then-place-gt366503875925 : tie.Need-returns-then-place-gt366503875925
+returns-then-place-gt366503875925 c = let a = c.before.before.before.before.args in
+    sym (far a.number a.place a.second c.before.before.before.if-number-lt9.false c.before.before.if-number-gt15.false c.before.if-number-eq14.false c.if-place-gt366503875925.true)
+
+returns-then-number-eq13 : tie.Need-returns-then-number-eq13
+returns-then-number-eq13 c = let a = c.before.before.before.before.before.args in
+    let t = c.before.before in
+    sym (two-places a.number a.place a.second t.before.before.if-number-lt9.false t.before.if-number-gt15.false t.if-number-eq14.false c.before.if-place-gt366503875925.false c.if-number-eq13.true)
+
 returns : tie.Need-returns
-returns c = sym (too_low c.before.args.number c.before.args.place c.before.args.second c.if1.true)
-
-returns-2 : tie.Need-returns-2
-returns-2 c = sym (too_high c.before.before.args.number c.before.before.args.place c.before.before.args.second c.if2.true)
-
-returns-3 : tie.Need-returns-3
-returns-3 c = sym (fourteen c.before.before.before.args.number c.before.before.before.args.place c.before.before.before.args.second c.if3.true)
-
-returns-4 : tie.Need-returns-4
-returns-4 c = let a = c.before.before.before.before.args in
-    sym (far a.number a.place a.second c.before.before.before.if1.false c.before.before.if2.false c.before.if3.false c.if4.true)
-
-returns-5 : tie.Need-returns-5
-returns-5 c = let a = c.before.before.before.before.before.args in
+returns c = let a = c.before.before.before.before.before.args in
     let t = c.before.before in
-    sym (two-places a.number a.place a.second t.before.before.if1.false t.before.if2.false t.if3.false c.before.if4.false c.if5.true)
-
-returns-6 : tie.Need-returns-6
-returns-6 c = let a = c.before.before.before.before.before.args in
-    let t = c.before.before in
-    sym (one_place a.number a.place a.second t.before.before.if1.false t.before.if2.false t.if3.false c.before.if4.false c.if5.false)
+    sym (one_place a.number a.place a.second t.before.before.if-number-lt9.false t.before.if-number-gt15.false t.if-number-eq14.false c.before.if-place-gt366503875925.false c.if-number-eq13.false)
 
 pub fault_fits_spec : {M : Type 1} → statement M
-fault_fits_spec = tie.close (tie.spec returns returns-2 returns-3 returns-4 returns-5 returns-6)
+fault_fits_spec = tie.close (tie.spec returns-then-number-lt9 returns-then-number-gt15 returns-then-number-eq14 returns-then-place-gt366503875925 returns-then-number-eq13 returns)

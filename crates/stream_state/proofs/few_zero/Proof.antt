@@ -8,39 +8,39 @@ use Rattle.stream_state.proofs.few_zero.Tie as tie
 use Rattle.stream_state.proofs.few_zero.Reads as reads
 use Rattle.stream_state.proofs.few_zero.Lts as lts
 
-abbrev invariant-loop : tie.invariant-loop
-invariant-loop bytes any₀ index₀ any index = Seen bytes any index
+abbrev invariant-loop-index : tie.invariant-loop-index
+invariant-loop-index bytes any₀ index₀ any index = Seen bytes any index
 
-abbrev decreases-loop : tie.decreases-loop
-decreases-loop bytes any₀ index₀ any index = length bytes - index
+abbrev decreases-loop-index : tie.decreases-loop-index
+decreases-loop-index bytes any₀ index₀ any index = length bytes - index
 
-loop-holds : tie.Need-loop-init invariant-loop decreases-loop
-loop-holds c = seen_none _
+loop-index-init : tie.Need-loop-index-init invariant-loop-index decreases-loop-index
+loop-index-init c = seen_none _
 
-shared-slice-read-any : tie.Need-shared-slice-read-any invariant-loop decreases-loop
-shared-slice-read-any c = search rules
+bounds-bytes-index : tie.Need-bounds-bytes-index invariant-loop-index decreases-loop-index
+bounds-bytes-index c = search rules
 
-add-index : tie.Need-overflow-add-index invariant-loop decreases-loop
-add-index c = search rules
+overflow_add-index : tie.Need-overflow_add-index invariant-loop-index decreases-loop-index
+overflow_add-index c = search rules
 
-loop-less : tie.Need-loop-smaller invariant-loop decreases-loop
-loop-less c = search rules
+loop-index-smaller : tie.Need-loop-index-smaller invariant-loop-index decreases-loop-index
+loop-index-smaller c = search rules
 
-loop-again : tie.Need-loop-preserved invariant-loop decreases-loop
-loop-again c = seen_more c.before.before.loop.invariant c.before.loop-test.true
+loop-index-preserved : tie.Need-loop-index-preserved invariant-loop-index decreases-loop-index
+loop-index-preserved c = seen_more c.before.before.loop-index.invariant c.before.loop-index-test.true
 
-returns : tie.Need-returns invariant-loop decreases-loop
-returns c = seen_all c.before.loop.invariant (omega arith)
+returns : tie.Need-returns invariant-loop-index decreases-loop-index
+returns c = seen_all c.before.loop-index.invariant (omega arith)
 
 pub few_zero_spec : {M : Type 1} → statement M
 few_zero_spec =
     tie.close
     (tie.spec
-    invariant-loop
-    decreases-loop
-    loop-holds
-    shared-slice-read-any
-    add-index
-    loop-less
-    loop-again
+    invariant-loop-index
+    decreases-loop-index
+    loop-index-init
+    bounds-bytes-index
+    overflow_add-index
+    loop-index-smaller
+    loop-index-preserved
     returns)

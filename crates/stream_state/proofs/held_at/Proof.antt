@@ -30,29 +30,29 @@ use Rattle.stream_state.proofs.numbers_zero.Reads as numbers-zero-reads
 use Rattle.stream_state.proofs.refeed.Reads as refeed-reads
 
 -- the function's entry, and the number of words
-abbrev start : tie.After-time-at → tie.Start
+abbrev start : tie.After-time_at-count → tie.Start
 start c = c.before.before.before.before.before
 
 sixteen : (b : List ℕ) → length (kinds_at b) ≡ 16
 sixteen b = length_list _ 0 16
 
-abbrev at : tie.After-time-at → ℕ → ℕ
+abbrev at : tie.After-time_at-count → ℕ → ℕ
 at c = number_at (start c).args.state.now
 
-count_is : (c : tie.After-time-at) → c.time_at.result ≡ at c 15
-count_is c = c.time_at.ensures
+count_is : (c : tie.After-time_at-count) → c.time_at-count.result ≡ at c 15
+count_is c = c.time_at-count.ensures
 
-sub-few-zero : tie.Need-overflow-sub-few-zero
-sub-few-zero c = search rules
+slice_bounds-few_zero-count : tie.Need-slice_bounds-few_zero-count
+slice_bounds-few_zero-count c = search rules
 
-part-few-zero-start : tie.Need-slice-bounds-few-zero-start
-part-few-zero-start c = search rules
+slice_bounds-few_zero-start : tie.Need-slice_bounds-few_zero-start
+slice_bounds-few_zero-start c = search rules
 
-part-few-zero-end : tie.Need-slice-bounds-few-zero-end
-part-few-zero-end c = search rules
+slice_bounds-few_zero-end : tie.Need-slice_bounds-few_zero-end
+slice_bounds-few_zero-end c = search rules
 
-few-zero-requires : tie.Need-few-zero-requires
-few-zero-requires c κs = search rules
+few_zero-requires : tie.Need-few_zero-requires
+few_zero-requires c κs = search rules
 
 nothing-requires : tie.Need-nothing-requires
 nothing-requires c κs = search rules
@@ -60,72 +60,72 @@ nothing-requires c κs = search rules
 kept-requires : tie.Need-kept-requires
 kept-requires c κs = search rules
 
-returns : tie.Need-returns
-returns c = let t = c.before.before in
+returns-then-few_zero : tie.Need-returns-then-few_zero
+returns-then-few_zero c = let t = c.before.before in
     let b = t.before.before.before.before.args.state.now in
-    let z = sym t.before.few-zero.ensures ∙ t.if1.true in
+    let z = sym t.before.few_zero.ensures ∙ t.if-few_zero.true in
     c.kept.ensures ∙ ap (λ (h : Holding). record { bad = false; held = h }) c.before.nothing.ensures
     ∙ none_held (kinds_at b) (sixteen b) (number_at b) (zero_numbers b 15 5 t.before.before.before.before.requires (omega arith) z)
 
-time-at-requires : tie.Need-time-at-requires
-time-at-requires c κs = search rules
+time_at-count-requires : tie.Need-time_at-count-requires
+time_at-count-requires c κs = search rules
 
 lost-requires : tie.Need-lost-requires
 lost-requires c κs = search rules
 
-returns-2 : tie.Need-returns-2
-returns-2 c = let r = c.before.before in
+returns-then-count-gt4 : tie.Need-returns-then-count-gt4
+returns-then-count-gt4 c = let r = c.before.before in
     let b = (start r).args.state.now in
-    c.lost.ensures ∙ too_many (kinds_at b) (sixteen b) (at r) (omega (arith, count_is r, c.before.if2.true))
+    c.lost.ensures ∙ too_many (kinds_at b) (sixteen b) (at r) (omega (arith, count_is r, c.before.if-count-gt4.true))
 
-add-first : tie.Need-overflow-add-first
-add-first c = search rules
+overflow_add-first : tie.Need-overflow_add-first
+overflow_add-first c = search rules
 
-numbers-zero-requires : tie.Need-numbers-zero-requires
-numbers-zero-requires c κs = search rules
+numbers_zero-requires : tie.Need-numbers_zero-requires
+numbers_zero-requires c κs = search rules
 
-lost-requires-2 : tie.Need-lost-requires-2
-lost-requires-2 c κs = search rules
+lost-requires-then-not-numbers_zero : tie.Need-lost-requires-then-not-numbers_zero
+lost-requires-then-not-numbers_zero c κs = search rules
 
-returns-3 : tie.Need-returns-3
-returns-3 c = let r = c.before.before.before.before in
-    let e = sym c.before.before.numbers_zero.ensures ∙ not-true _ c.before.if3.true in
+returns-then-not-numbers_zero : tie.Need-returns-then-not-numbers_zero
+returns-then-not-numbers_zero c = let r = c.before.before.before.before in
+    let e = sym c.before.before.numbers_zero.ensures ∙ not-true _ c.before.if-not-numbers_zero.true in
     let b = (start r).args.state.now in
-    c.lost2.ensures ∙ not_zero (kinds_at b) (sixteen b) (at r) (omega (arith, count_is r, c.before.before.before.if2.false)) (rw (count_is r) at e)
+    c.lost-then-not-numbers_zero.ensures ∙ not_zero (kinds_at b) (sixteen b) (at r) (omega (arith, count_is r, c.before.before.before.if-count-gt4.false)) (rw (count_is r) at e)
 
-kinds-at-requires : tie.Need-kinds-at-requires
-kinds-at-requires c κs = search rules
+kinds_at-kinds-requires : tie.Need-kinds_at-kinds-requires
+kinds_at-kinds-requires c κs = search rules
 
 refeed-requires : tie.Need-refeed-requires
 refeed-requires c κs = search rules
 
-returns-4 : tie.Need-returns-4
-returns-4 c = let k = c.before in
+returns : tie.Need-returns
+returns c = let k = c.before in
     let r = k.before.before.before.before in
     let b = (start r).args.state.now in
-    let z : are_zeros (list (at r) (16 + at r 15) (20 - (16 + at r 15))) ≡ true = rw (count_is r) at (sym k.before.before.numbers_zero.ensures ∙ not-false _ k.before.if3.false) in
+    let z : are_zeros (list (at r) (16 + at r 15) (20 - (16 + at r 15))) ≡ true = rw (count_is r) at (sym k.before.before.numbers_zero.ensures ∙ not-false _ k.before.if-not-numbers_zero.false) in
     c.refeed.ensures
-    ∙ ap₂ (λ (ks : List Kind) (n : ℕ). again_from (again ks Nothing (list (at r) 16 n))) k.kinds-at.ensures (count_is r)
-    ∙ fed_again (kinds_at b) (sixteen b) (at r) (omega (arith, count_is r, k.before.before.before.if2.false)) z
+    ∙ ap₂ (λ (ks : List Kind) (n : ℕ). again_from (again ks Nothing (list (at r) 16 n))) k.kinds_at-kinds.ensures (count_is r)
+    ∙ fed_again (kinds_at b) (sixteen b) (at r) (omega (arith, count_is r, k.before.before.before.if-count-gt4.false)) z
 
 pub held_at_spec : {M : Type 1} → statement M
 held_at_spec =
     tie.close
     (tie.spec
-    sub-few-zero
-    part-few-zero-start
-    part-few-zero-end
-    few-zero-requires
+    slice_bounds-few_zero-count
+    slice_bounds-few_zero-start
+    slice_bounds-few_zero-end
+    few_zero-requires
     nothing-requires
     kept-requires
-    returns
-    time-at-requires
+    returns-then-few_zero
+    time_at-count-requires
     lost-requires
-    returns-2
-    add-first
-    numbers-zero-requires
-    lost-requires-2
-    returns-3
-    kinds-at-requires
+    returns-then-count-gt4
+    overflow_add-first
+    numbers_zero-requires
+    lost-requires-then-not-numbers_zero
+    returns-then-not-numbers_zero
+    kinds_at-kinds-requires
     refeed-requires
-    returns-4)
+    returns)

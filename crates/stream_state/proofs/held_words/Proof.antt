@@ -11,59 +11,59 @@ use Rattle.stream_state.proofs.arinc_words.Reads as arinc-words-reads
 use Rattle.stream_state.proofs.command_words.Reads as command-words-reads
 use Rattle.stream_state.proofs.word.Reads as word-reads
 
-returns : tie.Need-returns
-returns c = none_words c.before.args.held c.if1.true
+returns-then-awaits-eq0 : tie.Need-returns-then-awaits-eq0
+returns-then-awaits-eq0 c = none_words c.before.args.held c.if-awaits-eq0.true
 
-word-requires : tie.Need-word-requires
-word-requires c κs = search rules
+word-answer-requires : tie.Need-word-answer-requires
+word-answer-requires c κs = search rules
 
-returns-2 : tie.Need-returns-2
-returns-2 c = answer_words c.before.before.before.args.held c.word.result c.before.before.if1.false c.before.if2.true c.word.ensures
+returns-then-awaits-ge256 : tie.Need-returns-then-awaits-ge256
+returns-then-awaits-ge256 c = answer_words c.before.before.before.args.held c.word-answer.result c.before.before.if-awaits-eq0.false c.before.if-awaits-ge256.true c.word-answer.ensures
 
-add-word : tie.Need-overflow-add-word
-add-word c = search rules
+overflow_add-stage : tie.Need-overflow_add-stage
+overflow_add-stage c = search rules
 
-cast-word : tie.Need-overflow-cast-word
-cast-word c = search rules
+overflow_cast-base : tie.Need-overflow_cast-base
+overflow_cast-base c = search rules
 
-word-requires-2 : tie.Need-word-requires-2
-word-requires-2 c κs = search rules
+word-high-requires : tie.Need-word-high-requires
+word-high-requires c κs = search rules
 
-returns-3 : tie.Need-returns-3
-returns-3 c = let s = c.before.before.before.before in
+returns-then-stage-ge8 : tie.Need-returns-then-stage-ge8
+returns-then-stage-ge8 c = let s = c.before.before.before.before in
     let small = c.before.before in
-    half_words s.args.held c.word2.result s.requires small.before.if1.false (omega (arith, small.if2.false)) c.before.if3.true c.word2.ensures
+    half_words s.args.held c.word-high.result s.requires small.before.if-awaits-eq0.false (omega (arith, small.if-awaits-ge256.false)) c.before.if-stage-ge8.true c.word-high.ensures
 
-command-words-requires : tie.Need-command-words-requires
-command-words-requires c κs = search rules
+command_words-requires : tie.Need-command_words-requires
+command_words-requires c κs = search rules
 
-returns-4 : tie.Need-returns-4
-returns-4 c = let s = c.before.before.before.before.before in
+returns-then-base-lt4294967296 : tie.Need-returns-then-base-lt4294967296
+returns-then-base-lt4294967296 c = let s = c.before.before.before.before.before in
     let t = c.before.before in
-    let small : s.args.held.awaits < 256 = omega (arith, t.before.if2.false) in
-    c.command-words.ensures ∙ command_row s.args.held s.requires t.before.before.if1.false small (omega (arith, t.if3.false)) c.before.if4.true
+    let small : s.args.held.awaits < 256 = omega (arith, t.before.if-awaits-ge256.false) in
+    c.command_words.ensures ∙ command_row s.args.held s.requires t.before.before.if-awaits-eq0.false small (omega (arith, t.if-stage-ge8.false)) c.before.if-base-lt4294967296.true
 
-arinc-words-requires : tie.Need-arinc-words-requires
-arinc-words-requires c κs = search rules
+arinc_words-requires : tie.Need-arinc_words-requires
+arinc_words-requires c κs = search rules
 
-returns-5 : tie.Need-returns-5
-returns-5 c = let s = c.before.before.before.before.before in
+returns : tie.Need-returns
+returns c = let s = c.before.before.before.before.before in
     let t = c.before.before in
-    let small : s.args.held.awaits < 256 = omega (arith, t.before.if2.false) in
-    c.arinc-words.ensures ∙ arinc_row s.args.held s.requires t.before.before.if1.false small (omega (arith, t.if3.false)) (omega (arith, c.before.if4.false))
+    let small : s.args.held.awaits < 256 = omega (arith, t.before.if-awaits-ge256.false) in
+    c.arinc_words.ensures ∙ arinc_row s.args.held s.requires t.before.before.if-awaits-eq0.false small (omega (arith, t.if-stage-ge8.false)) (omega (arith, c.before.if-base-lt4294967296.false))
 
 pub held_words_spec : {M : Type 1} → statement M
 held_words_spec =
     tie.close
     (tie.spec
-    returns
-    word-requires
-    returns-2
-    add-word
-    cast-word
-    word-requires-2
-    returns-3
-    command-words-requires
-    returns-4
-    arinc-words-requires
-    returns-5)
+    returns-then-awaits-eq0
+    word-answer-requires
+    returns-then-awaits-ge256
+    overflow_add-stage
+    overflow_cast-base
+    word-high-requires
+    returns-then-stage-ge8
+    command_words-requires
+    returns-then-base-lt4294967296
+    arinc_words-requires
+    returns)

@@ -2,24 +2,24 @@ use borrow.Author.Rules.{rules}
 use Rattle.stream_state.proofs.kind_number.Statement.{statement}
 use Rattle.stream_state.proofs.kind_number.Tie as tie
 
-enum_told : tie.Need-enum-told
-enum_told c = search rules
+enum_told-1 : tie.Need-enum_told-1
+enum_told-1 c = search rules
 
-enum-told-2 : tie.Need-enum-told-2
-enum-told-2 c = search rules
+enum_told-in-Mil1553 : tie.Need-enum_told-in-Mil1553
+enum_told-in-Mil1553 c = search rules
 
-enum-told-3 : tie.Need-enum-told-3
-enum-told-3 c = search rules
+enum_told-in-Arinc429 : tie.Need-enum_told-in-Arinc429
+enum_told-in-Arinc429 c = search rules
 
-returns : tie.Need-returns
-returns c = rw c.enum_told.given.1
+returns-in-Unused : tie.Need-returns-in-Unused
+returns-in-Unused c = rw c.enum_told-1.given.1
 
-returns-2 : tie.Need-returns-2
-returns-2 c = rw c.enum-told2.given.1
+returns-in-Mil1553 : tie.Need-returns-in-Mil1553
+returns-in-Mil1553 c = rw c.enum_told-in-Mil1553-1.given.1
 
-returns-3 : tie.Need-returns-3
-returns-3 c = rw c.enum-told3.given.1
+returns-in-Arinc429 : tie.Need-returns-in-Arinc429
+returns-in-Arinc429 c = rw c.enum_told-in-Arinc429-1.given.1
 
 pub kind_number_spec : {M : Type 1} → statement M
 kind_number_spec =
-    tie.close (tie.spec enum_told enum-told-2 enum-told-3 returns returns-2 returns-3)
+    tie.close (tie.spec enum_told-1 enum_told-in-Mil1553 enum_told-in-Arinc429 returns-in-Unused returns-in-Mil1553 returns-in-Arinc429)

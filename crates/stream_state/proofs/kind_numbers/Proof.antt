@@ -14,46 +14,46 @@ use Rattle.stream_state.proofs.kind_numbers.Reads as reads
 use Rattle.stream_state.proofs.kind_numbers.Lts as lts
 use Rattle.stream_state.proofs.kind_number.Reads as kind-number-reads
 
-abbrev invariant-loop : tie.invariant-loop
-invariant-loop kinds numbers₀ bus₀ numbers bus = (bus ≤ 16) × (length numbers ≡ 16) × (length kinds ≡ 16) × (take bus numbers ≡ map kind_number (take bus kinds))
+abbrev invariant-loop-bus : tie.invariant-loop-bus
+invariant-loop-bus kinds numbers₀ bus₀ numbers bus = (bus ≤ 16) × (length numbers ≡ 16) × (length kinds ≡ 16) × (take bus numbers ≡ map kind_number (take bus kinds))
 
-abbrev decreases-loop : tie.decreases-loop
-decreases-loop kinds numbers₀ bus₀ numbers bus = 16 - bus
+abbrev decreases-loop-bus : tie.decreases-loop-bus
+decreases-loop-bus kinds numbers₀ bus₀ numbers bus = 16 - bus
 
-loop-holds : tie.Need-loop-init invariant-loop decreases-loop
-loop-holds c = (search rules, refl, c.requires, refl)
+loop-bus-init : tie.Need-loop-bus-init invariant-loop-bus decreases-loop-bus
+loop-bus-init c = (search rules, refl, c.requires, refl)
 
-array-copy-out-kind-number : tie.Need-array-copy-out-kind-number invariant-loop decreases-loop
-array-copy-out-kind-number c = search rules
+bounds-kinds-bus : tie.Need-bounds-kinds-bus invariant-loop-bus decreases-loop-bus
+bounds-kinds-bus c = search rules
 
-kind-number-requires : tie.Need-kind-number-requires invariant-loop decreases-loop
-kind-number-requires c κs = search rules
+kind_number-requires : tie.Need-kind_number-requires invariant-loop-bus decreases-loop-bus
+kind_number-requires c κs = search rules
 
-mul-numbers : tie.Need-overflow-mul-numbers invariant-loop decreases-loop
-mul-numbers c = search rules
+offset_bounds-numbers-bus : tie.Need-offset_bounds-numbers-bus invariant-loop-bus decreases-loop-bus
+offset_bounds-numbers-bus c = search rules
 
-array-write-numbers : tie.Need-array-write-numbers invariant-loop decreases-loop
-array-write-numbers c = search rules
+bounds-numbers-bus : tie.Need-bounds-numbers-bus invariant-loop-bus decreases-loop-bus
+bounds-numbers-bus c = search rules
 
-add-bus : tie.Need-overflow-add-bus invariant-loop decreases-loop
-add-bus c = search rules
+overflow_add-bus : tie.Need-overflow_add-bus invariant-loop-bus decreases-loop-bus
+overflow_add-bus c = search rules
 
-loop-less : tie.Need-loop-smaller invariant-loop decreases-loop
-loop-less c = search rules
+loop-bus-smaller : tie.Need-loop-bus-smaller invariant-loop-bus decreases-loop-bus
+loop-bus-smaller c = search rules
 
-loop-again : tie.Need-loop-preserved invariant-loop decreases-loop
-loop-again c = let o = c.before.before.before.loop in
+loop-bus-preserved : tie.Need-loop-bus-preserved invariant-loop-bus decreases-loop-bus
+loop-bus-preserved c = let o = c.before.before.before.loop-bus in
     let ks = c.before.before.before.before.args.t1 in
     let was = take-suc ks o.bus Unused (omega arith) in
-    let new = take-suc-set o.numbers o.bus c.kind-number.result (omega arith) in (
+    let new = take-suc-set o.numbers o.bus c.kind_number.result (omega arith) in (
       search rules,
       simp length-set o.invariant.1,
       o.invariant.2,
-      rw (add-one o.bus, was, new, map-append kind_number (take o.bus ks), ← o.invariant.3, ← c.kind-number.ensures),
+      rw (add-one o.bus, was, new, map-append kind_number (take o.bus ks), ← o.invariant.3, ← c.kind_number.ensures),
     )
 
-returns : tie.Need-returns invariant-loop decreases-loop
-returns c = let o = c.before.loop in
+returns : tie.Need-returns invariant-loop-bus decreases-loop-bus
+returns c = let o = c.before.loop-bus in
     let ks = c.before.before.args.t1 in
     sym (take_all o.bus o.numbers (omega arith)) ∙ o.invariant.3 ∙ ap (map kind_number) (take_all o.bus ks (omega arith))
 
@@ -61,14 +61,14 @@ pub kind_numbers_spec : {M : Type 1} → statement M
 kind_numbers_spec =
     tie.close
     (tie.spec
-    invariant-loop
-    decreases-loop
-    loop-holds
-    array-copy-out-kind-number
-    kind-number-requires
-    mul-numbers
-    array-write-numbers
-    add-bus
-    loop-less
-    loop-again
+    invariant-loop-bus
+    decreases-loop-bus
+    loop-bus-init
+    bounds-kinds-bus
+    kind_number-requires
+    offset_bounds-numbers-bus
+    bounds-numbers-bus
+    overflow_add-bus
+    loop-bus-smaller
+    loop-bus-preserved
     returns)

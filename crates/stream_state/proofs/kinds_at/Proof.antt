@@ -14,46 +14,46 @@ use Rattle.stream_state.proofs.kinds_at.Reads as reads
 use Rattle.stream_state.proofs.kinds_at.Lts as lts
 use Rattle.from_c.proofs.kind_of.Reads as kind-of-reads
 
-abbrev invariant-loop : tie.invariant-loop
-invariant-loop state kinds₀ bus₀ kinds bus = (bus ≤ 16) × (length state ≡ 7168) × (length kinds ≡ 16) × (take bus kinds ≡ list (λ k. kind_of (get_or state (167 + 8 * k) 0)) 0 bus)
+abbrev invariant-loop-bus : tie.invariant-loop-bus
+invariant-loop-bus state kinds₀ bus₀ kinds bus = (bus ≤ 16) × (length state ≡ 7168) × (length kinds ≡ 16) × (take bus kinds ≡ list (λ k. kind_of (get_or state (167 + 8 * k) 0)) 0 bus)
 
-abbrev decreases-loop : tie.decreases-loop
-decreases-loop state kinds₀ bus₀ kinds bus = 16 - bus
+abbrev decreases-loop-bus : tie.decreases-loop-bus
+decreases-loop-bus state kinds₀ bus₀ kinds bus = 16 - bus
 
-loop-holds : tie.Need-loop-init invariant-loop decreases-loop
+loop-bus-init : tie.Need-loop-bus-init invariant-loop-bus decreases-loop-bus
 unfolding list
-loop-holds c = (omega arith, c.before.requires, refl, refl)
+loop-bus-init c = (omega arith, c.before.requires, refl, refl)
 
-mul-kind-of : tie.Need-overflow-mul-kind-of invariant-loop decreases-loop
-mul-kind-of c = search rules
+overflow_mul-bus : tie.Need-overflow_mul-bus invariant-loop-bus decreases-loop-bus
+overflow_mul-bus c = search rules
 
-add-kind-of : tie.Need-overflow-add-kind-of invariant-loop decreases-loop
-add-kind-of c = search rules
+overflow_add-bus : tie.Need-overflow_add-bus invariant-loop-bus decreases-loop-bus
+overflow_add-bus c = search rules
 
-shared-slice-read-kind-of : tie.Need-shared-slice-read-kind-of invariant-loop decreases-loop
-shared-slice-read-kind-of c = search rules
+bounds-state-bus : tie.Need-bounds-state-bus invariant-loop-bus decreases-loop-bus
+bounds-state-bus c = search rules
 
-kind-of-requires : tie.Need-kind-of-requires invariant-loop decreases-loop
-kind-of-requires c κs = search rules
+kind_of-requires : tie.Need-kind_of-requires invariant-loop-bus decreases-loop-bus
+kind_of-requires c κs = search rules
 
-array-set-from-kinds : tie.Need-array-set-from-kinds invariant-loop decreases-loop
-array-set-from-kinds c = search rules
+bounds-kinds-bus : tie.Need-bounds-kinds-bus invariant-loop-bus decreases-loop-bus
+bounds-kinds-bus c = search rules
 
-add-bus : tie.Need-overflow-add-bus invariant-loop decreases-loop
-add-bus c = search rules
+overflow_add-bus-in-loop-bus : tie.Need-overflow_add-bus-in-loop-bus invariant-loop-bus decreases-loop-bus
+overflow_add-bus-in-loop-bus c = search rules
 
-loop-less : tie.Need-loop-smaller invariant-loop decreases-loop
-loop-less c = search rules
+loop-bus-smaller : tie.Need-loop-bus-smaller invariant-loop-bus decreases-loop-bus
+loop-bus-smaller c = search rules
 
-loop-again : tie.Need-loop-preserved invariant-loop decreases-loop
-loop-again c = let o = c.before.before.before.loop in
+loop-bus-preserved : tie.Need-loop-bus-preserved invariant-loop-bus decreases-loop-bus
+loop-bus-preserved c = let o = c.before.before.before.loop-bus in
     let s = c.before.before.before.before.before.args.state.now in
     let more = list_more (λ k. kind_of (get_or s (167 + 8 * k) 0)) o.bus in
-    let new = take-suc-set o.kinds o.bus c.kind-of.result (omega arith) in
-    (omega (arith, c.before.before.loop-test.true), o.invariant.1, simp length-set o.invariant.2, rw (more, add-one o.bus, new, o.invariant.3, c.kind-of.ensures) refl)
+    let new = take-suc-set o.kinds o.bus c.kind_of.result (omega arith) in
+    (omega (arith, c.before.before.loop-bus-test.true), o.invariant.1, simp length-set o.invariant.2, rw (more, add-one o.bus, new, o.invariant.3, c.kind_of.ensures) refl)
 
-returns : tie.Need-returns invariant-loop decreases-loop
-returns c = let o = c.before.loop in
+returns : tie.Need-returns invariant-loop-bus decreases-loop-bus
+returns c = let o = c.before.loop-bus in
     let e : o.bus ≡ 16 = omega arith in
     sym (take_all o.bus o.kinds (omega arith)) ∙ o.invariant.3 ∙ rw e refl
 
@@ -61,15 +61,15 @@ pub kinds_at_spec : {M : Type 1} → statement M
 kinds_at_spec =
     tie.close
     (tie.spec
-    invariant-loop
-    decreases-loop
-    loop-holds
-    mul-kind-of
-    add-kind-of
-    shared-slice-read-kind-of
-    kind-of-requires
-    array-set-from-kinds
-    add-bus
-    loop-less
-    loop-again
+    invariant-loop-bus
+    decreases-loop-bus
+    loop-bus-init
+    overflow_mul-bus
+    overflow_add-bus
+    bounds-state-bus
+    kind_of-requires
+    bounds-kinds-bus
+    overflow_add-bus-in-loop-bus
+    loop-bus-smaller
+    loop-bus-preserved
     returns)

@@ -14,40 +14,40 @@ use Rattle.stream_state.proofs.load_working.Reads as load-working-reads
 ended-requires : tie.Need-ended-requires
 ended-requires c κs = search rules
 
+returns-then-state-ne7168 : tie.Need-returns-then-state-ne7168
+returns-then-state-ne7168 c = c.ended.ensures ∙ other_length c.before.before.before.args.state.now c.before.if-state-ne7168.true
+
+time_at-stage-requires : tie.Need-time_at-stage-requires
+time_at-stage-requires c κs = search rules
+
+load_working-requires : tie.Need-load_working-requires
+load_working-requires c κs = search rules
+
+returns-then-stage-eq1025 : tie.Need-returns-then-stage-eq1025
+returns-then-stage-eq1025 c = c.load_working.ensures
+
+load_failed-requires : tie.Need-load_failed-requires
+load_failed-requires c κs = search rules
+
+returns-then-stage-eq1026 : tie.Need-returns-then-stage-eq1026
+returns-then-stage-eq1026 c = c.load_failed.ensures
+
+load_closed-requires : tie.Need-load_closed-requires
+load_closed-requires c κs = search rules
+
 returns : tie.Need-returns
-returns c = c.ended.ensures ∙ other_length c.before.before.before.args.state.now c.before.if1.true
-
-time-at-requires : tie.Need-time-at-requires
-time-at-requires c κs = search rules
-
-load-working-requires : tie.Need-load-working-requires
-load-working-requires c κs = search rules
-
-returns-2 : tie.Need-returns-2
-returns-2 c = c.load-working.ensures
-
-load-failed-requires : tie.Need-load-failed-requires
-load-failed-requires c κs = search rules
-
-returns-3 : tie.Need-returns-3
-returns-3 c = c.load-failed.ensures
-
-load-closed-requires : tie.Need-load-closed-requires
-load-closed-requires c κs = search rules
-
-returns-4 : tie.Need-returns-4
-returns-4 c = c.load-closed.ensures
+returns c = c.load_closed.ensures
 
 pub load_spec : {M : Type 1} → statement M
 load_spec =
     tie.close
     (tie.spec
     ended-requires
-    returns
-    time-at-requires
-    load-working-requires
-    returns-2
-    load-failed-requires
-    returns-3
-    load-closed-requires
-    returns-4)
+    returns-then-state-ne7168
+    time_at-stage-requires
+    load_working-requires
+    returns-then-stage-eq1025
+    load_failed-requires
+    returns-then-stage-eq1026
+    load_closed-requires
+    returns)

@@ -27,62 +27,62 @@ use Rattle.stream_state.proofs.numbers_zero.Reads as numbers-zero-reads
 abbrev bare : (s : tie.Start) → is_state s.args.state.now ≡ true → Bare s.args.state.now
 bare s = is_bare s.args.state.now s.requires.1 s.requires.2
 
-numbers-zero-requires : tie.Need-numbers-zero-requires
-numbers-zero-requires c κs = search rules
+numbers_zero-requires : tie.Need-numbers_zero-requires
+numbers_zero-requires c κs = search rules
 
 ended-requires : tie.Need-ended-requires
 ended-requires c κs = search rules
 
-returns : tie.Need-returns
-returns c = let s = c.before.before.before.before in
+returns-then-not-numbers_zero : tie.Need-returns-then-not-numbers_zero
+returns-then-not-numbers_zero c = let s = c.before.before.before.before in
     c.ended.ensures
     ∙ sym (misfits s.args.state.now (are_zeros (list (number_at s.args.state.now) 0 101)) (λ e. (bare s e).front)
-    (sym c.before.before.numbers_zero.ensures ∙ not-true _ c.before.if1.true))
+    (sym c.before.before.numbers_zero.ensures ∙ not-true _ c.before.if-not-numbers_zero.true))
 
-sub-bytes-zero : tie.Need-overflow-sub-bytes-zero
-sub-bytes-zero c = search rules
+slice_bounds-bytes_zero-count : tie.Need-slice_bounds-bytes_zero-count
+slice_bounds-bytes_zero-count c = search rules
 
-part-bytes-zero-start : tie.Need-slice-bounds-bytes-zero-start
-part-bytes-zero-start c = search rules
+slice_bounds-bytes_zero-start : tie.Need-slice_bounds-bytes_zero-start
+slice_bounds-bytes_zero-start c = search rules
 
-part-bytes-zero-end : tie.Need-slice-bounds-bytes-zero-end
-part-bytes-zero-end c = search rules
+slice_bounds-bytes_zero-end : tie.Need-slice_bounds-bytes_zero-end
+slice_bounds-bytes_zero-end c = search rules
 
-bytes-zero-requires : tie.Need-bytes-zero-requires
-bytes-zero-requires c κs = search rules
+bytes_zero-requires : tie.Need-bytes_zero-requires
+bytes_zero-requires c κs = search rules
+
+ended-requires-then-not-bytes_zero : tie.Need-ended-requires-then-not-bytes_zero
+ended-requires-then-not-bytes_zero c κs = search rules
+
+returns-then-not-bytes_zero : tie.Need-returns-then-not-bytes_zero
+returns-then-not-bytes_zero c = let s = c.before.before.before.before.before.before.before in let b = s.args.state.now in
+    c.ended-then-not-bytes_zero.ensures
+    ∙ sym (misfits b (are_zeros (drop 808 b)) (λ e. (bare s e).rest) (ap are_zeros (sym (part_rest 808 b)) ∙ sym c.before.before.bytes_zero.ensures ∙ not-true _ c.before.if-not-bytes_zero.true))
 
 ended-requires-2 : tie.Need-ended-requires-2
 ended-requires-2 c κs = search rules
 
-returns-2 : tie.Need-returns-2
-returns-2 c = let s = c.before.before.before.before.before.before.before in let b = s.args.state.now in
-    c.ended2.ensures
-    ∙ sym (misfits b (are_zeros (drop 808 b)) (λ e. (bare s e).rest) (ap are_zeros (sym (part_rest 808 b)) ∙ sym c.before.before.bytes-zero.ensures ∙ not-true _ c.before.if2.true))
-
-ended-requires-3 : tie.Need-ended-requires-3
-ended-requires-3 c κs = search rules
-
-returns-3 : tie.Need-returns-3
-returns-3 c = let s = c.before.before.before.before.before.before.before in let b = s.args.state.now in
-    c.ended3.ensures
+returns : tie.Need-returns
+returns c = let s = c.before.before.before.before.before.before.before in let b = s.args.state.now in
+    c.ended-2.ensures
     ∙ sym (loads b closed
-    (bare_is b (all_bytes b (λ i. omega (arith, c.before.before.before.before.before.before.shared-slice-known.given i))) s.requires.0 s.requires.1 s.requires.2 (record {
-      front = sym c.before.before.before.before.before.numbers_zero.ensures ∙ not-false _ c.before.before.before.before.if1.false;
-      rest = ap are_zeros (sym (part_rest 808 b)) ∙ sym c.before.before.bytes-zero.ensures ∙ not-false _ c.before.if2.false;
+    (bare_is b (all_bytes b (λ i. omega (arith, c.before.before.before.before.before.before.shared_slice_known-1.given i))) s.requires.0 s.requires.1 s.requires.2 (record {
+      front = sym c.before.before.before.before.before.numbers_zero.ensures ∙ not-false _ c.before.before.before.before.if-not-numbers_zero.false;
+      rest = ap are_zeros (sym (part_rest 808 b)) ∙ sym c.before.before.bytes_zero.ensures ∙ not-false _ c.before.if-not-bytes_zero.false;
     })) (state_closed b s.requires.1 s.requires.2))
 
 pub load_closed_spec : {M : Type 1} → statement M
 load_closed_spec =
     tie.close
     (tie.spec
-    numbers-zero-requires
+    numbers_zero-requires
     ended-requires
-    returns
-    sub-bytes-zero
-    part-bytes-zero-start
-    part-bytes-zero-end
-    bytes-zero-requires
+    returns-then-not-numbers_zero
+    slice_bounds-bytes_zero-count
+    slice_bounds-bytes_zero-start
+    slice_bounds-bytes_zero-end
+    bytes_zero-requires
+    ended-requires-then-not-bytes_zero
+    returns-then-not-bytes_zero
     ended-requires-2
-    returns-2
-    ended-requires-3
-    returns-3)
+    returns)

@@ -27,7 +27,7 @@ use Rattle.stream_state.proofs.fault_fits.Reads as fault-fits-reads
 use Rattle.stream_state.proofs.numbers_zero.Reads as numbers-zero-reads
 
 -- the function's entry, with the fault that its bytes say
-abbrev entry : tie.After-fault-fits → tie.Start
+abbrev entry : tie.After-fault_fits → tie.Start
 entry c = c.before.before.before.before.before
 
 abbrev said : List ℕ → State
@@ -36,116 +36,116 @@ said b = failed (number_at b 12) (number_at b 13) (number_at b 14)
 abbrev faulty : (s : tie.Start) → is_state s.args.state.now ≡ true → Faulty s.args.state.now
 faulty s = is_faulty s.args.state.now s.requires.1
 
-tested : (c : tie.After-fault-fits) → c.fault-fits.result ≡ fits (said (entry c).args.state.now)
-tested c = c.fault-fits.ensures ∙ same_fault c.before.before.before.time_at.ensures c.before.before.time-at2.ensures c.before.time-at3.ensures
+tested : (c : tie.After-fault_fits) → c.fault_fits.result ≡ fits (said (entry c).args.state.now)
+tested c = c.fault_fits.ensures ∙ same_fault c.before.before.before.time_at-number.ensures c.before.before.time_at-place.ensures c.before.time_at-second.ensures
 
-time-at-requires : tie.Need-time-at-requires
-time-at-requires c κs = search rules
+time_at-number-requires : tie.Need-time_at-number-requires
+time_at-number-requires c κs = search rules
 
-time-at-requires-2 : tie.Need-time-at-requires-2
-time-at-requires-2 c κs = search rules
+time_at-place-requires : tie.Need-time_at-place-requires
+time_at-place-requires c κs = search rules
 
-time-at-requires-3 : tie.Need-time-at-requires-3
-time-at-requires-3 c κs = search rules
+time_at-second-requires : tie.Need-time_at-second-requires
+time_at-second-requires c κs = search rules
 
-fault-fits-requires : tie.Need-fault-fits-requires
-fault-fits-requires c κs = search rules
+fault_fits-requires : tie.Need-fault_fits-requires
+fault_fits-requires c κs = search rules
 
 ended-requires : tie.Need-ended-requires
 ended-requires c κs = search rules
 
-returns : tie.Need-returns
-returns c = let s = c.before.before.before.before.before.before.before in let b = s.args.state.now in
-    c.ended.ensures ∙ sym (misfits b (fits (said b)) (λ e. (faulty s e).fit) (sym (tested c.before.before) ∙ not-true _ c.before.if1.true))
+returns-then-not-fault_fits : tie.Need-returns-then-not-fault_fits
+returns-then-not-fault_fits c = let s = c.before.before.before.before.before.before.before in let b = s.args.state.now in
+    c.ended.ensures ∙ sym (misfits b (fits (said b)) (λ e. (faulty s e).fit) (sym (tested c.before.before) ∙ not-true _ c.before.if-not-fault_fits.true))
 
-numbers-zero-requires : tie.Need-numbers-zero-requires
-numbers-zero-requires c κs = search rules
+numbers_zero-requires : tie.Need-numbers_zero-requires
+numbers_zero-requires c κs = search rules
+
+ended-requires-then-not-numbers_zero : tie.Need-ended-requires-then-not-numbers_zero
+ended-requires-then-not-numbers_zero c κs = search rules
+
+returns-then-not-numbers_zero : tie.Need-returns-then-not-numbers_zero
+returns-then-not-numbers_zero c = let s = c.before.before.before.before.before.before.before.before.before in let b = s.args.state.now in
+    c.ended-then-not-numbers_zero.ensures ∙ sym (misfits b (are_zeros (list (number_at b) 1 11)) (λ e. (faulty s e).before) (sym c.before.before.numbers_zero.ensures ∙ not-true _ c.before.if-not-numbers_zero.true))
+
+numbers_zero-requires-2 : tie.Need-numbers_zero-requires-2
+numbers_zero-requires-2 c κs = search rules
+
+ended-requires-then-not-numbers_zero-2 : tie.Need-ended-requires-then-not-numbers_zero-2
+ended-requires-then-not-numbers_zero-2 c κs = search rules
+
+returns-then-not-numbers_zero-2 : tie.Need-returns-then-not-numbers_zero-2
+returns-then-not-numbers_zero-2 c = let s = c.before.before.before.before.before.before.before.before.before.before.before in let b = s.args.state.now in
+    c.ended-then-not-numbers_zero-2.ensures ∙ sym (misfits b (are_zeros (list (number_at b) 15 86)) (λ e. (faulty s e).after) (sym c.before.before.numbers_zero-2.ensures ∙ not-true _ c.before.if-not-numbers_zero-2.true))
+
+slice_bounds-bytes_zero-count : tie.Need-slice_bounds-bytes_zero-count
+slice_bounds-bytes_zero-count c = search rules
+
+slice_bounds-bytes_zero-start : tie.Need-slice_bounds-bytes_zero-start
+slice_bounds-bytes_zero-start c = search rules
+
+slice_bounds-bytes_zero-end : tie.Need-slice_bounds-bytes_zero-end
+slice_bounds-bytes_zero-end c = search rules
+
+bytes_zero-requires : tie.Need-bytes_zero-requires
+bytes_zero-requires c κs = search rules
+
+ended-requires-then-not-bytes_zero : tie.Need-ended-requires-then-not-bytes_zero
+ended-requires-then-not-bytes_zero c κs = search rules
+
+returns-then-not-bytes_zero : tie.Need-returns-then-not-bytes_zero
+returns-then-not-bytes_zero c = let s = c.before.before.before.before.before.before.before.before.before.before.before.before.before.before in let b = s.args.state.now in
+    c.ended-then-not-bytes_zero.ensures
+    ∙ sym (misfits b (are_zeros (drop 808 b)) (λ e. (faulty s e).rest) (ap are_zeros (sym (part_rest 808 b)) ∙ sym c.before.before.bytes_zero.ensures ∙ not-true _ c.before.if-not-bytes_zero.true))
+
+overflow_cast-number : tie.Need-overflow_cast-number
+overflow_cast-number c = let t = c.before.before.before.before.before.before.before in
+    let b = (entry t.before).args.state.now in
+    let f : fits (said b) ≡ true = sym (tested t.before) ∙ not-false _ t.if-not-fault_fits.false in
+    omega (arith, t.before.before.before.before.time_at-number.ensures, (failed_small (number_at b 12) (number_at b 13) (number_at b 14) f).0)
 
 ended-requires-2 : tie.Need-ended-requires-2
 ended-requires-2 c κs = search rules
 
-returns-2 : tie.Need-returns-2
-returns-2 c = let s = c.before.before.before.before.before.before.before.before.before in let b = s.args.state.now in
-    c.ended2.ensures ∙ sym (misfits b (are_zeros (list (number_at b) 1 11)) (λ e. (faulty s e).before) (sym c.before.before.numbers_zero.ensures ∙ not-true _ c.before.if2.true))
-
-numbers-zero-requires-2 : tie.Need-numbers-zero-requires-2
-numbers-zero-requires-2 c κs = search rules
-
-ended-requires-3 : tie.Need-ended-requires-3
-ended-requires-3 c κs = search rules
-
-returns-3 : tie.Need-returns-3
-returns-3 c = let s = c.before.before.before.before.before.before.before.before.before.before.before in let b = s.args.state.now in
-    c.ended3.ensures ∙ sym (misfits b (are_zeros (list (number_at b) 15 86)) (λ e. (faulty s e).after) (sym c.before.before.numbers-zero2.ensures ∙ not-true _ c.before.if3.true))
-
-sub-bytes-zero : tie.Need-overflow-sub-bytes-zero
-sub-bytes-zero c = search rules
-
-part-bytes-zero-start : tie.Need-slice-bounds-bytes-zero-start
-part-bytes-zero-start c = search rules
-
-part-bytes-zero-end : tie.Need-slice-bounds-bytes-zero-end
-part-bytes-zero-end c = search rules
-
-bytes-zero-requires : tie.Need-bytes-zero-requires
-bytes-zero-requires c κs = search rules
-
-ended-requires-4 : tie.Need-ended-requires-4
-ended-requires-4 c κs = search rules
-
-returns-4 : tie.Need-returns-4
-returns-4 c = let s = c.before.before.before.before.before.before.before.before.before.before.before.before.before.before in let b = s.args.state.now in
-    c.ended4.ensures
-    ∙ sym (misfits b (are_zeros (drop 808 b)) (λ e. (faulty s e).rest) (ap are_zeros (sym (part_rest 808 b)) ∙ sym c.before.before.bytes-zero.ensures ∙ not-true _ c.before.if4.true))
-
-cast-ended : tie.Need-overflow-cast-ended
-cast-ended c = let t = c.before.before.before.before.before.before.before in
-    let b = (entry t.before).args.state.now in
-    let f : fits (said b) ≡ true = sym (tested t.before) ∙ not-false _ t.if1.false in
-    omega (arith, t.before.before.before.before.time_at.ensures, (failed_small (number_at b 12) (number_at b 13) (number_at b 14) f).0)
-
-ended-requires-5 : tie.Need-ended-requires-5
-ended-requires-5 c κs = search rules
-
-returns-5 : tie.Need-returns-5
-returns-5 c = let third = c.before.before.before.before in
+returns : tie.Need-returns
+returns c = let third = c.before.before.before.before in
     let second = third.before.before in
     let first = second.before.before in
     let t = first.before in
     let s = entry t in
     let b = s.args.state.now in
-    let bytes = all_bytes b (λ i. omega (arith, t.before.before.before.before.shared-slice-known.given i)) in
-    c.ended5.ensures ∙ same_stopped t.before.before.before.time_at.ensures t.before.before.time-at2.ensures t.before.time-at3.ensures
+    let bytes = all_bytes b (λ i. omega (arith, t.before.before.before.before.shared_slice_known-1.given i)) in
+    c.ended-2.ensures ∙ same_stopped t.before.before.before.time_at-number.ensures t.before.before.time_at-place.ensures t.before.time_at-second.ensures
     ∙ sym (loads b (said b)
     (faulty_is b bytes s.pre.0 s.pre.1 (record {
-      fit = sym (tested t) ∙ not-false _ first.if1.false;
-      before = sym second.before.numbers_zero.ensures ∙ not-false _ second.if2.false;
-      after = sym third.before.numbers-zero2.ensures ∙ not-false _ third.if3.false;
-      rest = ap are_zeros (sym (part_rest 808 b)) ∙ sym c.before.before.bytes-zero.ensures ∙ not-false _ c.before.if4.false;
+      fit = sym (tested t) ∙ not-false _ first.if-not-fault_fits.false;
+      before = sym second.before.numbers_zero.ensures ∙ not-false _ second.if-not-numbers_zero.false;
+      after = sym third.before.numbers_zero-2.ensures ∙ not-false _ third.if-not-numbers_zero-2.false;
+      rest = ap are_zeros (sym (part_rest 808 b)) ∙ sym c.before.before.bytes_zero.ensures ∙ not-false _ c.before.if-not-bytes_zero.false;
     })) (state_failed b s.pre.1))
 
 pub load_failed_spec : {M : Type 1} → statement M
 load_failed_spec =
     tie.close
     (tie.spec
-    time-at-requires
-    time-at-requires-2
-    time-at-requires-3
-    fault-fits-requires
+    time_at-number-requires
+    time_at-place-requires
+    time_at-second-requires
+    fault_fits-requires
     ended-requires
-    returns
-    numbers-zero-requires
+    returns-then-not-fault_fits
+    numbers_zero-requires
+    ended-requires-then-not-numbers_zero
+    returns-then-not-numbers_zero
+    numbers_zero-requires-2
+    ended-requires-then-not-numbers_zero-2
+    returns-then-not-numbers_zero-2
+    slice_bounds-bytes_zero-count
+    slice_bounds-bytes_zero-start
+    slice_bounds-bytes_zero-end
+    bytes_zero-requires
+    ended-requires-then-not-bytes_zero
+    returns-then-not-bytes_zero
+    overflow_cast-number
     ended-requires-2
-    returns-2
-    numbers-zero-requires-2
-    ended-requires-3
-    returns-3
-    sub-bytes-zero
-    part-bytes-zero-start
-    part-bytes-zero-end
-    bytes-zero-requires
-    ended-requires-4
-    returns-4
-    cast-ended
-    ended-requires-5
-    returns-5)
+    returns)

@@ -42,224 +42,224 @@ long s = s.requires.planned.long
 
 -- three numbers were read
 abbrev Read : Type 0
-Read = tie.After-time-at3
+Read = tie.After-time_at-since
 
 abbrev start : Read → tie.Start
 start c = c.before.before.before.before
 
 abbrev left : Read → ℕ
-left c = c.before.before.time_at.result
+left c = c.before.before.time_at-left.result
 
 abbrev last : Read → ℕ
-last c = c.before.time-at2.result
+last c = c.before.time_at-last.result
 
 -- the tests that were passed, one behind the other
-abbrev one : tie.Else1 → Read
+abbrev one : tie.Else-not-bits_fit → Read
 one c = c.before.before
 
-abbrev two : tie.Else2 → Read
+abbrev two : tie.Else-not-place_fits → Read
 two c = one c.before.before
 
-abbrev three : tie.Else3 → Read
+abbrev three : tie.Else-not-numbers_zero → Read
 three c = two c.before.before
 
-abbrev four : tie.Else4 → Read
+abbrev four : tie.Else-again → Read
 four c = three c.before.before
 
-abbrev five : tie.Else5 → Read
+abbrev five : tie.Else-not-waits_fit → Read
 five c = four c.before.before
 
-abbrev six : tie.Else6 → Read
+abbrev six : tie.Else-not-bytes_zero → Read
 six c = five c.before.before.before
 
 -- the bytes behind those that wait are looked at
-abbrev seventh : tie.After-held → Read
+abbrev seventh : tie.After-held-1 → Read
 seventh c = six c.before
 
-abbrev eighth : tie.Else7 → Read
+abbrev eighth : tie.Else-not-bytes_zero-2 → Read
 eighth c = seventh c.before.before.before
 
 -- what each says
-bits_good : (c : tie.Else1) → bits_fit (left (one c)) (last (one c)) ≡ true
-bits_good c = sym c.before.bits_fit.ensures ∙ not-false _ c.if1.false
+bits_good : (c : tie.Else-not-bits_fit) → bits_fit (left (one c)) (last (one c)) ≡ true
+bits_good c = sym c.before.bits_fit.ensures ∙ not-false _ c.if-not-bits_fit.false
 
-since_good : (c : tie.Else2) → place_fits (start (two c)).args.plan (start (two c)).args.groups (two c).time-at3.result ≡ true
-since_good c = sym c.before.place-fits.ensures ∙ not-false _ c.if2.false
+since_good : (c : tie.Else-not-place_fits) → place_fits (start (two c)).args.plan (start (two c)).args.groups (two c).time_at-since.result ≡ true
+since_good c = sym c.before.place_fits.ensures ∙ not-false _ c.if-not-place_fits.false
 
-faultless : (c : tie.Else3) → are_zeros (list (number_at (start (three c)).args.state.now) 12 3) ≡ true
-faultless c = sym c.before.numbers_zero.ensures ∙ not-false _ c.if3.false
+faultless : (c : tie.Else-not-numbers_zero) → are_zeros (list (number_at (start (three c)).args.state.now) 12 3) ≡ true
+faultless c = sym c.before.numbers_zero.ensures ∙ not-false _ c.if-not-numbers_zero.false
 
-waits_good : (c : tie.Else5) → let a = (start (five c)).args in waits_fit a.plan (kinds_at a.state.now) a.groups 0 (list (number_at a.state.now) 36 64) ≡ true
-waits_good c = sym c.before.waits-fit.ensures ∙ not-false _ c.if5.false
+waits_good : (c : tie.Else-not-waits_fit) → let a = (start (five c)).args in waits_fit a.plan (kinds_at a.state.now) a.groups 0 (list (number_at a.state.now) 36 64) ≡ true
+waits_good c = sym c.before.waits_fit.ensures ∙ not-false _ c.if-not-waits_fit.false
 
-gap_good : (c : tie.Else6) → are_zeros (take 216 (drop 808 (start (six c)).args.state.now)) ≡ true
-gap_good c = sym c.before.bytes-zero.ensures ∙ not-false _ c.if6.false
+gap_good : (c : tie.Else-not-bytes_zero) → are_zeros (take 216 (drop 808 (start (six c)).args.state.now)) ≡ true
+gap_good c = sym c.before.bytes_zero.ensures ∙ not-false _ c.if-not-bytes_zero.false
 
 -- the bytes from there on, as they were lent
-tail_is : (c : tie.After-bytes-zero2) → let a = (start (seventh c.before.before)).args in c.bytes-zero2.result ≡ are_zeros (drop (1024 + a.waiting) a.state.now)
+tail_is : (c : tie.After-bytes_zero-2) → let a = (start (seventh c.before.before)).args in c.bytes_zero-2.result ≡ are_zeros (drop (1024 + a.waiting) a.state.now)
 tail_is c = let a = (start (seventh c.before.before)).args in
-    c.bytes-zero2.ensures ∙ ap are_zeros (part_rest (1024 + a.waiting) a.state.now)
+    c.bytes_zero-2.ensures ∙ ap are_zeros (part_rest (1024 + a.waiting) a.state.now)
 
-time-at-requires : tie.Need-time-at-requires
-time-at-requires c κs = search rules
+time_at-left-requires : tie.Need-time_at-left-requires
+time_at-left-requires c κs = search rules
 
-time-at-requires-2 : tie.Need-time-at-requires-2
-time-at-requires-2 c κs = search rules
+time_at-last-requires : tie.Need-time_at-last-requires
+time_at-last-requires c κs = search rules
 
-time-at-requires-3 : tie.Need-time-at-requires-3
-time-at-requires-3 c κs = search rules
+time_at-since-requires : tie.Need-time_at-since-requires
+time_at-since-requires c κs = search rules
 
-bits-fit-requires : tie.Need-bits-fit-requires
-bits-fit-requires c κs = search rules
+bits_fit-requires : tie.Need-bits_fit-requires
+bits_fit-requires c κs = search rules
 
 ended-requires : tie.Need-ended-requires
 ended-requires c κs = search rules
 
-returns : tie.Need-returns
-returns c = let t = c.before.before.before in
-    let e = sym c.before.before.bits_fit.ensures ∙ not-true _ c.before.if1.true in
-    c.ended.ensures ∙ bad_bits (start t).requires t.before.before.time_at.ensures t.before.time-at2.ensures e
+returns-then-not-bits_fit : tie.Need-returns-then-not-bits_fit
+returns-then-not-bits_fit c = let t = c.before.before.before in
+    let e = sym c.before.before.bits_fit.ensures ∙ not-true _ c.before.if-not-bits_fit.true in
+    c.ended.ensures ∙ bad_bits (start t).requires t.before.before.time_at-left.ensures t.before.time_at-last.ensures e
 
-place-fits-requires : tie.Need-place-fits-requires
-place-fits-requires c κs = let s = start (one c) in (shape s, (few s).0)
+place_fits-requires : tie.Need-place_fits-requires
+place_fits-requires c κs = let s = start (one c) in (shape s, (few s).0)
 
-ended-requires-2 : tie.Need-ended-requires-2
-ended-requires-2 c κs = search rules
+ended-requires-then-not-place_fits : tie.Need-ended-requires-then-not-place_fits
+ended-requires-then-not-place_fits c κs = search rules
 
-returns-2 : tie.Need-returns-2
-returns-2 c = let t = one c.before.before.before in
-    let e = sym c.before.before.place-fits.ensures ∙ not-true _ c.before.if2.true in
-    c.ended2.ensures ∙ bad_since (start t).pre t.time-at3.ensures e
+returns-then-not-place_fits : tie.Need-returns-then-not-place_fits
+returns-then-not-place_fits c = let t = one c.before.before.before in
+    let e = sym c.before.before.place_fits.ensures ∙ not-true _ c.before.if-not-place_fits.true in
+    c.ended-then-not-place_fits.ensures ∙ bad_since (start t).pre t.time_at-since.ensures e
 
-numbers-zero-requires : tie.Need-numbers-zero-requires
-numbers-zero-requires c κs = search rules
+numbers_zero-requires : tie.Need-numbers_zero-requires
+numbers_zero-requires c κs = search rules
 
-ended-requires-3 : tie.Need-ended-requires-3
-ended-requires-3 c κs = search rules
+ended-requires-then-not-numbers_zero : tie.Need-ended-requires-then-not-numbers_zero
+ended-requires-then-not-numbers_zero c κs = search rules
 
-returns-3 : tie.Need-returns-3
-returns-3 c = let t = two c.before.before.before in
-    c.ended3.ensures ∙ bad_fault (start t).pre (sym c.before.before.numbers_zero.ensures ∙ not-true _ c.before.if3.true)
+returns-then-not-numbers_zero : tie.Need-returns-then-not-numbers_zero
+returns-then-not-numbers_zero c = let t = two c.before.before.before in
+    c.ended-then-not-numbers_zero.ensures ∙ bad_fault (start t).pre (sym c.before.before.numbers_zero.ensures ∙ not-true _ c.before.if-not-numbers_zero.true)
 
-held-at-requires : tie.Need-held-at-requires
-held-at-requires c κs = long (start (three c))
+held_at-again-requires : tie.Need-held_at-again-requires
+held_at-again-requires c κs = long (start (three c))
 
-ended-requires-4 : tie.Need-ended-requires-4
-ended-requires-4 c κs = search rules
+ended-requires-then-again : tie.Need-ended-requires-then-again
+ended-requires-then-again c κs = search rules
 
-returns-4 : tie.Need-returns-4
-returns-4 c = let t = three c.before.before.before in c.ended4.ensures ∙ bad_held (start t).pre c.before.before.held_at.ensures c.before.if4.true
+returns-then-again : tie.Need-returns-then-again
+returns-then-again c = let t = three c.before.before.before in c.ended-then-again.ensures ∙ bad_held (start t).pre c.before.before.held_at-again.ensures c.before.if-again.true
 
-waits-fit-requires : tie.Need-waits-fit-requires
-waits-fit-requires c κs = let s = start (four c) in (shape s, (few s).0, long s)
+waits_fit-requires : tie.Need-waits_fit-requires
+waits_fit-requires c κs = let s = start (four c) in (shape s, (few s).0, long s)
 
-ended-requires-5 : tie.Need-ended-requires-5
-ended-requires-5 c κs = search rules
+ended-requires-then-not-waits_fit : tie.Need-ended-requires-then-not-waits_fit
+ended-requires-then-not-waits_fit c κs = search rules
 
-returns-5 : tie.Need-returns-5
-returns-5 c = let t = four c.before.before.before in
-    let e = sym c.before.before.waits-fit.ensures ∙ not-true _ c.before.if5.true in
-    c.ended5.ensures ∙ bad_waits (start t).pre refl e
+returns-then-not-waits_fit : tie.Need-returns-then-not-waits_fit
+returns-then-not-waits_fit c = let t = four c.before.before.before in
+    let e = sym c.before.before.waits_fit.ensures ∙ not-true _ c.before.if-not-waits_fit.true in
+    c.ended-then-not-waits_fit.ensures ∙ bad_waits (start t).pre refl e
 
-sub-bytes-zero : tie.Need-overflow-sub-bytes-zero
-sub-bytes-zero c = search rules
+slice_bounds-bytes_zero-count : tie.Need-slice_bounds-bytes_zero-count
+slice_bounds-bytes_zero-count c = search rules
 
-part-bytes-zero-start : tie.Need-slice-bounds-bytes-zero-start
-part-bytes-zero-start c = search rules
+slice_bounds-bytes_zero-start : tie.Need-slice_bounds-bytes_zero-start
+slice_bounds-bytes_zero-start c = search rules
 
-part-bytes-zero-end : tie.Need-slice-bounds-bytes-zero-end
-part-bytes-zero-end c = search rules
+slice_bounds-bytes_zero-end : tie.Need-slice_bounds-bytes_zero-end
+slice_bounds-bytes_zero-end c = search rules
 
-bytes-zero-requires : tie.Need-bytes-zero-requires
-bytes-zero-requires c κs = search rules
+bytes_zero-requires : tie.Need-bytes_zero-requires
+bytes_zero-requires c κs = search rules
 
-ended-requires-6 : tie.Need-ended-requires-6
-ended-requires-6 c κs = search rules
+ended-requires-then-not-bytes_zero : tie.Need-ended-requires-then-not-bytes_zero
+ended-requires-then-not-bytes_zero c κs = search rules
 
-returns-6 : tie.Need-returns-6
-returns-6 c = let t = five c.before.before.before.before in
-    c.ended6.ensures ∙ bad_gap (start t).pre (sym c.before.before.bytes-zero.ensures ∙ not-true _ c.before.if6.true)
+returns-then-not-bytes_zero : tie.Need-returns-then-not-bytes_zero
+returns-then-not-bytes_zero c = let t = five c.before.before.before.before in
+    c.ended-then-not-bytes_zero.ensures ∙ bad_gap (start t).pre (sym c.before.before.bytes_zero.ensures ∙ not-true _ c.before.if-not-bytes_zero.true)
 
-add-end : tie.Need-overflow-add-end
-add-end c = omega (arith, (few (start (seventh c))).1)
+overflow_add-end : tie.Need-overflow_add-end
+overflow_add-end c = omega (arith, (few (start (seventh c))).1)
 
-sub-bytes-zero-2 : tie.Need-overflow-sub-bytes-zero-2
-sub-bytes-zero-2 c = let s = start (seventh c) in omega (arith, (few s).1, long s)
+slice_bounds-bytes_zero-count-2 : tie.Need-slice_bounds-bytes_zero-count-2
+slice_bounds-bytes_zero-count-2 c = let s = start (seventh c) in omega (arith, (few s).1, long s)
 
-part-bytes-zero-start-2 : tie.Need-slice-bounds-bytes-zero-start-2
-part-bytes-zero-start-2 c = let s = start (seventh c) in omega (arith, (few s).1, long s)
+slice_bounds-bytes_zero-start-2 : tie.Need-slice_bounds-bytes_zero-start-2
+slice_bounds-bytes_zero-start-2 c = let s = start (seventh c) in omega (arith, (few s).1, long s)
 
-part-bytes-zero-end-2 : tie.Need-slice-bounds-bytes-zero-end-2
-part-bytes-zero-end-2 c = search rules
+slice_bounds-bytes_zero-end-2 : tie.Need-slice_bounds-bytes_zero-end-2
+slice_bounds-bytes_zero-end-2 c = search rules
 
-bytes-zero-requires-2 : tie.Need-bytes-zero-requires-2
-bytes-zero-requires-2 c κs = search rules
+bytes_zero-requires-2 : tie.Need-bytes_zero-requires-2
+bytes_zero-requires-2 c κs = search rules
 
-ended-requires-7 : tie.Need-ended-requires-7
-ended-requires-7 c κs = search rules
+ended-requires-then-not-bytes_zero-2 : tie.Need-ended-requires-then-not-bytes_zero-2
+ended-requires-then-not-bytes_zero-2 c κs = search rules
 
-returns-7 : tie.Need-returns-7
-returns-7 c = let t = seventh c.before.before.before.before in
-    c.ended7.ensures ∙ bad_tail (start t).pre (sym (tail_is c.before.before) ∙ not-true _ c.before.if7.true)
+returns-then-not-bytes_zero-2 : tie.Need-returns-then-not-bytes_zero-2
+returns-then-not-bytes_zero-2 c = let t = seventh c.before.before.before.before in
+    c.ended-then-not-bytes_zero-2.ensures ∙ bad_tail (start t).pre (sym (tail_is c.before.before) ∙ not-true _ c.before.if-not-bytes_zero-2.true)
 
-cast-t20 : tie.Need-overflow-cast-t20
-cast-t20 c = let t = eighth c in
+overflow_cast-result : tie.Need-overflow_cast-result
+overflow_cast-result c = let t = eighth c in
     let b = c.before.before.before.before.before.before.before.before.before.before.before.before.before.before.before in
     omega (arith, (bits_few (left t) (last t) (bits_good b)).0)
 
-cast-t21 : tie.Need-overflow-cast-t21
-cast-t21 c = let t = eighth c in
+overflow_cast-result-2 : tie.Need-overflow_cast-result-2
+overflow_cast-result-2 c = let t = eighth c in
     let b = c.before.before.before.before.before.before.before.before.before.before.before.before.before.before.before in
     omega (arith, (bits_few (left t) (last t) (bits_good b)).1)
 
-returns-8 : tie.Need-returns-8
-returns-8 c = let t = eighth c in
+returns : tie.Need-returns
+returns c = let t = eighth c in
     let s = start t in
     let six = c.before.before.before.before in
     let five = six.before.before.before in
     let four = five.before.before in
     let three = four.before.before in
     let two = three.before.before in
-    let bytes = all_bytes s.args.state.now (λ i. omega (arith, t.before.before.before.shared-slice-known.given i)) in
-    let tail = sym (tail_is c.before) ∙ not-false _ c.if7.false in
-    all_good s.pre bytes t.before.before.time_at.ensures t.before.time-at2.ensures t.time-at3.ensures four.before.held_at.ensures refl
-    (bits_good two.before.before) (since_good two) (faultless three) four.if4.false (waits_good five) (gap_good six) tail
+    let bytes = all_bytes s.args.state.now (λ i. omega (arith, t.before.before.before.shared_slice_known-1.given i)) in
+    let tail = sym (tail_is c.before) ∙ not-false _ c.if-not-bytes_zero-2.false in
+    all_good s.pre bytes t.before.before.time_at-left.ensures t.before.time_at-last.ensures t.time_at-since.ensures four.before.held_at-again.ensures refl
+    (bits_good two.before.before) (since_good two) (faultless three) four.if-again.false (waits_good five) (gap_good six) tail
 
 pub load_sized_spec : {M : Type 1} → statement M
 load_sized_spec =
     tie.close
     (tie.spec
-    time-at-requires
-    time-at-requires-2
-    time-at-requires-3
-    bits-fit-requires
+    time_at-left-requires
+    time_at-last-requires
+    time_at-since-requires
+    bits_fit-requires
     ended-requires
-    returns
-    place-fits-requires
-    ended-requires-2
-    returns-2
-    numbers-zero-requires
-    ended-requires-3
-    returns-3
-    held-at-requires
-    ended-requires-4
-    returns-4
-    waits-fit-requires
-    ended-requires-5
-    returns-5
-    sub-bytes-zero
-    part-bytes-zero-start
-    part-bytes-zero-end
-    bytes-zero-requires
-    ended-requires-6
-    returns-6
-    add-end
-    sub-bytes-zero-2
-    part-bytes-zero-start-2
-    part-bytes-zero-end-2
-    bytes-zero-requires-2
-    ended-requires-7
-    returns-7
-    cast-t20
-    cast-t21
-    returns-8)
+    returns-then-not-bits_fit
+    place_fits-requires
+    ended-requires-then-not-place_fits
+    returns-then-not-place_fits
+    numbers_zero-requires
+    ended-requires-then-not-numbers_zero
+    returns-then-not-numbers_zero
+    held_at-again-requires
+    ended-requires-then-again
+    returns-then-again
+    waits_fit-requires
+    ended-requires-then-not-waits_fit
+    returns-then-not-waits_fit
+    slice_bounds-bytes_zero-count
+    slice_bounds-bytes_zero-start
+    slice_bounds-bytes_zero-end
+    bytes_zero-requires
+    ended-requires-then-not-bytes_zero
+    returns-then-not-bytes_zero
+    overflow_add-end
+    slice_bounds-bytes_zero-count-2
+    slice_bounds-bytes_zero-start-2
+    slice_bounds-bytes_zero-end-2
+    bytes_zero-requires-2
+    ended-requires-then-not-bytes_zero-2
+    returns-then-not-bytes_zero-2
+    overflow_cast-result
+    overflow_cast-result-2
+    returns)

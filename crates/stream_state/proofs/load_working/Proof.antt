@@ -29,7 +29,7 @@ use Rattle.stream_state.proofs.plan_named.Reads as plan-named-reads
 
 -- the plan's seven numbers were read and tested
 abbrev Tested : Type 0
-Tested = tie.After-plan-named
+Tested = tie.After-plan_named
 
 abbrev start : Tested → tie.Start
 start c = c.before.before.before.before.before.before.before.before.before
@@ -38,45 +38,45 @@ abbrev bytes : Tested → List ℕ
 bytes c = (start c).args.state.now
 
 abbrev words : Tested → ℕ
-words c = c.before.before.before.before.before.before.before.time_at.result
+words c = c.before.before.before.before.before.before.before.time_at-words.result
 
 abbrev tracks : Tested → ℕ
-tracks c = c.before.before.before.before.before.before.time-at2.result
+tracks c = c.before.before.before.before.before.before.time_at-tracks.result
 
 abbrev time : Tested → ℕ
-time c = c.before.before.before.before.before.time-at3.result
+time c = c.before.before.before.before.before.time_at-frame_time.result
 
 abbrev crc : Tested → ℕ
-crc c = c.before.before.before.before.time-at4.result
+crc c = c.before.before.before.before.time_at-crc.result
 
 abbrev parity : Tested → ℕ
-parity c = c.before.before.before.time-at5.result
+parity c = c.before.before.before.time_at-parity.result
 
 abbrev label : Tested → ℕ
-label c = c.before.before.time-at6.result
+label c = c.before.before.time_at-label.result
 
 abbrev code : Tested → ℕ
-code c = c.before.time-at7.result
+code c = c.before.time_at-code.result
 
 seven : (c : Tested) → Seven (bytes c) (words c) (tracks c) (time c) (crc c) (parity c) (label c) (code c)
 seven c = record {
-  first = c.before.before.before.before.before.before.before.time_at.ensures;
-  second = c.before.before.before.before.before.before.time-at2.ensures;
-  third = c.before.before.before.before.before.time-at3.ensures;
-  fourth = c.before.before.before.before.time-at4.ensures;
-  fifth = c.before.before.before.time-at5.ensures;
-  sixth = c.before.before.time-at6.ensures;
-  seventh = c.before.time-at7.ensures;
+  first = c.before.before.before.before.before.before.before.time_at-words.ensures;
+  second = c.before.before.before.before.before.before.time_at-tracks.ensures;
+  third = c.before.before.before.before.before.time_at-frame_time.ensures;
+  fourth = c.before.before.before.before.time_at-crc.ensures;
+  fifth = c.before.before.before.time_at-parity.ensures;
+  sixth = c.before.before.time_at-label.ensures;
+  seventh = c.before.time_at-code.ensures;
 }
 
 -- they are in their ranges
 abbrev Good : Type 0
-Good = tie.Else1
+Good = tie.Else-not-plan_named
 
 in_ranges : (c : Good) → let t = c.before in
     (words t ≤ 512) × (tracks t ≤ 4) × (is_choice (time t) ≡ true) × (is_choice (crc t) ≡ true) × (is_choice (parity t) ≡ true) × (label t ≤ 7) × (code t ≤ 15)
 in_ranges c = let t = c.before in
-    ranges (words t) (tracks t) (time t) (crc t) (parity t) (label t) (code t) (sym t.plan-named.ensures ∙ not-false _ c.if1.false)
+    ranges (words t) (tracks t) (time t) (crc t) (parity t) (label t) (code t) (sym t.plan_named.ensures ∙ not-false _ c.if-not-plan_named.false)
 
 -- the kinds were looked at
 abbrev Kinds : Type 0
@@ -88,136 +88,136 @@ good k = k.before.before.before
 abbrev tested : Kinds → Tested
 tested k = (good k).before
 
-low_used : (k : Kinds) → k.before.before.eight-buses.result.used ≡ used_in (list (number_at (bytes (tested k))) 20 8)
-low_used k = ap (λ (x : Buses). x.used) k.before.before.eight-buses.ensures
+low_used : (k : Kinds) → k.before.before.eight_buses-low.result.used ≡ used_in (list (number_at (bytes (tested k))) 20 8)
+low_used k = ap (λ (x : Buses). x.used) k.before.before.eight_buses-low.ensures
 
-high_used : (k : Kinds) → k.before.eight-buses2.result.used ≡ used_in (list (number_at (bytes (tested k))) 28 8)
-high_used k = ap (λ (x : Buses). x.used) k.before.eight-buses2.ensures
+high_used : (k : Kinds) → k.before.eight_buses-high.result.used ≡ used_in (list (number_at (bytes (tested k))) 28 8)
+high_used k = ap (λ (x : Buses). x.used) k.before.eight_buses-high.ensures
 
 kinds_tested : (k : Kinds) → k.both.result ≡ are_kinds (list (number_at (bytes (tested k))) 20 16)
 kinds_tested k =
     k.both.ensures
-    ∙ ap₂ (λ (x y : Buses). x.named && y.named) k.before.before.eight-buses.ensures k.before.eight-buses2.ensures
+    ∙ ap₂ (λ (x y : Buses). x.named && y.named) k.before.before.eight_buses-low.ensures k.before.eight_buses-high.ensures
     ∙ sym (kinds_both (number_at (bytes (tested k))))
 
-time-at-requires : tie.Need-time-at-requires
-time-at-requires c κs = search rules
+time_at-words-requires : tie.Need-time_at-words-requires
+time_at-words-requires c κs = search rules
 
-time-at-requires-2 : tie.Need-time-at-requires-2
-time-at-requires-2 c κs = search rules
+time_at-tracks-requires : tie.Need-time_at-tracks-requires
+time_at-tracks-requires c κs = search rules
 
-time-at-requires-3 : tie.Need-time-at-requires-3
-time-at-requires-3 c κs = search rules
+time_at-frame_time-requires : tie.Need-time_at-frame_time-requires
+time_at-frame_time-requires c κs = search rules
 
-time-at-requires-4 : tie.Need-time-at-requires-4
-time-at-requires-4 c κs = search rules
+time_at-crc-requires : tie.Need-time_at-crc-requires
+time_at-crc-requires c κs = search rules
 
-time-at-requires-5 : tie.Need-time-at-requires-5
-time-at-requires-5 c κs = search rules
+time_at-parity-requires : tie.Need-time_at-parity-requires
+time_at-parity-requires c κs = search rules
 
-time-at-requires-6 : tie.Need-time-at-requires-6
-time-at-requires-6 c κs = search rules
+time_at-label-requires : tie.Need-time_at-label-requires
+time_at-label-requires c κs = search rules
 
-time-at-requires-7 : tie.Need-time-at-requires-7
-time-at-requires-7 c κs = search rules
+time_at-code-requires : tie.Need-time_at-code-requires
+time_at-code-requires c κs = search rules
 
-plan-named-requires : tie.Need-plan-named-requires
-plan-named-requires c κs = search rules
+plan_named-requires : tie.Need-plan_named-requires
+plan_named-requires c κs = search rules
 
 ended-requires : tie.Need-ended-requires
 ended-requires c κs = search rules
 
-returns : tie.Need-returns
-returns c = let t = c.before.before in
-    c.ended.ensures ∙ unnamed (seven t) (start t).requires.1 (sym t.plan-named.ensures ∙ not-true _ c.before.if1.true)
+returns-then-not-plan_named : tie.Need-returns-then-not-plan_named
+returns-then-not-plan_named c = let t = c.before.before in
+    c.ended.ensures ∙ unnamed (seven t) (start t).requires.1 (sym t.plan_named.ensures ∙ not-true _ c.before.if-not-plan_named.true)
 
-eight-buses-requires : tie.Need-eight-buses-requires
-eight-buses-requires c κs = search rules
+eight_buses-low-requires : tie.Need-eight_buses-low-requires
+eight_buses-low-requires c κs = search rules
 
-eight-buses-requires-2 : tie.Need-eight-buses-requires-2
-eight-buses-requires-2 c κs = search rules
+eight_buses-high-requires : tie.Need-eight_buses-high-requires
+eight_buses-high-requires c κs = search rules
 
 both-requires : tie.Need-both-requires
 both-requires c κs = search rules
 
-ended-requires-2 : tie.Need-ended-requires-2
-ended-requires-2 c κs = search rules
+ended-requires-then-not-both : tie.Need-ended-requires-then-not-both
+ended-requires-then-not-both c κs = search rules
 
-returns-2 : tie.Need-returns-2
-returns-2 c = let k = c.before.before in
+returns-then-not-both : tie.Need-returns-then-not-both
+returns-then-not-both c = let k = c.before.before in
     let t = tested k in
-    c.ended2.ensures ∙ unkind (bytes t) (start t).pre.1 (sym (kinds_tested k) ∙ not-true _ c.before.if2.true)
+    c.ended-then-not-both.ensures ∙ unkind (bytes t) (start t).pre.1 (sym (kinds_tested k) ∙ not-true _ c.before.if-not-both.true)
 
-cast-plan-from : tie.Need-overflow-cast-plan-from
-cast-plan-from c = omega (arith, (in_ranges (good c.before)).0)
+overflow_cast-words : tie.Need-overflow_cast-words
+overflow_cast-words c = omega (arith, (in_ranges (good c.before)).0)
 
-cast-plan-from-2 : tie.Need-overflow-cast-plan-from-2
-cast-plan-from-2 c = omega (arith, (in_ranges (good c.before)).1)
+overflow_cast-tracks : tie.Need-overflow_cast-tracks
+overflow_cast-tracks c = omega (arith, (in_ranges (good c.before)).1)
 
-cast-plan-from-3 : tie.Need-overflow-cast-plan-from-3
-cast-plan-from-3 c = omega (arith, leb-true (time (tested c.before)) 1 (in_ranges (good c.before)).2)
+overflow_cast-frame_time : tie.Need-overflow_cast-frame_time
+overflow_cast-frame_time c = omega (arith, leb-true (time (tested c.before)) 1 (in_ranges (good c.before)).2)
 
-cast-plan-from-4 : tie.Need-overflow-cast-plan-from-4
-cast-plan-from-4 c = omega (arith, leb-true (crc (tested c.before)) 1 (in_ranges (good c.before)).3)
+overflow_cast-crc : tie.Need-overflow_cast-crc
+overflow_cast-crc c = omega (arith, leb-true (crc (tested c.before)) 1 (in_ranges (good c.before)).3)
 
-cast-plan-from-5 : tie.Need-overflow-cast-plan-from-5
-cast-plan-from-5 c = omega (arith, leb-true (parity (tested c.before)) 1 (in_ranges (good c.before)).4)
+overflow_cast-parity : tie.Need-overflow_cast-parity
+overflow_cast-parity c = omega (arith, leb-true (parity (tested c.before)) 1 (in_ranges (good c.before)).4)
 
-cast-plan-from-6 : tie.Need-overflow-cast-plan-from-6
-cast-plan-from-6 c = omega (arith, (in_ranges (good c.before)).5)
+overflow_cast-label : tie.Need-overflow_cast-label
+overflow_cast-label c = omega (arith, (in_ranges (good c.before)).5)
 
-cast-plan-from-7 : tie.Need-overflow-cast-plan-from-7
-cast-plan-from-7 c = omega (arith, (in_ranges (good c.before)).6)
+overflow_cast-code : tie.Need-overflow_cast-code
+overflow_cast-code c = omega (arith, (in_ranges (good c.before)).6)
 
-plan-from-requires : tie.Need-plan-from-requires
-plan-from-requires c κs = search rules
+plan_from-plan-requires : tie.Need-plan_from-plan-requires
+plan_from-plan-requires c κs = search rules
 
-add-load-planned : tie.Need-overflow-add-load-planned
-add-load-planned c = let k = c.before.before.before.before in
+overflow_add-low : tie.Need-overflow_add-low
+overflow_add-low c = let k = c.before.before.before.before in
     let f = number_at (bytes (tested k)) in
     omega (arith, low_used k, high_used k, used_few f 20, used_few f 28)
 
-load-planned-requires : tie.Need-load-planned-requires
-load-planned-requires c κs = let f = c.before.before in
+load_planned-requires : tie.Need-load_planned-requires
+load_planned-requires c κs = let f = c.before.before in
     let k = f.before.before in
     let t = tested k in
-    let named = sym t.plan-named.ensures ∙ not-false _ (good k).if1.false in
-    let kinds = sym (kinds_tested k) ∙ not-false _ f.before.if2.false in (
-      rw f.plan-from.ensures (planned (seven t) (start t).pre.0 (start t).pre.1 named kinds),
+    let named = sym t.plan_named.ensures ∙ not-false _ (good k).if-not-plan_named.false in
+    let kinds = sym (kinds_tested k) ∙ not-false _ f.before.if-not-both.false in (
+      rw f.plan_from-plan.ensures (planned (seven t) (start t).pre.0 (start t).pre.1 named kinds),
       ap₂ (λ (n m : ℕ). n + m) (low_used k) (high_used k) ∙ used_both (number_at (bytes t)),
       high_used k,
     )
 
-returns-3 : tie.Need-returns-3
-returns-3 c = c.load-planned.ensures
+returns : tie.Need-returns
+returns c = c.load_planned.ensures
 
 pub load_working_spec : {M : Type 1} → statement M
 load_working_spec =
     tie.close
     (tie.spec
-    time-at-requires
-    time-at-requires-2
-    time-at-requires-3
-    time-at-requires-4
-    time-at-requires-5
-    time-at-requires-6
-    time-at-requires-7
-    plan-named-requires
+    time_at-words-requires
+    time_at-tracks-requires
+    time_at-frame_time-requires
+    time_at-crc-requires
+    time_at-parity-requires
+    time_at-label-requires
+    time_at-code-requires
+    plan_named-requires
     ended-requires
-    returns
-    eight-buses-requires
-    eight-buses-requires-2
+    returns-then-not-plan_named
+    eight_buses-low-requires
+    eight_buses-high-requires
     both-requires
-    ended-requires-2
-    returns-2
-    cast-plan-from
-    cast-plan-from-2
-    cast-plan-from-3
-    cast-plan-from-4
-    cast-plan-from-5
-    cast-plan-from-6
-    cast-plan-from-7
-    plan-from-requires
-    add-load-planned
-    load-planned-requires
-    returns-3)
+    ended-requires-then-not-both
+    returns-then-not-both
+    overflow_cast-words
+    overflow_cast-tracks
+    overflow_cast-frame_time
+    overflow_cast-crc
+    overflow_cast-parity
+    overflow_cast-label
+    overflow_cast-code
+    plan_from-plan-requires
+    overflow_add-low
+    load_planned-requires
+    returns)

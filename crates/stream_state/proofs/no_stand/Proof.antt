@@ -7,14 +7,14 @@ use Rattle.stream_state.proofs.no_stand.Lts as lts
 use Rattle.data_start.proofs.nothing.Reads as nothing-reads
 use Rattle.from_c.proofs.plan_from.Reads as plan-from-reads
 
-plan-from-requires : tie.Need-plan-from-requires
-plan-from-requires c κs = search rules
+plan_from-requires : tie.Need-plan_from-requires
+plan_from-requires c κs = search rules
 
 nothing-requires : tie.Need-nothing-requires
 nothing-requires c κs = search rules
 
 returns : tie.Need-returns
-returns c = rw (c.before.plan-from.ensures, c.nothing.ensures) refl
+returns c = rw (c.before.plan_from.ensures, c.nothing.ensures) refl
 
 pub no_stand_spec : {M : Type 1} → statement M
-no_stand_spec = tie.close (tie.spec plan-from-requires nothing-requires returns)
+no_stand_spec = tie.close (tie.spec plan_from-requires nothing-requires returns)

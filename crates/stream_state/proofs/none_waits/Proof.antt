@@ -8,43 +8,43 @@ use Rattle.stream_state.proofs.none_waits.Tie as tie
 use Rattle.stream_state.proofs.none_waits.Reads as reads
 use Rattle.stream_state.proofs.none_waits.Lts as lts
 
-abbrev invariant-loop : tie.invariant-loop
-invariant-loop table any₀ index₀ any index = Seen table any index
+abbrev invariant-loop-index : tie.invariant-loop-index
+invariant-loop-index table any₀ index₀ any index = Seen table any index
 
-abbrev decreases-loop : tie.decreases-loop
-decreases-loop table any₀ index₀ any index = length table - index
+abbrev decreases-loop-index : tie.decreases-loop-index
+decreases-loop-index table any₀ index₀ any index = length table - index
 
-loop-holds : tie.Need-loop-init invariant-loop decreases-loop
-loop-holds c = seen_none _
+loop-index-init : tie.Need-loop-index-init invariant-loop-index decreases-loop-index
+loop-index-init c = seen_none _
 
-mul-any : tie.Need-overflow-mul-any invariant-loop decreases-loop
-mul-any c = search rules
+offset_bounds-table-index : tie.Need-offset_bounds-table-index invariant-loop-index decreases-loop-index
+offset_bounds-table-index c = search rules
 
-shared-slice-read-any : tie.Need-shared-slice-read-any invariant-loop decreases-loop
-shared-slice-read-any c = search rules
+bounds-table-index : tie.Need-bounds-table-index invariant-loop-index decreases-loop-index
+bounds-table-index c = search rules
 
-add-index : tie.Need-overflow-add-index invariant-loop decreases-loop
-add-index c = search rules
+overflow_add-index : tie.Need-overflow_add-index invariant-loop-index decreases-loop-index
+overflow_add-index c = search rules
 
-loop-less : tie.Need-loop-smaller invariant-loop decreases-loop
-loop-less c = search rules
+loop-index-smaller : tie.Need-loop-index-smaller invariant-loop-index decreases-loop-index
+loop-index-smaller c = search rules
 
-loop-again : tie.Need-loop-preserved invariant-loop decreases-loop
-loop-again c = seen_more c.before.before.loop.invariant c.before.loop-test.true
+loop-index-preserved : tie.Need-loop-index-preserved invariant-loop-index decreases-loop-index
+loop-index-preserved c = seen_more c.before.before.loop-index.invariant c.before.loop-index-test.true
 
-returns : tie.Need-returns invariant-loop decreases-loop
-returns c = seen_all c.before.loop.invariant (omega arith)
+returns : tie.Need-returns invariant-loop-index decreases-loop-index
+returns c = seen_all c.before.loop-index.invariant (omega arith)
 
 pub none_waits_spec : {M : Type 1} → statement M
 none_waits_spec =
     tie.close
     (tie.spec
-    invariant-loop
-    decreases-loop
-    loop-holds
-    mul-any
-    shared-slice-read-any
-    add-index
-    loop-less
-    loop-again
+    invariant-loop-index
+    decreases-loop-index
+    loop-index-init
+    offset_bounds-table-index
+    bounds-table-index
+    overflow_add-index
+    loop-index-smaller
+    loop-index-preserved
     returns)

@@ -13,54 +13,54 @@ use Rattle.stream_state.proofs.numbers_zero.Reads as reads
 use Rattle.stream_state.proofs.numbers_zero.Lts as lts
 use Rattle.from_c.proofs.time_at.Reads as time-at-reads
 
-abbrev invariant-loop : tie.invariant-loop
-invariant-loop state first end index₀ index =
+abbrev invariant-loop-index : tie.invariant-loop-index
+invariant-loop-index state first end index₀ index =
     (first ≤ index) × (index ≤ end) × (8 * end ≤ length state) × (are_zeros (list (number_at state) first (end - first)) ≡ are_zeros (list (number_at state) index (end - index)))
 
-abbrev decreases-loop : tie.decreases-loop
-decreases-loop state first end index₀ index = end - index
+abbrev decreases-loop-index : tie.decreases-loop-index
+decreases-loop-index state first end index₀ index = end - index
 
-loop-holds : tie.Need-loop-init invariant-loop decreases-loop
-loop-holds c = (omega arith, c.before.requires.0, c.before.requires.1, refl)
+loop-index-init : tie.Need-loop-index-init invariant-loop-index decreases-loop-index
+loop-index-init c = (omega arith, c.before.requires.0, c.before.requires.1, refl)
 
-mul-time-at : tie.Need-overflow-mul-time-at invariant-loop decreases-loop
-mul-time-at c = search rules
+overflow_mul-index : tie.Need-overflow_mul-index invariant-loop-index decreases-loop-index
+overflow_mul-index c = search rules
 
-time-at-requires : tie.Need-time-at-requires invariant-loop decreases-loop
-time-at-requires c κs = search rules
+time_at-requires : tie.Need-time_at-requires invariant-loop-index decreases-loop-index
+time_at-requires c κs = search rules
 
-returns : tie.Need-returns invariant-loop decreases-loop
-returns c = let o = c.before.before.before.loop in let a = c.before.before.before.before.before.args in
-    sym (o.invariant.3 ∙ zero_bad (number_at a.state.now) o.index a.end c.before.before.loop-test.true (λ z. c.if1.true (c.before.time_at.ensures ∙ z)))
+returns-then-time_at-ne0 : tie.Need-returns-then-time_at-ne0 invariant-loop-index decreases-loop-index
+returns-then-time_at-ne0 c = let o = c.before.before.before.loop-index in let a = c.before.before.before.before.before.args in
+    sym (o.invariant.3 ∙ zero_bad (number_at a.state.now) o.index a.end c.before.before.loop-index-test.true (λ z. c.if-time_at-ne0.true (c.before.time_at.ensures ∙ z)))
 
-add-index : tie.Need-overflow-add-index invariant-loop decreases-loop
-add-index c = search rules
+overflow_add-index : tie.Need-overflow_add-index invariant-loop-index decreases-loop-index
+overflow_add-index c = search rules
 
-loop-less : tie.Need-loop-smaller invariant-loop decreases-loop
-loop-less c = search rules
+loop-index-smaller : tie.Need-loop-index-smaller invariant-loop-index decreases-loop-index
+loop-index-smaller c = search rules
 
-loop-again : tie.Need-loop-preserved invariant-loop decreases-loop
-loop-again c = let t = c.before.before in
-    let o = t.before.loop in
+loop-index-preserved : tie.Need-loop-index-preserved invariant-loop-index decreases-loop-index
+loop-index-preserved c = let t = c.before.before in
+    let o = t.before.loop-index in
     let a = t.before.before.before.args in
-    let e = zero_good (number_at a.state.now) o.index a.end t.loop-test.true (sym c.before.time_at.ensures ∙ c.if1.false) in
-    (omega (arith, o.invariant.0), omega (arith, t.loop-test.true), o.invariant.2, o.invariant.3 ∙ e)
+    let e = zero_good (number_at a.state.now) o.index a.end t.loop-index-test.true (sym c.before.time_at.ensures ∙ c.if-time_at-ne0.false) in
+    (omega (arith, o.invariant.0), omega (arith, t.loop-index-test.true), o.invariant.2, o.invariant.3 ∙ e)
 
-returns-2 : tie.Need-returns-2 invariant-loop decreases-loop
-returns-2 c = let o = c.before.loop in let a = c.before.before.before.args in
+returns : tie.Need-returns invariant-loop-index decreases-loop-index
+returns c = let o = c.before.loop-index in let a = c.before.before.before.args in
     sym (o.invariant.3 ∙ zeros_end (number_at a.state.now) o.index a.end (omega arith))
 
 pub numbers_zero_spec : {M : Type 1} → statement M
 numbers_zero_spec =
     tie.close
     (tie.spec
-    invariant-loop
-    decreases-loop
-    loop-holds
-    mul-time-at
-    time-at-requires
-    returns
-    add-index
-    loop-less
-    loop-again
-    returns-2)
+    invariant-loop-index
+    decreases-loop-index
+    loop-index-init
+    overflow_mul-index
+    time_at-requires
+    returns-then-time_at-ne0
+    overflow_add-index
+    loop-index-smaller
+    loop-index-preserved
+    returns)

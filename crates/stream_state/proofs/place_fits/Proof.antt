@@ -10,17 +10,17 @@ use Rattle.stream_state.proofs.place_fits.Reads as reads
 use Rattle.stream_state.proofs.place_fits.Lts as lts
 use Rattle.plan.proofs.group_words.Reads as group-words-reads
 
+returns-then-since-eq0 : tie.Need-returns-then-since-eq0
+returns-then-since-eq0 c = simp (eq-eqb _ _ c.if-since-eq0.true)
+
+group_words-requires : tie.Need-group_words-requires
+group_words-requires c κs = search rules
+
+overflow_mul-result : tie.Need-overflow_mul-result
+overflow_mul-result c = rw c.group_words.ensures.0 (omega (arith, words_room c.before.before.args.plan c.before.before.requires.0 c.before.before.args.groups c.before.before.requires.1))
+
 returns : tie.Need-returns
-returns c = simp (eq-eqb _ _ c.if1.true)
-
-group-words-requires : tie.Need-group-words-requires
-group-words-requires c κs = search rules
-
-mul-result : tie.Need-overflow-mul-result
-mul-result c = rw c.group_words.ensures.0 (omega (arith, words_room c.before.before.args.plan c.before.before.requires.0 c.before.before.args.groups c.before.before.requires.1))
-
-returns-2 : tie.Need-returns-2
-returns-2 c = rw (ne_eqb _ _ c.before.if1.false, c.group_words.ensures.0) refl
+returns c = rw (ne_eqb _ _ c.before.if-since-eq0.false, c.group_words.ensures.0) refl
 
 pub place_fits_spec : {M : Type 1} → statement M
-place_fits_spec = tie.close (tie.spec returns group-words-requires mul-result returns-2)
+place_fits_spec = tie.close (tie.spec returns-then-since-eq0 group_words-requires overflow_mul-result returns)

@@ -6,32 +6,32 @@ use Rattle.stream_state.proofs.plan_named.Tie as tie
 use Rattle.stream_state.proofs.plan_named.Reads as reads
 use Rattle.stream_state.proofs.plan_named.Lts as lts
 
+returns-then-words-gt512 : tie.Need-returns-then-words-gt512
+returns-then-words-gt512 c = simp (lt-leb _ _ c.if-words-gt512.true)
+
+returns-then-tracks-gt4 : tie.Need-returns-then-tracks-gt4
+returns-then-tracks-gt4 c = simp (le-leb _ _ c.before.if-words-gt512.false, lt-leb _ _ c.if-tracks-gt4.true)
+
+returns-then-frame_time-gt1 : tie.Need-returns-then-frame_time-gt1
+returns-then-frame_time-gt1 c = simp (le-leb _ _ c.before.before.if-words-gt512.false, le-leb _ _ c.before.if-tracks-gt4.false, lt-leb _ _ c.if-frame_time-gt1.true)
+
+returns-then-crc-gt1 : tie.Need-returns-then-crc-gt1
+returns-then-crc-gt1 c = simp (le-leb _ _ c.before.before.before.if-words-gt512.false, le-leb _ _ c.before.before.if-tracks-gt4.false, le-leb _ _ c.before.if-frame_time-gt1.false, lt-leb _ _ c.if-crc-gt1.true)
+
+returns-then-parity-gt1 : tie.Need-returns-then-parity-gt1
+returns-then-parity-gt1 c = let t = c.before.before.before in
+    simp (le-leb _ _ t.before.if-words-gt512.false, le-leb _ _ t.if-tracks-gt4.false, le-leb _ _ c.before.before.if-frame_time-gt1.false, le-leb _ _ c.before.if-crc-gt1.false, lt-leb _ _ c.if-parity-gt1.true)
+
+returns-then-label-gt7 : tie.Need-returns-then-label-gt7
+returns-then-label-gt7 c = let t = c.before.before.before in
+    simp (le-leb _ _ t.before.before.if-words-gt512.false, le-leb _ _ t.before.if-tracks-gt4.false, le-leb _ _ t.if-frame_time-gt1.false)
+    (simp (le-leb _ _ c.before.before.if-crc-gt1.false, le-leb _ _ c.before.if-parity-gt1.false, lt-leb _ _ c.if-label-gt7.true))
+
 returns : tie.Need-returns
-returns c = simp (lt-leb _ _ c.if1.true)
-
-returns-2 : tie.Need-returns-2
-returns-2 c = simp (le-leb _ _ c.before.if1.false, lt-leb _ _ c.if2.true)
-
-returns-3 : tie.Need-returns-3
-returns-3 c = simp (le-leb _ _ c.before.before.if1.false, le-leb _ _ c.before.if2.false, lt-leb _ _ c.if3.true)
-
-returns-4 : tie.Need-returns-4
-returns-4 c = simp (le-leb _ _ c.before.before.before.if1.false, le-leb _ _ c.before.before.if2.false, le-leb _ _ c.before.if3.false, lt-leb _ _ c.if4.true)
-
-returns-5 : tie.Need-returns-5
-returns-5 c = let t = c.before.before.before in
-    simp (le-leb _ _ t.before.if1.false, le-leb _ _ t.if2.false, le-leb _ _ c.before.before.if3.false, le-leb _ _ c.before.if4.false, lt-leb _ _ c.if5.true)
-
-returns-6 : tie.Need-returns-6
-returns-6 c = let t = c.before.before.before in
-    simp (le-leb _ _ t.before.before.if1.false, le-leb _ _ t.before.if2.false, le-leb _ _ t.if3.false)
-    (simp (le-leb _ _ c.before.before.if4.false, le-leb _ _ c.before.if5.false, lt-leb _ _ c.if6.true))
-
-returns-7 : tie.Need-returns-7
-returns-7 c = let t = c.before.before.before in
-    simp (le-leb _ _ t.before.before.if1.false, le-leb _ _ t.before.if2.false, le-leb _ _ t.if3.false)
-    (simp (le-leb _ _ c.before.before.if4.false, le-leb _ _ c.before.if5.false, le-leb _ _ c.if6.false))
+returns c = let t = c.before.before.before in
+    simp (le-leb _ _ t.before.before.if-words-gt512.false, le-leb _ _ t.before.if-tracks-gt4.false, le-leb _ _ t.if-frame_time-gt1.false)
+    (simp (le-leb _ _ c.before.before.if-crc-gt1.false, le-leb _ _ c.before.if-parity-gt1.false, le-leb _ _ c.if-label-gt7.false))
 
 pub plan_named_spec : {M : Type 1} → statement M
 plan_named_spec =
-    tie.close (tie.spec returns returns-2 returns-3 returns-4 returns-5 returns-6 returns-7)
+    tie.close (tie.spec returns-then-words-gt512 returns-then-tracks-gt4 returns-then-frame_time-gt1 returns-then-crc-gt1 returns-then-parity-gt1 returns-then-label-gt7 returns)

@@ -8,19 +8,19 @@ use Rattle.stream_state.proofs.put_count.Reads as reads
 use Rattle.stream_state.proofs.put_count.Lts as lts
 use Rattle.from_c.proofs.put_times.Reads as put-times-reads
 
-slice-aggregate-put-times : tie.Need-slice-aggregate-put-times
-slice-aggregate-put-times c = search rules
+slice_bounds-put_times-end : tie.Need-slice_bounds-put_times-end
+slice_bounds-put_times-end c = search rules
 
-put-times-requires : tie.Need-put-times-requires
-put-times-requires c κs = search rules
+put_times-requires : tie.Need-put_times-requires
+put_times-requires c κs = search rules
 
-same_length : tie.Need-same-length
-same_length c = search rules
+shape_of-bytes : tie.Need-shape_of-bytes
+shape_of-bytes c = search rules
 
 returns : tie.Need-returns
 returns c = let s = c.before.before.before.before.before.before in
-    c.before.before.put-times.ensures ∙ row_fills (s.args.count ∷ []) s.args.bytes.now 1 refl (sym s.requires) ∙ one_time s.args.count
+    c.before.before.put_times.ensures ∙ row_fills (s.args.count ∷ []) s.args.bytes-1.now 1 refl (sym s.requires) ∙ one_time s.args.count
 
 pub put_count_spec : {M : Type 1} → statement M
 put_count_spec =
-    tie.close (tie.spec slice-aggregate-put-times put-times-requires same_length returns)
+    tie.close (tie.spec slice_bounds-put_times-end put_times-requires shape_of-bytes returns)

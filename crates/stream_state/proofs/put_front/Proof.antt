@@ -21,68 +21,68 @@ use Rattle.stream_state.proofs.held_words.Reads as held-words-reads
 use Rattle.stream_state.proofs.kind_numbers.Reads as kind-numbers-reads
 use Rattle.stream_state.proofs.put_stand.Reads as put-stand-reads
 
-sub-put-stand : tie.Need-overflow-sub-put-stand
-sub-put-stand c = search rules
+slice_bounds-put_stand-count : tie.Need-slice_bounds-put_stand-count
+slice_bounds-put_stand-count c = search rules
 
-part-put-stand-start : tie.Need-slice-bounds-put-stand-start
-part-put-stand-start c = search rules
+slice_bounds-put_stand-start : tie.Need-slice_bounds-put_stand-start
+slice_bounds-put_stand-start c = search rules
 
-part-put-stand-end : tie.Need-slice-bounds-put-stand-end
-part-put-stand-end c = search rules
+slice_bounds-put_stand-end : tie.Need-slice_bounds-put_stand-end
+slice_bounds-put_stand-end c = search rules
 
-put-stand-requires : tie.Need-put-stand-requires
-put-stand-requires c κs = search rules
+put_stand-requires : tie.Need-put_stand-requires
+put_stand-requires c κs = search rules
 
-held-words-requires : tie.Need-held-words-requires
-held-words-requires c κs = search rules
+held_words-words-requires : tie.Need-held_words-words-requires
+held_words-words-requires c κs = search rules
 
-slice-aggregate-put-times : tie.Need-slice-aggregate-put-times
-slice-aggregate-put-times c = search rules
+slice_bounds-put_times-end : tie.Need-slice_bounds-put_times-end
+slice_bounds-put_times-end c = search rules
 
-sub-put-times : tie.Need-overflow-sub-put-times
-sub-put-times c = search rules
+slice_bounds-put_times-count : tie.Need-slice_bounds-put_times-count
+slice_bounds-put_times-count c = search rules
 
-part-put-times-start : tie.Need-slice-bounds-put-times-start
-part-put-times-start c = search rules
+slice_bounds-put_times-start : tie.Need-slice_bounds-put_times-start
+slice_bounds-put_times-start c = search rules
 
-part-put-times-end : tie.Need-slice-bounds-put-times-end
-part-put-times-end c = search rules
+slice_bounds-put_times-end-2 : tie.Need-slice_bounds-put_times-end-2
+slice_bounds-put_times-end-2 c = search rules
 
-put-times-requires : tie.Need-put-times-requires
-put-times-requires c κs = search rules
+put_times-requires : tie.Need-put_times-requires
+put_times-requires c κs = search rules
 
-kind-numbers-requires : tie.Need-kind-numbers-requires
-kind-numbers-requires c κs = search rules
+kind_numbers-numbers-requires : tie.Need-kind_numbers-numbers-requires
+kind_numbers-numbers-requires c κs = search rules
 
-slice-aggregate-put-times-2 : tie.Need-slice-aggregate-put-times-2
-slice-aggregate-put-times-2 c = search rules
+slice_bounds-put_times-end-3 : tie.Need-slice_bounds-put_times-end-3
+slice_bounds-put_times-end-3 c = search rules
 
-sub-put-times-2 : tie.Need-overflow-sub-put-times-2
-sub-put-times-2 c = search rules
+slice_bounds-put_times-count-2 : tie.Need-slice_bounds-put_times-count-2
+slice_bounds-put_times-count-2 c = search rules
 
-part-put-times-start-2 : tie.Need-slice-bounds-put-times-start-2
-part-put-times-start-2 c = search rules
+slice_bounds-put_times-start-2 : tie.Need-slice_bounds-put_times-start-2
+slice_bounds-put_times-start-2 c = search rules
 
-part-put-times-end-2 : tie.Need-slice-bounds-put-times-end-2
-part-put-times-end-2 c = search rules
+slice_bounds-put_times-end-4 : tie.Need-slice_bounds-put_times-end-4
+slice_bounds-put_times-end-4 c = search rules
 
-put-times-requires-2 : tie.Need-put-times-requires-2
-put-times-requires-2 c κs = search rules
+put_times-requires-2 : tie.Need-put_times-requires-2
+put_times-requires-2 c κs = search rules
 
-sub-put-table : tie.Need-overflow-sub-put-table
-sub-put-table c = search rules
+slice_bounds-put_table-count : tie.Need-slice_bounds-put_table-count
+slice_bounds-put_table-count c = search rules
 
-part-put-table-start : tie.Need-slice-bounds-put-table-start
-part-put-table-start c = search rules
+slice_bounds-put_table-start : tie.Need-slice_bounds-put_table-start
+slice_bounds-put_table-start c = search rules
 
-part-put-table-end : tie.Need-slice-bounds-put-table-end
-part-put-table-end c = search rules
+slice_bounds-put_table-end : tie.Need-slice_bounds-put_table-end
+slice_bounds-put_table-end c = search rules
 
-put-table-requires : tie.Need-put-table-requires
-put-table-requires c κs = search rules
+put_table-requires : tie.Need-put_table-requires
+put_table-requires c κs = search rules
 
-same_length : tie.Need-same-length
-same_length c = search rules
+shape_of-bytes : tie.Need-shape_of-bytes
+shape_of-bytes c = search rules
 
 returns : tie.Need-returns
 returns c = let t = c.before.before.before.before.before.before in
@@ -92,41 +92,41 @@ returns c = let t = c.before.before.before.before.before.before in
     let p = h.before.before.before in
     let s = p.before.before.before.before in
     let x = s.args.stand in
-    let words = h.held-words.result in
-    let numbers = k.kind-numbers.result in
+    let words = h.held_words-words.result in
+    let numbers = k.kind_numbers-numbers.result in
     let table = s.args.table.now in
-    let five : length words ≡ 5 = ap length h.held-words.ensures ∙ four_long (held_parts (held_of x.held)) in
-    let sixteen : length numbers ≡ 16 = ap length k.kind-numbers.ensures ∙ length-map s.args.kinds kind_number ∙ s.requires.2 in
-    let stood = front_part 120 _ (front_none s.args.bytes.now) (length_times (stand_row x)) (omega (arith, s.requires.0)) refl p.put-stand.ensures in
-    let held = put_row 40 5 words five refl stood (omega (arith, s.requires.0)) refl u.put-times.ensures in
-    let kinds = put_row 128 16 numbers sixteen refl held (omega (arith, s.requires.0)) refl t.put-times2.ensures in
-    let all = put_row 512 64 table s.requires.1 refl kinds (omega (arith, s.requires.0)) refl c.before.before.put-table.ensures in
+    let five : length words ≡ 5 = ap length h.held_words-words.ensures ∙ four_long (held_parts (held_of x.held)) in
+    let sixteen : length numbers ≡ 16 = ap length k.kind_numbers-numbers.ensures ∙ length-map s.args.kinds kind_number ∙ s.requires.2 in
+    let stood = front_part 120 _ (front_none s.args.bytes-1.now) (length_times (stand_row x)) (omega (arith, s.requires.0)) refl p.put_stand.ensures in
+    let held = put_row 40 5 words five refl stood (omega (arith, s.requires.0)) refl u.put_times.ensures in
+    let kinds = put_row 128 16 numbers sixteen refl held (omega (arith, s.requires.0)) refl t.put_times-2.ensures in
+    let all = put_row 512 64 table s.requires.1 refl kinds (omega (arith, s.requires.0)) refl c.before.before.put_table.ensures in
     all_put all s.requires.0
-    ∙ rw (h.held-words.ensures, k.kind-numbers.ensures) (rows_joined (stand_row x) (four_words (held_parts (held_of x.held))) (map kind_number s.args.kinds) table)
+    ∙ rw (h.held_words-words.ensures, k.kind_numbers-numbers.ensures) (rows_joined (stand_row x) (four_words (held_parts (held_of x.held))) (map kind_number s.args.kinds) table)
 
 pub put_front_spec : {M : Type 1} → statement M
 put_front_spec =
     tie.close
     (tie.spec
-    sub-put-stand
-    part-put-stand-start
-    part-put-stand-end
-    put-stand-requires
-    held-words-requires
-    slice-aggregate-put-times
-    sub-put-times
-    part-put-times-start
-    part-put-times-end
-    put-times-requires
-    kind-numbers-requires
-    slice-aggregate-put-times-2
-    sub-put-times-2
-    part-put-times-start-2
-    part-put-times-end-2
-    put-times-requires-2
-    sub-put-table
-    part-put-table-start
-    part-put-table-end
-    put-table-requires
-    same_length
+    slice_bounds-put_stand-count
+    slice_bounds-put_stand-start
+    slice_bounds-put_stand-end
+    put_stand-requires
+    held_words-words-requires
+    slice_bounds-put_times-end
+    slice_bounds-put_times-count
+    slice_bounds-put_times-start
+    slice_bounds-put_times-end-2
+    put_times-requires
+    kind_numbers-numbers-requires
+    slice_bounds-put_times-end-3
+    slice_bounds-put_times-count-2
+    slice_bounds-put_times-start-2
+    slice_bounds-put_times-end-4
+    put_times-requires-2
+    slice_bounds-put_table-count
+    slice_bounds-put_table-start
+    slice_bounds-put_table-end
+    put_table-requires
+    shape_of-bytes
     returns)

@@ -9,55 +9,55 @@ use Rattle.stream_state.proofs.put_stand.Lts as lts
 use Rattle.from_c.proofs.put_times.Reads as put-times-reads
 use Rattle.stream_state.proofs.flag.Reads as flag-reads
 
-flag-requires : tie.Need-flag-requires
-flag-requires c κs = search rules
+flag-frame_time-requires : tie.Need-flag-frame_time-requires
+flag-frame_time-requires c κs = search rules
 
-flag-requires-2 : tie.Need-flag-requires-2
-flag-requires-2 c κs = search rules
+flag-crc-requires : tie.Need-flag-crc-requires
+flag-crc-requires c κs = search rules
 
-flag-requires-3 : tie.Need-flag-requires-3
-flag-requires-3 c κs = search rules
+flag-parity-requires : tie.Need-flag-parity-requires
+flag-parity-requires c κs = search rules
 
-cast-t10 : tie.Need-overflow-cast-t10
-cast-t10 c = search rules
+overflow_cast-row : tie.Need-overflow_cast-row
+overflow_cast-row c = search rules
 
-cast-t11 : tie.Need-overflow-cast-t11
-cast-t11 c = search rules
+overflow_cast-row-2 : tie.Need-overflow_cast-row-2
+overflow_cast-row-2 c = search rules
 
-cast-t12 : tie.Need-overflow-cast-t12
-cast-t12 c = search rules
+overflow_cast-row-3 : tie.Need-overflow_cast-row-3
+overflow_cast-row-3 c = search rules
 
-cast-t13 : tie.Need-overflow-cast-t13
-cast-t13 c = search rules
+overflow_cast-row-4 : tie.Need-overflow_cast-row-4
+overflow_cast-row-4 c = search rules
 
-slice-aggregate-put-times : tie.Need-slice-aggregate-put-times
-slice-aggregate-put-times c = search rules
+slice_bounds-put_times-end : tie.Need-slice_bounds-put_times-end
+slice_bounds-put_times-end c = search rules
 
-put-times-requires : tie.Need-put-times-requires
-put-times-requires c κs = search rules
+put_times-requires : tie.Need-put_times-requires
+put_times-requires c κs = search rules
 
-same_length : tie.Need-same-length
-same_length c = search rules
+shape_of-bytes : tie.Need-shape_of-bytes
+shape_of-bytes c = search rules
 
 returns : tie.Need-returns
 returns c = let s = c.before.before.before.before.before.before.before.before.before.before.before.before.before.before in
     let f = c.before.before.before.before.before.before.before.before.before in
-    c.before.before.put-times.ensures
-    ∙ rw (f.before.before.flag.ensures, f.before.flag2.ensures, f.flag3.ensures)
-    (row_fills (stand_row s.args.stand) s.args.bytes.now 15 refl (sym s.requires))
+    c.before.before.put_times.ensures
+    ∙ rw (f.before.before.flag-frame_time.ensures, f.before.flag-crc.ensures, f.flag-parity.ensures)
+    (row_fills (stand_row s.args.stand) s.args.bytes-1.now 15 refl (sym s.requires))
 
 pub put_stand_spec : {M : Type 1} → statement M
 put_stand_spec =
     tie.close
     (tie.spec
-    flag-requires
-    flag-requires-2
-    flag-requires-3
-    cast-t10
-    cast-t11
-    cast-t12
-    cast-t13
-    slice-aggregate-put-times
-    put-times-requires
-    same_length
+    flag-frame_time-requires
+    flag-crc-requires
+    flag-parity-requires
+    overflow_cast-row
+    overflow_cast-row-2
+    overflow_cast-row-3
+    overflow_cast-row-4
+    slice_bounds-put_times-end
+    put_times-requires
+    shape_of-bytes
     returns)

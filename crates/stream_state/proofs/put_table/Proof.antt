@@ -9,38 +9,38 @@ use Rattle.from_c.proofs.put_times.Reads as put-times-reads
 use Rattle.stream_state.proofs.clear.Reads as clear_reads
 use Rattle.stream_state.proofs.none_waits.Reads as none-waits-reads
 
-none-waits-requires : tie.Need-none-waits-requires
-none-waits-requires c κs = search rules
+none_waits-requires : tie.Need-none_waits-requires
+none_waits-requires c κs = search rules
 
 clear-requires : tie.Need-clear-requires
 clear-requires c κs = search rules
 
-same_length : tie.Need-same-length
-same_length c = search rules
+shape_of-bytes-then-none_waits : tie.Need-shape_of-bytes-then-none_waits
+shape_of-bytes-then-none_waits c = search rules
 
-returns : tie.Need-returns
-returns c = let s = c.before.before.before.before.before.before.before.before in
+returns-then-none_waits : tie.Need-returns-then-none_waits
+returns-then-none_waits c = let s = c.before.before.before.before.before.before.before.before in
     let t = c.before.before.before.before in
     c.before.before.clear.ensures
-    ∙ zeros_stored s.args.table.now s.args.bytes.now s.requires.0 s.requires.1 (sym t.before.none_waits.ensures ∙ t.if1.true)
+    ∙ zeros_stored s.args.table.now s.args.bytes-1.now s.requires.0 s.requires.1 (sym t.before.none_waits.ensures ∙ t.if-none_waits.true)
 
-put-times-requires : tie.Need-put-times-requires
-put-times-requires c κs = search rules
+put_times-requires : tie.Need-put_times-requires
+put_times-requires c κs = search rules
 
-same-length-2 : tie.Need-same-length-2
-same-length-2 c = search rules
+shape_of-bytes : tie.Need-shape_of-bytes
+shape_of-bytes c = search rules
 
-returns-2 : tie.Need-returns-2
-returns-2 c = search rules
+returns : tie.Need-returns
+returns c = search rules
 
 pub put_table_spec : {M : Type 1} → statement M
 put_table_spec =
     tie.close
     (tie.spec
-    none-waits-requires
+    none_waits-requires
     clear-requires
-    same_length
-    returns
-    put-times-requires
-    same-length-2
-    returns-2)
+    shape_of-bytes-then-none_waits
+    returns-then-none_waits
+    put_times-requires
+    shape_of-bytes
+    returns)

@@ -9,38 +9,38 @@ use Rattle.from_c.proofs.times_from.Reads as times-from-reads
 use Rattle.stream_state.proofs.bytes_zero.Reads as bytes-zero-reads
 use Rattle.stream_state.proofs.clear_table.Reads as clear-table-reads
 
-bytes-zero-requires : tie.Need-bytes-zero-requires
-bytes-zero-requires c κs = search rules
+bytes_zero-requires : tie.Need-bytes_zero-requires
+bytes_zero-requires c κs = search rules
 
-clear-table-requires : tie.Need-clear-table-requires
-clear-table-requires c κs = search rules
+clear_table-requires : tie.Need-clear_table-requires
+clear_table-requires c κs = search rules
 
-same_length : tie.Need-same-length
-same_length c = search rules
+shape_of-table-then-bytes_zero : tie.Need-shape_of-table-then-bytes_zero
+shape_of-table-then-bytes_zero c = search rules
+
+returns-then-bytes_zero : tie.Need-returns-then-bytes_zero
+returns-then-bytes_zero c = let s = c.before.before.before.before.before.before.before.before in
+    let t = c.before.before.before.before in
+    c.before.before.clear_table.ensures
+    ∙ zero_table s.args.bytes.now s.args.table-1.now s.requires.0 s.requires.1 (sym t.before.bytes_zero.ensures ∙ t.if-bytes_zero.true)
+
+times_from-requires : tie.Need-times_from-requires
+times_from-requires c κs = search rules
+
+shape_of-table : tie.Need-shape_of-table
+shape_of-table c = search rules
 
 returns : tie.Need-returns
-returns c = let s = c.before.before.before.before.before.before.before.before in
-    let t = c.before.before.before.before in
-    c.before.before.clear-table.ensures
-    ∙ zero_table s.args.bytes.now s.args.table.now s.requires.0 s.requires.1 (sym t.before.bytes-zero.ensures ∙ t.if1.true)
-
-times-from-requires : tie.Need-times-from-requires
-times-from-requires c κs = search rules
-
-same-length-2 : tie.Need-same-length-2
-same-length-2 c = search rules
-
-returns-2 : tie.Need-returns-2
-returns-2 c = search rules
+returns c = search rules
 
 pub read_table_spec : {M : Type 1} → statement M
 read_table_spec =
     tie.close
     (tie.spec
-    bytes-zero-requires
-    clear-table-requires
-    same_length
-    returns
-    times-from-requires
-    same-length-2
-    returns-2)
+    bytes_zero-requires
+    clear_table-requires
+    shape_of-table-then-bytes_zero
+    returns-then-bytes_zero
+    times_from-requires
+    shape_of-table
+    returns)

@@ -11,102 +11,102 @@ use Rattle.stream_state.proofs.runs_zero.Lts as lts
 use Rattle.stream_state.proofs.few_zero.Reads as few-zero-reads
 use Rattle.stream_state.proofs.four_zero.Reads as four-zero-reads
 
-mul-part : tie.Need-overflow-mul-part
-mul-part c = search rules
+overflow_mul-part : tie.Need-overflow_mul-part
+overflow_mul-part c = search rules
 
-mul-third : tie.Need-overflow-mul-third
-mul-third c = search rules
+overflow_mul-third : tie.Need-overflow_mul-third
+overflow_mul-third c = search rules
 
-mul-fourth : tie.Need-overflow-mul-fourth
-mul-fourth c = search rules
+overflow_mul-fourth : tie.Need-overflow_mul-fourth
+overflow_mul-fourth c = search rules
 
-mul-rest : tie.Need-overflow-mul-rest
-mul-rest c = search rules
+overflow_mul-rest : tie.Need-overflow_mul-rest
+overflow_mul-rest c = search rules
 
-sub-few-zero : tie.Need-overflow-sub-few-zero
-sub-few-zero c = search rules
+slice_bounds-few_zero-count : tie.Need-slice_bounds-few_zero-count
+slice_bounds-few_zero-count c = search rules
 
-part-few-zero-start : tie.Need-slice-bounds-few-zero-start
-part-few-zero-start c = search rules
+slice_bounds-few_zero-start : tie.Need-slice_bounds-few_zero-start
+slice_bounds-few_zero-start c = search rules
 
-part-few-zero-end : tie.Need-slice-bounds-few-zero-end
-part-few-zero-end c = search rules
+slice_bounds-few_zero-end : tie.Need-slice_bounds-few_zero-end
+slice_bounds-few_zero-end c = search rules
 
-few-zero-requires : tie.Need-few-zero-requires
-few-zero-requires c κs = search rules
+few_zero-requires : tie.Need-few_zero-requires
+few_zero-requires c κs = search rules
+
+returns-then-not-few_zero : tie.Need-returns-then-not-few_zero
+returns-then-not-few_zero c = let l = c.before.before.before.before.args.bytes.now in
+    rest_not (length l / 128 * 32) l (sym c.before.few_zero.ensures ∙ not-true _ c.if-not-few_zero.true)
+
+slice_bounds-four_zero-count : tie.Need-slice_bounds-four_zero-count
+slice_bounds-four_zero-count c = search rules
+
+slice_bounds-four_zero-start : tie.Need-slice_bounds-four_zero-start
+slice_bounds-four_zero-start c = search rules
+
+slice_bounds-four_zero-end : tie.Need-slice_bounds-four_zero-end
+slice_bounds-four_zero-end c = search rules
+
+slice_bounds-four_zero-count-2 : tie.Need-slice_bounds-four_zero-count-2
+slice_bounds-four_zero-count-2 c = search rules
+
+slice_bounds-four_zero-start-2 : tie.Need-slice_bounds-four_zero-start-2
+slice_bounds-four_zero-start-2 c = search rules
+
+slice_bounds-four_zero-end-2 : tie.Need-slice_bounds-four_zero-end-2
+slice_bounds-four_zero-end-2 c = search rules
+
+slice_bounds-four_zero-count-3 : tie.Need-slice_bounds-four_zero-count-3
+slice_bounds-four_zero-count-3 c = search rules
+
+slice_bounds-four_zero-start-3 : tie.Need-slice_bounds-four_zero-start-3
+slice_bounds-four_zero-start-3 c = search rules
+
+slice_bounds-four_zero-end-3 : tie.Need-slice_bounds-four_zero-end-3
+slice_bounds-four_zero-end-3 c = search rules
+
+slice_bounds-four_zero-count-4 : tie.Need-slice_bounds-four_zero-count-4
+slice_bounds-four_zero-count-4 c = search rules
+
+slice_bounds-four_zero-start-4 : tie.Need-slice_bounds-four_zero-start-4
+slice_bounds-four_zero-start-4 c = search rules
+
+slice_bounds-four_zero-end-4 : tie.Need-slice_bounds-four_zero-end-4
+slice_bounds-four_zero-end-4 c = search rules
+
+four_zero-requires : tie.Need-four_zero-requires
+four_zero-requires c κs = search rules
 
 returns : tie.Need-returns
-returns c = let l = c.before.before.before.before.args.bytes.now in
-    rest_not (length l / 128 * 32) l (sym c.before.few-zero.ensures ∙ not-true _ c.if1.true)
-
-sub-four-zero : tie.Need-overflow-sub-four-zero
-sub-four-zero c = search rules
-
-part-four-zero-start : tie.Need-slice-bounds-four-zero-start
-part-four-zero-start c = search rules
-
-part-four-zero-end : tie.Need-slice-bounds-four-zero-end
-part-four-zero-end c = search rules
-
-sub-four-zero-2 : tie.Need-overflow-sub-four-zero-2
-sub-four-zero-2 c = search rules
-
-part-four-zero-start-2 : tie.Need-slice-bounds-four-zero-start-2
-part-four-zero-start-2 c = search rules
-
-part-four-zero-end-2 : tie.Need-slice-bounds-four-zero-end-2
-part-four-zero-end-2 c = search rules
-
-sub-four-zero-3 : tie.Need-overflow-sub-four-zero-3
-sub-four-zero-3 c = search rules
-
-part-four-zero-start-3 : tie.Need-slice-bounds-four-zero-start-3
-part-four-zero-start-3 c = search rules
-
-part-four-zero-end-3 : tie.Need-slice-bounds-four-zero-end-3
-part-four-zero-end-3 c = search rules
-
-sub-four-zero-4 : tie.Need-overflow-sub-four-zero-4
-sub-four-zero-4 c = search rules
-
-part-four-zero-start-4 : tie.Need-slice-bounds-four-zero-start-4
-part-four-zero-start-4 c = search rules
-
-part-four-zero-end-4 : tie.Need-slice-bounds-four-zero-end-4
-part-four-zero-end-4 c = search rules
-
-four-zero-requires : tie.Need-four-zero-requires
-four-zero-requires c κs = search rules
-
-returns-2 : tie.Need-returns-2
-returns-2 c = let l = c.before.before.before.before.before.before.before.before.before.args.bytes.now in
+returns c = let l = c.before.before.before.before.before.before.before.before.before.args.bytes.now in
     let t = c.before.before.before.before.before in
-    c.four-zero.ensures ∙ rest_zero (length l / 128 * 32) l (sym t.before.few-zero.ensures ∙ not-false _ t.if1.false)
+    c.four_zero.ensures ∙ rest_zero (length l / 128 * 32) l (sym t.before.few_zero.ensures ∙ not-false _ t.if-not-few_zero.false)
 
 pub runs_zero_spec : {M : Type 1} → statement M
 runs_zero_spec =
     tie.close
     (tie.spec
-    mul-part
-    mul-third
-    mul-fourth
-    mul-rest
-    sub-few-zero
-    part-few-zero-start
-    part-few-zero-end
-    few-zero-requires
-    returns
-    sub-four-zero
-    part-four-zero-start
-    part-four-zero-end
-    sub-four-zero-2
-    part-four-zero-start-2
-    part-four-zero-end-2
-    sub-four-zero-3
-    part-four-zero-start-3
-    part-four-zero-end-3
-    sub-four-zero-4
-    part-four-zero-start-4
-    part-four-zero-end-4
-    four-zero-requires
-    returns-2)
+    overflow_mul-part
+    overflow_mul-third
+    overflow_mul-fourth
+    overflow_mul-rest
+    slice_bounds-few_zero-count
+    slice_bounds-few_zero-start
+    slice_bounds-few_zero-end
+    few_zero-requires
+    returns-then-not-few_zero
+    slice_bounds-four_zero-count
+    slice_bounds-four_zero-start
+    slice_bounds-four_zero-end
+    slice_bounds-four_zero-count-2
+    slice_bounds-four_zero-start-2
+    slice_bounds-four_zero-end-2
+    slice_bounds-four_zero-count-3
+    slice_bounds-four_zero-start-3
+    slice_bounds-four_zero-end-3
+    slice_bounds-four_zero-count-4
+    slice_bounds-four_zero-start-4
+    slice_bounds-four_zero-end-4
+    four_zero-requires
+    returns)

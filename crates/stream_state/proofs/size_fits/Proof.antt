@@ -11,35 +11,35 @@ use Rattle.stream_state.proofs.size_fits.Reads as reads
 use Rattle.stream_state.proofs.size_fits.Lts as lts
 use Rattle.plan.proofs.group_words.Reads as group-words-reads
 
-group-words-requires : tie.Need-group-words-requires
-group-words-requires c κs = search rules
+group_words-requires : tie.Need-group_words-requires
+group_words-requires c κs = search rules
 
-mul-size : tie.Need-overflow-mul-size
-mul-size c = search rules
+overflow_mul-size : tie.Need-overflow_mul-size
+overflow_mul-size c = search rules
 
-returns : tie.Need-returns
-returns c = let a = c.before.before.args in rw (le-ltb a.waiting (group_size a.plan) (omega (arith, c.if1.true, c.before.group_words.ensures.0))) refl
+returns-then-size-waiting : tie.Need-returns-then-size-waiting
+returns-then-size-waiting c = let a = c.before.before.args in rw (le-ltb a.waiting (group_size a.plan) (omega (arith, c.if-size-waiting.true, c.before.group_words.ensures.0))) refl
 
-returns-2 : tie.Need-returns-2
-returns-2 c = let s = c.before.before.before in
+returns-then-groups-gt1099511627776 : tie.Need-returns-then-groups-gt1099511627776
+returns-then-groups-gt1099511627776 c = let s = c.before.before.before in
     let a = s.args in
-    let few : a.waiting < group_size a.plan = omega (arith, c.before.if1.false, c.before.before.group_words.ensures.0) in
-    rw (lt-ltb a.waiting (group_size a.plan) few, size_over a.plan s.requires a.groups a.waiting c.if2.true) refl
+    let few : a.waiting < group_size a.plan = omega (arith, c.before.if-size-waiting.false, c.before.before.group_words.ensures.0) in
+    rw (lt-ltb a.waiting (group_size a.plan) few, size_over a.plan s.requires a.groups a.waiting c.if-groups-gt1099511627776.true) refl
 
-mul-result : tie.Need-overflow-mul-result
-mul-result c = let s = c.before.before.before in rw c.before.before.group_words.ensures.0 (omega (arith, words_room s.args.plan s.requires s.args.groups c.if2.false))
+overflow_mul-result : tie.Need-overflow_mul-result
+overflow_mul-result c = let s = c.before.before.before in rw c.before.before.group_words.ensures.0 (omega (arith, words_room s.args.plan s.requires s.args.groups c.if-groups-gt1099511627776.false))
 
-add-result : tie.Need-overflow-add-result
-add-result c = let s = c.before.before.before in
+overflow_add-result : tie.Need-overflow_add-result
+overflow_add-result c = let s = c.before.before.before in
     let p = s.args.plan in
     let words = c.before.before.group_words.ensures.0 in
-    rw words (omega (arith, words_room p s.requires s.args.groups c.if2.false, size_most p s.requires, c.before.if1.false, words))
+    rw words (omega (arith, words_room p s.requires s.args.groups c.if-groups-gt1099511627776.false, size_most p s.requires, c.before.if-size-waiting.false, words))
 
-returns-3 : tie.Need-returns-3
-returns-3 c = let a = c.before.before.before.args in
-    rw (lt-ltb a.waiting (group_size a.plan) (omega (arith, c.before.if1.false, c.before.before.group_words.ensures.0)), c.before.before.group_words.ensures.0) refl
+returns : tie.Need-returns
+returns c = let a = c.before.before.before.args in
+    rw (lt-ltb a.waiting (group_size a.plan) (omega (arith, c.before.if-size-waiting.false, c.before.before.group_words.ensures.0)), c.before.before.group_words.ensures.0) refl
 
 pub size_fits_spec : {M : Type 1} → statement M
 size_fits_spec =
     tie.close
-    (tie.spec group-words-requires mul-size returns returns-2 mul-result add-result returns-3)
+    (tie.spec group_words-requires overflow_mul-size returns-then-size-waiting returns-then-groups-gt1099511627776 overflow_mul-result overflow_add-result returns)

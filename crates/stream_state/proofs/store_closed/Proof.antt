@@ -10,32 +10,32 @@ use Rattle.stream_state.proofs.store_closed.Reads as reads
 use Rattle.stream_state.proofs.store_closed.Lts as lts
 use Rattle.stream_state.proofs.clear.Reads as clear_reads
 
-sub-clear : tie.Need-overflow-sub-clear
-sub-clear c = search rules
+slice_bounds-clear-count : tie.Need-slice_bounds-clear-count
+slice_bounds-clear-count c = search rules
 
-part-clear-start : tie.Need-slice-bounds-clear-start
-part-clear-start c = search rules
+slice_bounds-clear-start : tie.Need-slice_bounds-clear-start
+slice_bounds-clear-start c = search rules
 
-part-clear-end : tie.Need-slice-bounds-clear-end
-part-clear-end c = search rules
+slice_bounds-clear-end : tie.Need-slice_bounds-clear-end
+slice_bounds-clear-end c = search rules
 
 clear-requires : tie.Need-clear-requires
 clear-requires c κs = search rules
 
-same_length : tie.Need-same-length
-same_length c = search rules
+shape_of-state : tie.Need-shape_of-state
+shape_of-state c = search rules
 
 returns : tie.Need-returns
 returns c = let s = c.before.before.before.before.before in
-    all_put (put_zeros {n = 7168} 7168 (front_none s.args.state.now) (omega (arith, s.requires)) refl c.before.before.clear.ensures) s.requires ∙ closed_bytes
+    all_put (put_zeros {n = 7168} 7168 (front_none s.args.state-1.now) (omega (arith, s.requires)) refl c.before.before.clear.ensures) s.requires ∙ closed_bytes
 
 pub store_closed_spec : {M : Type 1} → statement M
 store_closed_spec =
     tie.close
     (tie.spec
-    sub-clear
-    part-clear-start
-    part-clear-end
+    slice_bounds-clear-count
+    slice_bounds-clear-start
+    slice_bounds-clear-end
     clear-requires
-    same_length
+    shape_of-state
     returns)

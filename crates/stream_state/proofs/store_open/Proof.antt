@@ -13,18 +13,18 @@ use Rattle.stream_state.proofs.store.Reads as store-reads
 nothing-requires : tie.Need-nothing-requires
 nothing-requires c κs = search rules
 
-slice-aggregate-store : tie.Need-slice-aggregate-store
-slice-aggregate-store c = search rules
+slice_bounds-store-end : tie.Need-slice_bounds-store-end
+slice_bounds-store-end c = search rules
 
-slice-aggregate-store-2 : tie.Need-slice-aggregate-store-2
-slice-aggregate-store-2 c = search rules
+slice_bounds-store-end-2 : tie.Need-slice_bounds-store-end-2
+slice_bounds-store-end-2 c = search rules
 
 store-requires : tie.Need-store-requires
 store-requires c κs = let s = c.before.before.before.before.before in
     (s.requires.0, fresh_storable s.args.plan s.args.kinds c.before.before.before.nothing.result c.before.before.before.nothing.ensures s.requires.1 s.requires.2)
 
-same_length : tie.Need-same-length
-same_length c = search rules
+shape_of-state : tie.Need-shape_of-state
+shape_of-state c = search rules
 
 returns : tie.Need-returns
 returns c = let s = c.before.before.before.before.before.before.before.before in
@@ -36,8 +36,8 @@ store_open_spec =
     tie.close
     (tie.spec
     nothing-requires
-    slice-aggregate-store
-    slice-aggregate-store-2
+    slice_bounds-store-end
+    slice_bounds-store-end-2
     store-requires
-    same_length
+    shape_of-state
     returns)

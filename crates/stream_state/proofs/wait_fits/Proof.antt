@@ -6,25 +6,25 @@ use Rattle.stream_state.proofs.wait_fits.Reads as reads
 use Rattle.stream_state.proofs.wait_fits.Lts as lts
 use Rattle.stream_state.proofs.is_arinc.Reads as is-arinc-reads
 
+returns-then-number-eq0 : tie.Need-returns-then-number-eq0
+returns-then-number-eq0 c = simp (eq-eqb _ _ c.if-number-eq0.true)
+
+returns-then-end-number : tie.Need-returns-then-end-number
+returns-then-end-number c = simp (ne_eqb _ _ c.before.if-number-eq0.false, le-ltb _ _ c.if-end-number.true)
+
+returns-then-number-lead : tie.Need-returns-then-number-lead
+returns-then-number-lead c = simp (ne_eqb _ _ c.before.before.if-number-eq0.false, lt-ltb _ _ c.before.if-end-number.false, le-ltb _ _ c.if-number-lead.true)
+
+returns-then-last-number : tie.Need-returns-then-last-number
+returns-then-last-number c = simp (ne_eqb _ _ c.before.before.before.if-number-eq0.false, lt-ltb _ _ c.before.before.if-end-number.false, lt-ltb _ _ c.before.if-number-lead.false, lt-leb _ _ c.if-last-number.true)
+
+is_arinc-requires : tie.Need-is_arinc-requires
+is_arinc-requires c κs = search rules
+
 returns : tie.Need-returns
-returns c = simp (eq-eqb _ _ c.if1.true)
-
-returns-2 : tie.Need-returns-2
-returns-2 c = simp (ne_eqb _ _ c.before.if1.false, le-ltb _ _ c.if2.true)
-
-returns-3 : tie.Need-returns-3
-returns-3 c = simp (ne_eqb _ _ c.before.before.if1.false, lt-ltb _ _ c.before.if2.false, le-ltb _ _ c.if3.true)
-
-returns-4 : tie.Need-returns-4
-returns-4 c = simp (ne_eqb _ _ c.before.before.before.if1.false, lt-ltb _ _ c.before.before.if2.false, lt-ltb _ _ c.before.if3.false, lt-leb _ _ c.if4.true)
-
-is-arinc-requires : tie.Need-is-arinc-requires
-is-arinc-requires c κs = search rules
-
-returns-5 : tie.Need-returns-5
-returns-5 c = let t = c.before.before in
-    simp (ne_eqb _ _ t.before.before.if1.false, lt-ltb _ _ t.before.if2.false, lt-ltb _ _ t.if3.false, le-leb _ _ c.before.if4.false) c.is_arinc.ensures
+returns c = let t = c.before.before in
+    simp (ne_eqb _ _ t.before.before.if-number-eq0.false, lt-ltb _ _ t.before.if-end-number.false, lt-ltb _ _ t.if-number-lead.false, le-leb _ _ c.before.if-last-number.false) c.is_arinc.ensures
 
 pub wait_fits_spec : {M : Type 1} → statement M
 wait_fits_spec =
-    tie.close (tie.spec returns returns-2 returns-3 returns-4 is-arinc-requires returns-5)
+    tie.close (tie.spec returns-then-number-eq0 returns-then-end-number returns-then-number-lead returns-then-last-number is_arinc-requires returns)

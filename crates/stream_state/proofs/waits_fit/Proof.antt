@@ -13,38 +13,38 @@ use Rattle.stream_state.proofs.waits_fit.Lts as lts
 use Rattle.stream_state.proofs.each_fits.Reads as each-fits-reads
 use Rattle.stream_state.proofs.few_zero.Reads as few-zero-reads
 
-sub-few-zero : tie.Need-overflow-sub-few-zero
-sub-few-zero c = search rules
+slice_bounds-few_zero-count : tie.Need-slice_bounds-few_zero-count
+slice_bounds-few_zero-count c = search rules
 
-part-few-zero-start : tie.Need-slice-bounds-few-zero-start
-part-few-zero-start c = search rules
+slice_bounds-few_zero-start : tie.Need-slice_bounds-few_zero-start
+slice_bounds-few_zero-start c = search rules
 
-part-few-zero-end : tie.Need-slice-bounds-few-zero-end
-part-few-zero-end c = search rules
+slice_bounds-few_zero-end : tie.Need-slice_bounds-few_zero-end
+slice_bounds-few_zero-end c = search rules
 
-few-zero-requires : tie.Need-few-zero-requires
-few-zero-requires c κs = search rules
+few_zero-requires : tie.Need-few_zero-requires
+few_zero-requires c κs = search rules
 
-returns : tie.Need-returns
-returns c = let s = c.before.before.before.before in
+returns-then-few_zero : tie.Need-returns-then-few_zero
+returns-then-few_zero c = let s = c.before.before.before.before in
     let b = s.args.state.now in
-    let z = sym c.before.few-zero.ensures ∙ c.if1.true in
+    let z = sym c.before.few_zero.ensures ∙ c.if-few_zero.true in
     sym (none_wait s.args.plan (kinds_at b) s.args.groups 0 (list (number_at b) 36 64) (zero_numbers b 36 64 s.requires.2 (omega arith) z))
 
-each-fits-requires : tie.Need-each-fits-requires
-each-fits-requires c κs = search rules
+each_fits-requires : tie.Need-each_fits-requires
+each_fits-requires c κs = search rules
 
-returns-2 : tie.Need-returns-2
-returns-2 c = c.each-fits.ensures
+returns : tie.Need-returns
+returns c = c.each_fits.ensures
 
 pub waits_fit_spec : {M : Type 1} → statement M
 waits_fit_spec =
     tie.close
     (tie.spec
-    sub-few-zero
-    part-few-zero-start
-    part-few-zero-end
-    few-zero-requires
-    returns
-    each-fits-requires
-    returns-2)
+    slice_bounds-few_zero-count
+    slice_bounds-few_zero-start
+    slice_bounds-few_zero-end
+    few_zero-requires
+    returns-then-few_zero
+    each_fits-requires
+    returns)

@@ -5,8 +5,8 @@ use Rattle.vinculampe.proofs.vin_join.Tie as tie
 join-requires : tie.Need-join-requires
 join-requires c κs = search rules
 
-same_length : tie.Need-same-length
-same_length c = search rules
+shape_of-out : tie.Need-shape_of-out
+shape_of-out c = search rules
 
 returns : tie.Need-returns
 returns c = c.before.before.join.ensures
@@ -16,5 +16,5 @@ vin_join_spec =
     tie.close
     (tie.spec
     join-requires
-    same_length
+    shape_of-out
     returns)

@@ -5,8 +5,8 @@ use Rattle.vinculampe.proofs.vin_pick.Tie as tie
 pick-requires : tie.Need-pick-requires
 pick-requires c κs = search rules
 
-same_length : tie.Need-same-length
-same_length c = search rules
+shape_of-out : tie.Need-shape_of-out
+shape_of-out c = search rules
 
 returns : tie.Need-returns
 returns c = c.before.before.pick.ensures
@@ -16,5 +16,5 @@ vin_pick_spec =
     tie.close
     (tie.spec
     pick-requires
-    same_length
+    shape_of-out
     returns)

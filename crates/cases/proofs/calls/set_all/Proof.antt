@@ -5,43 +5,43 @@ use borrow.Author.Rules.{rules}
 use Rattle.cases.proofs.calls.set_all.Statement.{statement}
 use Rattle.cases.proofs.calls.set_all.Tie as tie
 
-abbrev invariant-loop : tie.invariant-loop
-invariant-loop bytes₀ byte at₀ bytes at = length bytes ≡ length bytes₀
+abbrev invariant-loop-at : tie.invariant-loop-at
+invariant-loop-at bytes₀ byte at₀ bytes at = length bytes ≡ length bytes₀
 
-abbrev decreases-loop : tie.decreases-loop
-decreases-loop bytes₀ byte at₀ bytes at = length bytes₀ - at
+abbrev decreases-loop-at : tie.decreases-loop-at
+decreases-loop-at bytes₀ byte at₀ bytes at = length bytes₀ - at
 
-loop-holds : tie.Need-loop-init invariant-loop decreases-loop
-loop-holds c = search rules
+loop-at-init : tie.Need-loop-at-init invariant-loop-at decreases-loop-at
+loop-at-init c = search rules
 
-slice-write-bytes : tie.Need-slice-write-bytes invariant-loop decreases-loop
-slice-write-bytes c = search rules
+bounds-bytes-at : tie.Need-bounds-bytes-at invariant-loop-at decreases-loop-at
+bounds-bytes-at c = search rules
 
-add_at : tie.Need-overflow-add-at invariant-loop decreases-loop
-add_at c = search rules
+overflow_add-at : tie.Need-overflow_add-at invariant-loop-at decreases-loop-at
+overflow_add-at c = search rules
 
-loop-less : tie.Need-loop-smaller invariant-loop decreases-loop
-loop-less c = search rules
+loop-at-smaller : tie.Need-loop-at-smaller invariant-loop-at decreases-loop-at
+loop-at-smaller c = search rules
 
-loop-again : tie.Need-loop-preserved invariant-loop decreases-loop
-loop-again c = search rules
+loop-at-preserved : tie.Need-loop-at-preserved invariant-loop-at decreases-loop-at
+loop-at-preserved c = search rules
 
-same_length : tie.Need-same-length invariant-loop decreases-loop
-same_length c = search rules
+shape_of-bytes : tie.Need-shape_of-bytes invariant-loop-at decreases-loop-at
+shape_of-bytes c = search rules
 
-returns : tie.Need-returns invariant-loop decreases-loop
+returns : tie.Need-returns invariant-loop-at decreases-loop-at
 returns c = search rules
 
 pub set_all_spec : {M : Type 1} → statement M
 set_all_spec =
     tie.close
     (tie.spec
-    invariant-loop
-    decreases-loop
-    loop-holds
-    slice-write-bytes
-    add_at
-    loop-less
-    loop-again
-    same_length
+    invariant-loop-at
+    decreases-loop-at
+    loop-at-init
+    bounds-bytes-at
+    overflow_add-at
+    loop-at-smaller
+    loop-at-preserved
+    shape_of-bytes
     returns)

@@ -5,59 +5,59 @@ use borrow.Author.Rules.{rules}
 use Rattle.cases.proofs.captures.noise.Statement.{statement}
 use Rattle.cases.proofs.captures.noise.Tie as tie
 
-abbrev invariant-loop : tie.invariant-loop
-invariant-loop seed₀ p capture₀ left₀ place₀ seed capture left place = (length capture ≡ length capture₀) × (place < 131072)
+abbrev invariant-loop-left : tie.invariant-loop-left
+invariant-loop-left seed₀ p capture₀ left₀ place₀ seed capture left place = (length capture ≡ length capture₀) × (place < 131072)
 
-abbrev decreases-loop : tie.decreases-loop
-decreases-loop seed₀ p capture₀ left₀ place₀ seed capture left place = left
+abbrev decreases-loop-left : tie.decreases-loop-left
+decreases-loop-left seed₀ p capture₀ left₀ place₀ seed capture left place = left
 
-draw-requires : tie.Need-draw-requires invariant-loop decreases-loop
-draw-requires c κs = search rules
+draw-left-requires : tie.Need-draw-left-requires invariant-loop-left decreases-loop-left
+draw-left-requires c κs = search rules
 
-add_left : tie.Need-overflow-add-left invariant-loop decreases-loop
-add_left c = search rules
+overflow_add-left : tie.Need-overflow_add-left invariant-loop-left decreases-loop-left
+overflow_add-left c = search rules
 
-loop-holds : tie.Need-loop-init invariant-loop decreases-loop
-loop-holds c = search rules
+loop-left-init : tie.Need-loop-left-init invariant-loop-left decreases-loop-left
+loop-left-init c = search rules
 
-sub-left : tie.Need-overflow-sub-left invariant-loop decreases-loop
-sub-left c = search rules
+overflow_sub-left : tie.Need-overflow_sub-left invariant-loop-left decreases-loop-left
+overflow_sub-left c = search rules
 
-noise-frame-requires : tie.Need-noise-frame-requires invariant-loop decreases-loop
-noise-frame-requires c κs = search rules
+noise_frame-place-requires : tie.Need-noise_frame-place-requires invariant-loop-left decreases-loop-left
+noise_frame-place-requires c κs = search rules
 
-loop-less : tie.Need-loop-smaller invariant-loop decreases-loop
-loop-less c = search rules
+loop-left-smaller : tie.Need-loop-left-smaller invariant-loop-left decreases-loop-left
+loop-left-smaller c = search rules
 
-loop-again : tie.Need-loop-preserved invariant-loop decreases-loop
-loop-again c = search rules
+loop-left-preserved : tie.Need-loop-left-preserved invariant-loop-left decreases-loop-left
+loop-left-preserved c = search rules
 
-cast-result : tie.Need-overflow-cast-result invariant-loop decreases-loop
-cast-result c = search rules
+overflow_cast-result : tie.Need-overflow_cast-result invariant-loop-left decreases-loop-left
+overflow_cast-result c = search rules
 
-mul-result : tie.Need-overflow-mul-result invariant-loop decreases-loop
-mul-result c = search rules
+overflow_mul-result : tie.Need-overflow_mul-result invariant-loop-left decreases-loop-left
+overflow_mul-result c = search rules
 
-same_length : tie.Need-same-length invariant-loop decreases-loop
-same_length c = search rules
+shape_of-capture : tie.Need-shape_of-capture invariant-loop-left decreases-loop-left
+shape_of-capture c = search rules
 
-returns : tie.Need-returns invariant-loop decreases-loop
+returns : tie.Need-returns invariant-loop-left decreases-loop-left
 returns c = search rules
 
 pub noise_spec : {M : Type 1} → statement M
 noise_spec =
     tie.close
     (tie.spec
-    invariant-loop
-    decreases-loop
-    draw-requires
-    add_left
-    loop-holds
-    sub-left
-    noise-frame-requires
-    loop-less
-    loop-again
-    cast-result
-    mul-result
-    same_length
+    invariant-loop-left
+    decreases-loop-left
+    draw-left-requires
+    overflow_add-left
+    loop-left-init
+    overflow_sub-left
+    noise_frame-place-requires
+    loop-left-smaller
+    loop-left-preserved
+    overflow_cast-result
+    overflow_mul-result
+    shape_of-capture
     returns)

@@ -5,59 +5,59 @@ use borrow.Author.Rules.{rules}
 use Rattle.cases.proofs.captures.noise_frame.Statement.{statement}
 use Rattle.cases.proofs.captures.noise_frame.Tie as tie
 
-abbrev invariant-loop : tie.invariant-loop
-invariant-loop seed₀ p capture₀ from words position₀ seed capture position = length capture ≡ length capture₀
+abbrev invariant-loop-position : tie.invariant-loop-position
+invariant-loop-position seed₀ p capture₀ from words position₀ seed capture position = length capture ≡ length capture₀
 
-abbrev decreases-loop : tie.decreases-loop
-decreases-loop seed₀ p capture₀ from words position₀ seed capture position = words - position
+abbrev decreases-loop-position : tie.decreases-loop-position
+decreases-loop-position seed₀ p capture₀ from words position₀ seed capture position = words - position
 
-loop-holds : tie.Need-loop-init invariant-loop decreases-loop
-loop-holds c = search rules
+loop-position-init : tie.Need-loop-position-init invariant-loop-position decreases-loop-position
+loop-position-init c = search rules
 
-noise-word-requires : tie.Need-noise-word-requires invariant-loop decreases-loop
-noise-word-requires c κs = search rules
+noise_word-word-requires : tie.Need-noise_word-word-requires invariant-loop-position decreases-loop-position
+noise_word-word-requires c κs = search rules
 
-cast-put-word : tie.Need-overflow-cast-put-word invariant-loop decreases-loop
-cast-put-word c = search rules
+overflow_cast-position : tie.Need-overflow_cast-position invariant-loop-position decreases-loop-position
+overflow_cast-position c = search rules
 
-add-put-word : tie.Need-overflow-add-put-word invariant-loop decreases-loop
-add-put-word c = search rules
+overflow_add-from : tie.Need-overflow_add-from invariant-loop-position decreases-loop-position
+overflow_add-from c = search rules
 
-put-word-requires : tie.Need-put-word-requires invariant-loop decreases-loop
-put-word-requires c κs = search rules
+put_word-requires : tie.Need-put_word-requires invariant-loop-position decreases-loop-position
+put_word-requires c κs = search rules
 
-add-position : tie.Need-overflow-add-position invariant-loop decreases-loop
-add-position c = search rules
+overflow_add-position : tie.Need-overflow_add-position invariant-loop-position decreases-loop-position
+overflow_add-position c = search rules
 
-loop-less : tie.Need-loop-smaller invariant-loop decreases-loop
-loop-less c = search rules
+loop-position-smaller : tie.Need-loop-position-smaller invariant-loop-position decreases-loop-position
+loop-position-smaller c = search rules
 
-loop-again : tie.Need-loop-preserved invariant-loop decreases-loop
-loop-again c = search rules
+loop-position-preserved : tie.Need-loop-position-preserved invariant-loop-position decreases-loop-position
+loop-position-preserved c = search rules
 
-place-behind-requires : tie.Need-place-behind-requires invariant-loop decreases-loop
-place-behind-requires c κs = search rules
+place_behind-requires : tie.Need-place_behind-requires invariant-loop-position decreases-loop-position
+place_behind-requires c κs = search rules
 
-same_length : tie.Need-same-length invariant-loop decreases-loop
-same_length c = search rules
+shape_of-capture : tie.Need-shape_of-capture invariant-loop-position decreases-loop-position
+shape_of-capture c = search rules
 
-returns : tie.Need-returns invariant-loop decreases-loop
+returns : tie.Need-returns invariant-loop-position decreases-loop-position
 returns c = search rules
 
 pub noise_frame_spec : {M : Type 1} → statement M
 noise_frame_spec =
     tie.close
     (tie.spec
-    invariant-loop
-    decreases-loop
-    loop-holds
-    noise-word-requires
-    cast-put-word
-    add-put-word
-    put-word-requires
-    add-position
-    loop-less
-    loop-again
-    place-behind-requires
-    same_length
+    invariant-loop-position
+    decreases-loop-position
+    loop-position-init
+    noise_word-word-requires
+    overflow_cast-position
+    overflow_add-from
+    put_word-requires
+    overflow_add-position
+    loop-position-smaller
+    loop-position-preserved
+    place_behind-requires
+    shape_of-capture
     returns)

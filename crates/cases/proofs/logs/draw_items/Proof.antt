@@ -5,43 +5,43 @@ use borrow.Author.Rules.{rules}
 use Rattle.cases.proofs.logs.draw_items.Statement.{statement}
 use Rattle.cases.proofs.logs.draw_items.Tie as tie
 
-abbrev invariant-loop : tie.invariant-loop
-invariant-loop seed₀ p log₀ items faults bit₀ n₀ seed log bit n = length log ≡ length log₀
+abbrev invariant-loop-n : tie.invariant-loop-n
+invariant-loop-n seed₀ p log₀ items faults bit₀ n₀ seed log bit n = length log ≡ length log₀
 
-abbrev decreases-loop : tie.decreases-loop
-decreases-loop seed₀ p log₀ items faults bit₀ n₀ seed log bit n = items - n
+abbrev decreases-loop-n : tie.decreases-loop-n
+decreases-loop-n seed₀ p log₀ items faults bit₀ n₀ seed log bit n = items - n
 
-loop-holds : tie.Need-loop-init invariant-loop decreases-loop
-loop-holds c = search rules
+loop-n-init : tie.Need-loop-n-init invariant-loop-n decreases-loop-n
+loop-n-init c = search rules
 
-draw-item-of-requires : tie.Need-draw-item-of-requires invariant-loop decreases-loop
-draw-item-of-requires c κs = search rules
+draw_item_of-bit-requires : tie.Need-draw_item_of-bit-requires invariant-loop-n decreases-loop-n
+draw_item_of-bit-requires c κs = search rules
 
-add-n : tie.Need-overflow-add-n invariant-loop decreases-loop
-add-n c = search rules
+overflow_add-n : tie.Need-overflow_add-n invariant-loop-n decreases-loop-n
+overflow_add-n c = search rules
 
-loop-less : tie.Need-loop-smaller invariant-loop decreases-loop
-loop-less c = search rules
+loop-n-smaller : tie.Need-loop-n-smaller invariant-loop-n decreases-loop-n
+loop-n-smaller c = search rules
 
-loop-again : tie.Need-loop-preserved invariant-loop decreases-loop
-loop-again c = search rules
+loop-n-preserved : tie.Need-loop-n-preserved invariant-loop-n decreases-loop-n
+loop-n-preserved c = search rules
 
-same_length : tie.Need-same-length invariant-loop decreases-loop
-same_length c = search rules
+shape_of-log : tie.Need-shape_of-log invariant-loop-n decreases-loop-n
+shape_of-log c = search rules
 
-returns : tie.Need-returns invariant-loop decreases-loop
+returns : tie.Need-returns invariant-loop-n decreases-loop-n
 returns c = search rules
 
 pub draw_items_spec : {M : Type 1} → statement M
 draw_items_spec =
     tie.close
     (tie.spec
-    invariant-loop
-    decreases-loop
-    loop-holds
-    draw-item-of-requires
-    add-n
-    loop-less
-    loop-again
-    same_length
+    invariant-loop-n
+    decreases-loop-n
+    loop-n-init
+    draw_item_of-bit-requires
+    overflow_add-n
+    loop-n-smaller
+    loop-n-preserved
+    shape_of-log
     returns)

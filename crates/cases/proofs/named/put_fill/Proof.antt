@@ -5,55 +5,55 @@ use borrow.Author.Rules.{rules}
 use Rattle.cases.proofs.named.put_fill.Statement.{statement}
 use Rattle.cases.proofs.named.put_fill.Tie as tie
 
-abbrev invariant-loop : tie.invariant-loop
-invariant-loop line fill capture₀ words end place₀ capture place = (length capture ≡ length capture₀) × (end < 65536)
+abbrev invariant-loop-place : tie.invariant-loop-place
+invariant-loop-place line fill capture₀ words end place₀ capture place = (length capture ≡ length capture₀) × (end < 65536)
 
-abbrev decreases-loop : tie.decreases-loop
-decreases-loop line fill capture₀ words end place₀ capture place = end - place
+abbrev decreases-loop-place : tie.decreases-loop-place
+decreases-loop-place line fill capture₀ words end place₀ capture place = end - place
 
-size-requires : tie.Need-size-requires invariant-loop decreases-loop
-size-requires c κs = search rules
+size-words-requires : tie.Need-size-words-requires invariant-loop-place decreases-loop-place
+size-words-requires c κs = search rules
 
-size-requires-2 : tie.Need-size-requires-2 invariant-loop decreases-loop
-size-requires-2 c κs = search rules
+size-end-requires : tie.Need-size-end-requires invariant-loop-place decreases-loop-place
+size-end-requires c κs = search rules
 
-loop-holds : tie.Need-loop-init invariant-loop decreases-loop
-loop-holds c = search rules
+loop-place-init : tie.Need-loop-place-init invariant-loop-place decreases-loop-place
+loop-place-init c = search rules
 
-fill-word-requires : tie.Need-fill-word-requires invariant-loop decreases-loop
-fill-word-requires c κs = search rules
+fill_word-requires : tie.Need-fill_word-requires invariant-loop-place decreases-loop-place
+fill_word-requires c κs = search rules
 
-put-word-requires : tie.Need-put-word-requires invariant-loop decreases-loop
-put-word-requires c κs = search rules
+put_word-requires : tie.Need-put_word-requires invariant-loop-place decreases-loop-place
+put_word-requires c κs = search rules
 
-add-place : tie.Need-overflow-add-place invariant-loop decreases-loop
-add-place c = search rules
+overflow_add-place : tie.Need-overflow_add-place invariant-loop-place decreases-loop-place
+overflow_add-place c = search rules
 
-loop-less : tie.Need-loop-smaller invariant-loop decreases-loop
-loop-less c = search rules
+loop-place-smaller : tie.Need-loop-place-smaller invariant-loop-place decreases-loop-place
+loop-place-smaller c = search rules
 
-loop-again : tie.Need-loop-preserved invariant-loop decreases-loop
-loop-again c = search rules
+loop-place-preserved : tie.Need-loop-place-preserved invariant-loop-place decreases-loop-place
+loop-place-preserved c = search rules
 
-same_length : tie.Need-same-length invariant-loop decreases-loop
-same_length c = search rules
+shape_of-capture : tie.Need-shape_of-capture invariant-loop-place decreases-loop-place
+shape_of-capture c = search rules
 
-returns : tie.Need-returns invariant-loop decreases-loop
+returns : tie.Need-returns invariant-loop-place decreases-loop-place
 returns c = search rules
 
 pub put_fill_spec : {M : Type 1} → statement M
 put_fill_spec =
     tie.close
     (tie.spec
-    invariant-loop
-    decreases-loop
-    size-requires
-    size-requires-2
-    loop-holds
-    fill-word-requires
-    put-word-requires
-    add-place
-    loop-less
-    loop-again
-    same_length
+    invariant-loop-place
+    decreases-loop-place
+    size-words-requires
+    size-end-requires
+    loop-place-init
+    fill_word-requires
+    put_word-requires
+    overflow_add-place
+    loop-place-smaller
+    loop-place-preserved
+    shape_of-capture
     returns)

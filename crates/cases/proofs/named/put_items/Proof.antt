@@ -5,59 +5,59 @@ use borrow.Author.Rules.{rules}
 use Rattle.cases.proofs.named.put_items.Statement.{statement}
 use Rattle.cases.proofs.named.put_items.Tie as tie
 
-abbrev invariant-loop : tie.invariant-loop
-invariant-loop line log₀ from width left₀ value₀ bit₀ log left value bit = (length log ≡ length log₀) × (width ≤ 64)
+abbrev invariant-loop-left : tie.invariant-loop-left
+invariant-loop-left line log₀ from width left₀ value₀ bit₀ log left value bit = (length log ≡ length log₀) × (width ≤ 64)
 
-abbrev decreases-loop : tie.decreases-loop
-decreases-loop line log₀ from width left₀ value₀ bit₀ log left value bit = left
+abbrev decreases-loop-left : tie.decreases-loop-left
+decreases-loop-left line log₀ from width left₀ value₀ bit₀ log left value bit = left
 
-width-of-requires : tie.Need-width-of-requires invariant-loop decreases-loop
-width-of-requires c κs = search rules
+width_of-width-requires : tie.Need-width_of-width-requires invariant-loop-left decreases-loop-left
+width_of-width-requires c κs = search rules
 
-size-requires : tie.Need-size-requires invariant-loop decreases-loop
-size-requires c κs = search rules
+size-left-requires : tie.Need-size-left-requires invariant-loop-left decreases-loop-left
+size-left-requires c κs = search rules
 
-number-requires : tie.Need-number-requires invariant-loop decreases-loop
-number-requires c κs = search rules
+number-value-requires : tie.Need-number-value-requires invariant-loop-left decreases-loop-left
+number-value-requires c κs = search rules
 
-loop-holds : tie.Need-loop-init invariant-loop decreases-loop
-loop-holds c = search rules
+loop-left-init : tie.Need-loop-left-init invariant-loop-left decreases-loop-left
+loop-left-init c = search rules
 
-sub-left : tie.Need-overflow-sub-left invariant-loop decreases-loop
-sub-left c = search rules
+overflow_sub-left : tie.Need-overflow_sub-left invariant-loop-left decreases-loop-left
+overflow_sub-left c = search rules
 
-put-requires : tie.Need-put-requires invariant-loop decreases-loop
-put-requires c κs = search rules
+put-bit-requires : tie.Need-put_bit-requires invariant-loop-left decreases-loop-left
+put-bit-requires c κs = search rules
 
-add-value : tie.Need-overflow-add-value invariant-loop decreases-loop
-add-value c = search rules
+overflow_add-value : tie.Need-overflow_add-value invariant-loop-left decreases-loop-left
+overflow_add-value c = search rules
 
-loop-less : tie.Need-loop-smaller invariant-loop decreases-loop
-loop-less c = search rules
+loop-left-smaller : tie.Need-loop-left-smaller invariant-loop-left decreases-loop-left
+loop-left-smaller c = search rules
 
-loop-again : tie.Need-loop-preserved invariant-loop decreases-loop
-loop-again c = search rules
+loop-left-preserved : tie.Need-loop-left-preserved invariant-loop-left decreases-loop-left
+loop-left-preserved c = search rules
 
-same_length : tie.Need-same-length invariant-loop decreases-loop
-same_length c = search rules
+shape_of-log : tie.Need-shape_of-log invariant-loop-left decreases-loop-left
+shape_of-log c = search rules
 
-returns : tie.Need-returns invariant-loop decreases-loop
+returns : tie.Need-returns invariant-loop-left decreases-loop-left
 returns c = search rules
 
 pub put_items_spec : {M : Type 1} → statement M
 put_items_spec =
     tie.close
     (tie.spec
-    invariant-loop
-    decreases-loop
-    width-of-requires
-    size-requires
-    number-requires
-    loop-holds
-    sub-left
-    put-requires
-    add-value
-    loop-less
-    loop-again
-    same_length
+    invariant-loop-left
+    decreases-loop-left
+    width_of-width-requires
+    size-left-requires
+    number-value-requires
+    loop-left-init
+    overflow_sub-left
+    put-bit-requires
+    overflow_add-value
+    loop-left-smaller
+    loop-left-preserved
+    shape_of-log
     returns)

@@ -4,63 +4,63 @@ use borrow.Author.Rules.{rules}
 use Rattle.cases.proofs.named.put_words.Statement.{statement}
 use Rattle.cases.proofs.named.put_words.Tie as tie
 
-abbrev invariant-loop : tie.invariant-loop
-invariant-loop line capture₀ left₀ place₀ word₀ capture left place word = length capture ≡ length capture₀
+abbrev invariant-loop-left : tie.invariant-loop-left
+invariant-loop-left line capture₀ left₀ place₀ word₀ capture left place word = length capture ≡ length capture₀
 
-abbrev decreases-loop : tie.decreases-loop
-decreases-loop line capture₀ left₀ place₀ word₀ capture left place word = left
+abbrev decreases-loop-left : tie.decreases-loop-left
+decreases-loop-left line capture₀ left₀ place₀ word₀ capture left place word = left
 
-size-requires : tie.Need-size-requires invariant-loop decreases-loop
-size-requires c κs = search rules
+size-left-requires : tie.Need-size-left-requires invariant-loop-left decreases-loop-left
+size-left-requires c κs = search rules
 
-size-requires-2 : tie.Need-size-requires-2 invariant-loop decreases-loop
-size-requires-2 c κs = search rules
+size-place-requires : tie.Need-size-place-requires invariant-loop-left decreases-loop-left
+size-place-requires c κs = search rules
 
-small-requires : tie.Need-small-requires invariant-loop decreases-loop
-small-requires c κs = search rules
+small-word-requires : tie.Need-small-word-requires invariant-loop-left decreases-loop-left
+small-word-requires c κs = search rules
 
-loop-holds : tie.Need-loop-init invariant-loop decreases-loop
-loop-holds c = search rules
+loop-left-init : tie.Need-loop-left-init invariant-loop-left decreases-loop-left
+loop-left-init c = search rules
 
-sub-left : tie.Need-overflow-sub-left invariant-loop decreases-loop
-sub-left c = search rules
+overflow_sub-left : tie.Need-overflow_sub-left invariant-loop-left decreases-loop-left
+overflow_sub-left c = search rules
 
-put-word-requires : tie.Need-put-word-requires invariant-loop decreases-loop
-put-word-requires c κs = search rules
+put_word-requires : tie.Need-put_word-requires invariant-loop-left decreases-loop-left
+put_word-requires c κs = search rules
 
-add-place : tie.Need-overflow-add-place invariant-loop decreases-loop
-add-place c = search rules
+overflow_add-place : tie.Need-overflow_add-place invariant-loop-left decreases-loop-left
+overflow_add-place c = search rules
 
-add-word : tie.Need-overflow-add-word invariant-loop decreases-loop
-add-word c = search rules
+overflow_add-word : tie.Need-overflow_add-word invariant-loop-left decreases-loop-left
+overflow_add-word c = search rules
 
-loop-less : tie.Need-loop-smaller invariant-loop decreases-loop
-loop-less c = search rules
+loop-left-smaller : tie.Need-loop-left-smaller invariant-loop-left decreases-loop-left
+loop-left-smaller c = search rules
 
-loop-again : tie.Need-loop-preserved invariant-loop decreases-loop
-loop-again c = search rules
+loop-left-preserved : tie.Need-loop-left-preserved invariant-loop-left decreases-loop-left
+loop-left-preserved c = search rules
 
-same_length : tie.Need-same-length invariant-loop decreases-loop
-same_length c = search rules
+shape_of-capture : tie.Need-shape_of-capture invariant-loop-left decreases-loop-left
+shape_of-capture c = search rules
 
-returns : tie.Need-returns invariant-loop decreases-loop
+returns : tie.Need-returns invariant-loop-left decreases-loop-left
 returns c = search rules
 
 pub put_words_spec : {M : Type 1} → statement M
 put_words_spec =
     tie.close
     (tie.spec
-    invariant-loop
-    decreases-loop
-    size-requires
-    size-requires-2
-    small-requires
-    loop-holds
-    sub-left
-    put-word-requires
-    add-place
-    add-word
-    loop-less
-    loop-again
-    same_length
+    invariant-loop-left
+    decreases-loop-left
+    size-left-requires
+    size-place-requires
+    small-word-requires
+    loop-left-init
+    overflow_sub-left
+    put_word-requires
+    overflow_add-place
+    overflow_add-word
+    loop-left-smaller
+    loop-left-preserved
+    shape_of-capture
     returns)

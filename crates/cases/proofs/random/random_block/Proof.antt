@@ -3,55 +3,55 @@ use borrow.Author.Rules.{rules}
 use Rattle.cases.proofs.random.random_block.Statement.{statement}
 use Rattle.cases.proofs.random.random_block.Tie as tie
 
-abbrev invariant-loop : tie.invariant-loop
-invariant-loop seed₀ block digest₀ n₀ t5 seed digest n = Unit {0}
+abbrev invariant-loop-n : tie.invariant-loop-n
+invariant-loop-n seed₀ block digest₀ n₀ t5 seed digest n = Unit {0}
 
-abbrev decreases-loop : tie.decreases-loop
-decreases-loop seed₀ block digest₀ n₀ t5 seed digest n = 200 - n
+abbrev decreases-loop-n : tie.decreases-loop-n
+decreases-loop-n seed₀ block digest₀ n₀ t5 seed digest n = 200 - n
 
-loop-holds : tie.Need-loop-init invariant-loop decreases-loop
-loop-holds c = search rules
+loop-n-init : tie.Need-loop-n-init invariant-loop-n decreases-loop-n
+loop-n-init c = search rules
 
-random-case-requires : tie.Need-random-case-requires invariant-loop decreases-loop
-random-case-requires c κs = search rules
+random_case-requires : tie.Need-random_case-requires invariant-loop-n decreases-loop-n
+random_case-requires c κs = search rules
 
-add-n : tie.Need-overflow-add-n invariant-loop decreases-loop
-add-n c = search rules
+overflow_add-n : tie.Need-overflow_add-n invariant-loop-n decreases-loop-n
+overflow_add-n c = search rules
 
-loop-less : tie.Need-loop-smaller invariant-loop decreases-loop
-loop-less c = search rules
+loop-n-smaller : tie.Need-loop-n-smaller invariant-loop-n decreases-loop-n
+loop-n-smaller c = search rules
 
-loop-again : tie.Need-loop-preserved invariant-loop decreases-loop
-loop-again c = search rules
+loop-n-preserved : tie.Need-loop-n-preserved invariant-loop-n decreases-loop-n
+loop-n-preserved c = search rules
 
-slice-aggregate-name : tie.Need-slice-aggregate-name invariant-loop decreases-loop
+slice-aggregate-name : tie.Need-slice-aggregate-name invariant-loop-n decreases-loop-n
 slice-aggregate-name c = search rules
 
-name-requires : tie.Need-name-requires invariant-loop decreases-loop
+name-requires : tie.Need-name-requires invariant-loop-n decreases-loop-n
 name-requires c κs = search rules
 
-say-number-requires : tie.Need-say-number-requires invariant-loop decreases-loop
-say-number-requires c κs = search rules
+say_number-requires : tie.Need-say_number-requires invariant-loop-n decreases-loop-n
+say_number-requires c κs = search rules
 
-end-line-requires : tie.Need-end-line-requires invariant-loop decreases-loop
-end-line-requires c κs = search rules
+end_line-requires : tie.Need-end_line-requires invariant-loop-n decreases-loop-n
+end_line-requires c κs = search rules
 
-returns : tie.Need-returns invariant-loop decreases-loop
+returns : tie.Need-returns invariant-loop-n decreases-loop-n
 returns c = search rules
 
 pub random_block_spec : {M : Type 1} → statement M
 random_block_spec =
     tie.close
     (tie.spec
-    invariant-loop
-    decreases-loop
-    loop-holds
-    random-case-requires
-    add-n
-    loop-less
-    loop-again
+    invariant-loop-n
+    decreases-loop-n
+    loop-n-init
+    random_case-requires
+    overflow_add-n
+    loop-n-smaller
+    loop-n-preserved
     slice-aggregate-name
     name-requires
-    say-number-requires
-    end-line-requires
+    say_number-requires
+    end_line-requires
     returns)

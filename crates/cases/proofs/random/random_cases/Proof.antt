@@ -3,39 +3,39 @@ use borrow.Author.Rules.{rules}
 use Rattle.cases.proofs.random.random_cases.Statement.{statement}
 use Rattle.cases.proofs.random.random_cases.Tie as tie
 
-abbrev invariant-loop : tie.invariant-loop
-invariant-loop seed₀ block₀ seed block = Unit {0}
+abbrev invariant-loop-block : tie.invariant-loop-block
+invariant-loop-block seed₀ block₀ seed block = Unit {0}
 
-abbrev decreases-loop : tie.decreases-loop
-decreases-loop seed₀ block₀ seed block = 10 - block
+abbrev decreases-loop-block : tie.decreases-loop-block
+decreases-loop-block seed₀ block₀ seed block = 10 - block
 
-loop-holds : tie.Need-loop-init invariant-loop decreases-loop
-loop-holds c = search rules
+loop-block-init : tie.Need-loop-block-init invariant-loop-block decreases-loop-block
+loop-block-init c = search rules
 
-random-block-requires : tie.Need-random-block-requires invariant-loop decreases-loop
-random-block-requires c κs = search rules
+random_block-requires : tie.Need-random_block-requires invariant-loop-block decreases-loop-block
+random_block-requires c κs = search rules
 
-add-block : tie.Need-overflow-add-block invariant-loop decreases-loop
-add-block c = search rules
+overflow_add-block : tie.Need-overflow_add-block invariant-loop-block decreases-loop-block
+overflow_add-block c = search rules
 
-loop-less : tie.Need-loop-smaller invariant-loop decreases-loop
-loop-less c = search rules
+loop-block-smaller : tie.Need-loop-block-smaller invariant-loop-block decreases-loop-block
+loop-block-smaller c = search rules
 
-loop-again : tie.Need-loop-preserved invariant-loop decreases-loop
-loop-again c = search rules
+loop-block-preserved : tie.Need-loop-block-preserved invariant-loop-block decreases-loop-block
+loop-block-preserved c = search rules
 
-returns : tie.Need-returns invariant-loop decreases-loop
+returns : tie.Need-returns invariant-loop-block decreases-loop-block
 returns c = search rules
 
 pub random_cases_spec : {M : Type 1} → statement M
 random_cases_spec =
     tie.close
     (tie.spec
-    invariant-loop
-    decreases-loop
-    loop-holds
-    random-block-requires
-    add-block
-    loop-less
-    loop-again
+    invariant-loop-block
+    decreases-loop-block
+    loop-block-init
+    random_block-requires
+    overflow_add-block
+    loop-block-smaller
+    loop-block-preserved
     returns)

@@ -5,51 +5,51 @@ use borrow.Author.Rules.{rules}
 use Rattle.cases.proofs.runs.put.Statement.{statement}
 use Rattle.cases.proofs.runs.put.Tie as tie
 
-abbrev invariant-loop : tie.invariant-loop
-invariant-loop bytes₀ from width value bit₀ left₀ bytes bit left = (length bytes ≡ length bytes₀) × (left ≤ 64)
+abbrev invariant-loop-left : tie.invariant-loop-left
+invariant-loop-left bytes₀ from width value bit₀ left₀ bytes bit left = (length bytes ≡ length bytes₀) × (left ≤ 64)
 
-abbrev decreases-loop : tie.decreases-loop
-decreases-loop bytes₀ from width value bit₀ left₀ bytes bit left = left
+abbrev decreases-loop-left : tie.decreases-loop-left
+decreases-loop-left bytes₀ from width value bit₀ left₀ bytes bit left = left
 
-loop-holds : tie.Need-loop-init invariant-loop decreases-loop
-loop-holds c = search rules
+loop-left-init : tie.Need-loop-left-init invariant-loop-left decreases-loop-left
+loop-left-init c = search rules
 
-sub-left : tie.Need-overflow-sub-left invariant-loop decreases-loop
-sub-left c = search rules
+overflow_sub-left : tie.Need-overflow_sub-left invariant-loop-left decreases-loop-left
+overflow_sub-left c = search rules
 
-cast-put-bit : tie.Need-overflow-cast-put-bit invariant-loop decreases-loop
-cast-put-bit c = search rules
+overflow_cast-left : tie.Need-overflow_cast-left invariant-loop-left decreases-loop-left
+overflow_cast-left c = search rules
 
-shr-put-bit : tie.Need-overflow-shr-put-bit invariant-loop decreases-loop
-shr-put-bit c = search rules
+overflow_shr-value : tie.Need-overflow_shr-value invariant-loop-left decreases-loop-left
+overflow_shr-value c = search rules
 
-put-bit-requires : tie.Need-put-bit-requires invariant-loop decreases-loop
-put-bit-requires c κs = search rules
+put_bit-bit-requires : tie.Need-put_bit-bit-requires invariant-loop-left decreases-loop-left
+put_bit-bit-requires c κs = search rules
 
-loop-less : tie.Need-loop-smaller invariant-loop decreases-loop
-loop-less c = search rules
+loop-left-smaller : tie.Need-loop-left-smaller invariant-loop-left decreases-loop-left
+loop-left-smaller c = search rules
 
-loop-again : tie.Need-loop-preserved invariant-loop decreases-loop
-loop-again c = search rules
+loop-left-preserved : tie.Need-loop-left-preserved invariant-loop-left decreases-loop-left
+loop-left-preserved c = search rules
 
-same_length : tie.Need-same-length invariant-loop decreases-loop
-same_length c = search rules
+shape_of-bytes : tie.Need-shape_of-bytes invariant-loop-left decreases-loop-left
+shape_of-bytes c = search rules
 
-returns : tie.Need-returns invariant-loop decreases-loop
+returns : tie.Need-returns invariant-loop-left decreases-loop-left
 returns c = search rules
 
 pub put_spec : {M : Type 1} → statement M
 put_spec =
     tie.close
     (tie.spec
-    invariant-loop
-    decreases-loop
-    loop-holds
-    sub-left
-    cast-put-bit
-    shr-put-bit
-    put-bit-requires
-    loop-less
-    loop-again
-    same_length
+    invariant-loop-left
+    decreases-loop-left
+    loop-left-init
+    overflow_sub-left
+    overflow_cast-left
+    overflow_shr-value
+    put_bit-bit-requires
+    loop-left-smaller
+    loop-left-preserved
+    shape_of-bytes
     returns)

@@ -4,55 +4,55 @@ use borrow.Author.Rules.{rules}
 use Rattle.cases.proofs.text.digits.Statement.{statement}
 use Rattle.cases.proofs.text.digits.Tie as tie
 
-abbrev invariant-loop : tie.invariant-loop
-invariant-loop line from base value₀ at₀ value at = Unit {0}
+abbrev invariant-loop-at : tie.invariant-loop-at
+invariant-loop-at line from base value₀ at₀ value at = Unit {0}
 
-abbrev decreases-loop : tie.decreases-loop
-decreases-loop line from base value₀ at₀ value at = length line - at
+abbrev decreases-loop-at : tie.decreases-loop-at
+decreases-loop-at line from base value₀ at₀ value at = length line - at
 
-loop-holds : tie.Need-loop-init invariant-loop decreases-loop
-loop-holds c = search rules
+loop-at-init : tie.Need-loop-at-init invariant-loop-at decreases-loop-at
+loop-at-init c = search rules
 
-shared-slice-read-digit : tie.Need-shared-slice-read-digit invariant-loop decreases-loop
-shared-slice-read-digit c = search rules
+bounds-line-at : tie.Need-bounds-line-at invariant-loop-at decreases-loop-at
+bounds-line-at c = search rules
 
-digit-requires : tie.Need-digit-requires invariant-loop decreases-loop
-digit-requires c κs = search rules
+digit-next-requires : tie.Need-digit-next-requires invariant-loop-at decreases-loop-at
+digit-next-requires c κs = search rules
 
-returns : tie.Need-returns invariant-loop decreases-loop
-returns c = search rules
+returns-then-base-next : tie.Need-returns-then-base-next invariant-loop-at decreases-loop-at
+returns-then-base-next c = search rules
 
-shifted-requires : tie.Need-shifted-requires invariant-loop decreases-loop
+shifted-requires : tie.Need-shifted-requires invariant-loop-at decreases-loop-at
 shifted-requires c κs = search rules
 
-add-value : tie.Need-overflow-add-value invariant-loop decreases-loop
-add-value c = search rules
+overflow_add-value : tie.Need-overflow_add-value invariant-loop-at decreases-loop-at
+overflow_add-value c = search rules
 
-add_at : tie.Need-overflow-add-at invariant-loop decreases-loop
-add_at c = search rules
+overflow_add-at : tie.Need-overflow_add-at invariant-loop-at decreases-loop-at
+overflow_add-at c = search rules
 
-loop-less : tie.Need-loop-smaller invariant-loop decreases-loop
-loop-less c = search rules
+loop-at-smaller : tie.Need-loop-at-smaller invariant-loop-at decreases-loop-at
+loop-at-smaller c = search rules
 
-loop-again : tie.Need-loop-preserved invariant-loop decreases-loop
-loop-again c = search rules
+loop-at-preserved : tie.Need-loop-at-preserved invariant-loop-at decreases-loop-at
+loop-at-preserved c = search rules
 
-returns-2 : tie.Need-returns-2 invariant-loop decreases-loop
-returns-2 c = search rules
+returns : tie.Need-returns invariant-loop-at decreases-loop-at
+returns c = search rules
 
 pub digits_spec : {M : Type 1} → statement M
 digits_spec =
     tie.close
     (tie.spec
-    invariant-loop
-    decreases-loop
-    loop-holds
-    shared-slice-read-digit
-    digit-requires
-    returns
+    invariant-loop-at
+    decreases-loop-at
+    loop-at-init
+    bounds-line-at
+    digit-next-requires
+    returns-then-base-next
     shifted-requires
-    add-value
-    add_at
-    loop-less
-    loop-again
-    returns-2)
+    overflow_add-value
+    overflow_add-at
+    loop-at-smaller
+    loop-at-preserved
+    returns)

@@ -4,43 +4,43 @@ use borrow.Author.Rules.{rules}
 use Rattle.cases.proofs.text.line_end.Statement.{statement}
 use Rattle.cases.proofs.text.line_end.Tie as tie
 
-abbrev invariant-loop : tie.invariant-loop
-invariant-loop text start at₀ at = (start ≤ at) × (at ≤ length text)
+abbrev invariant-loop-at : tie.invariant-loop-at
+invariant-loop-at text start at₀ at = (start ≤ at) × (at ≤ length text)
 
-abbrev decreases-loop : tie.decreases-loop
-decreases-loop text start at₀ at = length text - at
+abbrev decreases-loop-at : tie.decreases-loop-at
+decreases-loop-at text start at₀ at = length text - at
 
-loop-holds : tie.Need-loop-init invariant-loop decreases-loop
-loop-holds c = search rules
+loop-at-init : tie.Need-loop-at-init invariant-loop-at decreases-loop-at
+loop-at-init c = search rules
 
-shared-slice-read-if1 : tie.Need-shared-slice-read-if1 invariant-loop decreases-loop
-shared-slice-read-if1 c = search rules
+bounds-text-at : tie.Need-bounds-text-at invariant-loop-at decreases-loop-at
+bounds-text-at c = search rules
 
-returns : tie.Need-returns invariant-loop decreases-loop
+returns-then-text-at-eq10 : tie.Need-returns-then-text-at-eq10 invariant-loop-at decreases-loop-at
+returns-then-text-at-eq10 c = search rules
+
+overflow_add-at : tie.Need-overflow_add-at invariant-loop-at decreases-loop-at
+overflow_add-at c = search rules
+
+loop-at-smaller : tie.Need-loop-at-smaller invariant-loop-at decreases-loop-at
+loop-at-smaller c = search rules
+
+loop-at-preserved : tie.Need-loop-at-preserved invariant-loop-at decreases-loop-at
+loop-at-preserved c = search rules
+
+returns : tie.Need-returns invariant-loop-at decreases-loop-at
 returns c = search rules
-
-add_at : tie.Need-overflow-add-at invariant-loop decreases-loop
-add_at c = search rules
-
-loop-less : tie.Need-loop-smaller invariant-loop decreases-loop
-loop-less c = search rules
-
-loop-again : tie.Need-loop-preserved invariant-loop decreases-loop
-loop-again c = search rules
-
-returns-2 : tie.Need-returns-2 invariant-loop decreases-loop
-returns-2 c = search rules
 
 pub line_end_spec : {M : Type 1} → statement M
 line_end_spec =
     tie.close
     (tie.spec
-    invariant-loop
-    decreases-loop
-    loop-holds
-    shared-slice-read-if1
-    returns
-    add_at
-    loop-less
-    loop-again
-    returns-2)
+    invariant-loop-at
+    decreases-loop-at
+    loop-at-init
+    bounds-text-at
+    returns-then-text-at-eq10
+    overflow_add-at
+    loop-at-smaller
+    loop-at-preserved
+    returns)

@@ -11,11 +11,11 @@ use Rattle.crc.proofs.Low.{odd_low, met_low, folded_low}
 use Rattle.crc.proofs.Sum.add.Statement.{statement}
 use Rattle.crc.proofs.Sum.add.Tie as tie
 
-mul-fold : tie.Need-overflow-mul-fold
-mul-fold c = search rules
+overflow_mul-rest : tie.Need-overflow_mul-rest
+overflow_mul-rest c = search rules
 
-mul-fold-2 : tie.Need-overflow-mul-fold-2
-mul-fold-2 c = omega (arith, odd_low c.args.self.rest c.requires.0.0)
+overflow_mul-rest-2 : tie.Need-overflow_mul-rest-2
+overflow_mul-rest-2 c = omega (arith, odd_low c.args.self.rest c.requires.0.0)
 
 fold-requires : tie.Need-fold-requires
 fold-requires c κs = met_low c.args.self.rest c.args.word c.requires.0.0 c.requires.1
@@ -34,4 +34,4 @@ returns c =
     }
 
 pub add_spec : {M : Type 1} → statement M
-add_spec = tie.close (tie.spec mul-fold mul-fold-2 fold-requires returns)
+add_spec = tie.close (tie.spec overflow_mul-rest overflow_mul-rest-2 fold-requires returns)

@@ -9,8 +9,8 @@ use Rattle.crc.proofs.Low.{met_five_low, folded_low}
 use Rattle.crc.proofs.Sum.add_five.Statement.{statement}
 use Rattle.crc.proofs.Sum.add_five.Tie as tie
 
-mul-fold : tie.Need-overflow-mul-fold
-mul-fold c = search rules
+overflow_mul-rest : tie.Need-overflow_mul-rest
+overflow_mul-rest c = search rules
 
 fold-requires : tie.Need-fold-requires
 fold-requires c κs = met_five_low c.before.args.self.rest c.before.args.five.rest c.before.requires.0.0 c.before.requires.1.0
@@ -29,4 +29,4 @@ returns c =
     )
 
 pub add_five_spec : {M : Type 1} → statement M
-add_five_spec = tie.close (tie.spec mul-fold fold-requires returns)
+add_five_spec = tie.close (tie.spec overflow_mul-rest fold-requires returns)

@@ -11,106 +11,106 @@ use Rattle.crc.proofs.Same.{same_none, same_one, same_five}
 use Rattle.crc.proofs.Sum.add_same.Statement.{statement}
 use Rattle.crc.proofs.Sum.add_same.Tie as tie
 
-abbrev invariant-loop : tie.invariant-loop
-invariant-loop word times five sum₀ left₀ sum left = Small sum × (check_from (check_of_sum sum₀) (same word left₀) ≡ check_from (check_of_sum sum) (same word left))
+abbrev invariant-loop-left : tie.invariant-loop-left
+invariant-loop-left word times five sum₀ left₀ sum left = Small sum × (check_from (check_of_sum sum₀) (same word left₀) ≡ check_from (check_of_sum sum) (same word left))
 
-abbrev decreases-loop : tie.decreases-loop
-decreases-loop word times five sum₀ left₀ sum left = left
+abbrev decreases-loop-left : tie.decreases-loop-left
+decreases-loop-left word times five sum₀ left₀ sum left = left
 
-abbrev invariant-loop2 : tie.invariant-loop2
-invariant-loop2 word times sum₀ left₀ sum left = Small sum × (check_from (check_of_sum sum₀) (same word left₀) ≡ check_from (check_of_sum sum) (same word left))
+abbrev invariant-loop-left-2 : tie.invariant-loop-left-2
+invariant-loop-left-2 word times sum₀ left₀ sum left = Small sum × (check_from (check_of_sum sum₀) (same word left₀) ≡ check_from (check_of_sum sum) (same word left))
 
-abbrev decreases-loop2 : tie.decreases-loop2
-decreases-loop2 word times sum₀ left₀ sum left = left
+abbrev decreases-loop-left-2 : tie.decreases-loop-left-2
+decreases-loop-left-2 word times sum₀ left₀ sum left = left
 
-start-requires : tie.Need-start-requires invariant-loop decreases-loop invariant-loop2 decreases-loop2
+start-requires : tie.Need-start-requires invariant-loop-left decreases-loop-left invariant-loop-left-2 decreases-loop-left-2
 start-requires c κs = search rules
 
-add-requires : tie.Need-add-requires invariant-loop decreases-loop invariant-loop2 decreases-loop2
+add-requires : tie.Need-add-requires invariant-loop-left decreases-loop-left invariant-loop-left-2 decreases-loop-left-2
 add-requires c κs = (c.start.ensures.small, c.before.requires.1)
 
-add-two-requires : tie.Need-add-two-requires invariant-loop decreases-loop invariant-loop2 decreases-loop2
-add-two-requires c κs = (c.add.ensures.small, c.before.before.requires.1, c.before.before.requires.1)
+add_two-requires : tie.Need-add_two-requires invariant-loop-left decreases-loop-left invariant-loop-left-2 decreases-loop-left-2
+add_two-requires c κs = (c.add.ensures.small, c.before.before.requires.1, c.before.before.requires.1)
 
-add-two-requires-2 : tie.Need-add-two-requires-2 invariant-loop decreases-loop invariant-loop2 decreases-loop2
-add-two-requires-2 c κs = (c.add-two.ensures.small, c.before.before.before.requires.1, c.before.before.before.requires.1)
+add_two-five-requires : tie.Need-add_two-five-requires invariant-loop-left decreases-loop-left invariant-loop-left-2 decreases-loop-left-2
+add_two-five-requires c κs = (c.add_two.ensures.small, c.before.before.before.requires.1, c.before.before.before.requires.1)
 
 -- what five of the word make
-five_is : (c : tie.After-add-two2 invariant-loop decreases-loop invariant-loop2 decreases-loop2) → check_of_sum c.add-two2.result ≡ next_five 0 c.before.before.before.before.args.word
+five_is : (c : tie.After-add_two-five invariant-loop-left decreases-loop-left invariant-loop-left-2 decreases-loop-left-2) → check_of_sum c.add_two-five.result ≡ next_five 0 c.before.before.before.before.args.word
 unfolding check_from
 five_is c =
     let w = c.before.before.before.before.args.word in
     let one : ℕ → ℕ = λ n. next_check n w in
-    c.add-two2.ensures.check
-    ∙ ap (λ (n : ℕ). one (one n)) (c.before.add-two.ensures.check ∙ ap (λ (n : ℕ). one (one n)) (c.before.before.add.ensures.check ∙ ap one (check_none c.before.before.before.start.ensures)))
+    c.add_two-five.ensures.check
+    ∙ ap (λ (n : ℕ). one (one n)) (c.before.add_two.ensures.check ∙ ap (λ (n : ℕ). one (one n)) (c.before.before.add.ensures.check ∙ ap one (check_none c.before.before.before.start.ensures)))
 
-loop-holds : tie.Need-loop-init invariant-loop decreases-loop invariant-loop2 decreases-loop2
-loop-holds c = (c.before.before.before.before.requires.0, refl)
+loop-left-init : tie.Need-loop-left-init invariant-loop-left decreases-loop-left invariant-loop-left-2 decreases-loop-left-2
+loop-left-init c = (c.before.before.before.before.requires.0, refl)
 
-add-five-requires : tie.Need-add-five-requires invariant-loop decreases-loop invariant-loop2 decreases-loop2
-add-five-requires c κs = (c.before.loop.invariant.0, c.before.before.add-two2.ensures.small)
+add_five-sum-requires : tie.Need-add_five-sum-requires invariant-loop-left decreases-loop-left invariant-loop-left-2 decreases-loop-left-2
+add_five-sum-requires c κs = (c.before.loop-left.invariant.0, c.before.before.add_two-five.ensures.small)
 
-loop-less : tie.Need-loop-smaller invariant-loop decreases-loop invariant-loop2 decreases-loop2
-loop-less c = search rules
+loop-left-smaller : tie.Need-loop-left-smaller invariant-loop-left decreases-loop-left invariant-loop-left-2 decreases-loop-left-2
+loop-left-smaller c = search rules
 
-loop-again : tie.Need-loop-preserved invariant-loop decreases-loop invariant-loop2 decreases-loop2
-loop-again c =
+loop-left-preserved : tie.Need-loop-left-preserved invariant-loop-left decreases-loop-left invariant-loop-left-2 decreases-loop-left-2
+loop-left-preserved c =
     let w = c.before.before.before.before.before.before.before.args.word in
-    let o = c.before.before.loop in
+    let o = c.before.before.loop-left in
     let m = check_of_sum o.sum in (
-      c.add_five.ensures.0,
+      c.add_five-sum.ensures.0,
       o.invariant.1 ∙ same_five m w o.left (omega arith)
-          ∙ ap (λ (n : ℕ). check_from n (same w (o.left - 5))) (sym (c.add_five.ensures.1 ∙ ap (bit_xor (next_five m 0)) (five_is c.before.before.before) ∙ sym (five_apart m w))),
+          ∙ ap (λ (n : ℕ). check_from n (same w (o.left - 5))) (sym (c.add_five-sum.ensures.1 ∙ ap (bit_xor (next_five m 0)) (five_is c.before.before.before) ∙ sym (five_apart m w))),
     )
 
-loop2-holds : tie.Need-loop2-init invariant-loop decreases-loop invariant-loop2 decreases-loop2
-loop2-holds c = (c.before.loop.invariant.0, refl)
+loop-left-2-init : tie.Need-loop-left-2-init invariant-loop-left decreases-loop-left invariant-loop-left-2 decreases-loop-left-2
+loop-left-2-init c = (c.before.loop-left.invariant.0, refl)
 
-add-requires-2 : tie.Need-add-requires-2 invariant-loop decreases-loop invariant-loop2 decreases-loop2
-add-requires-2 c κs = (c.before.loop2.invariant.0, c.before.before.before.before.before.before.before.before.requires.1)
+add-sum-requires : tie.Need-add-sum-requires invariant-loop-left decreases-loop-left invariant-loop-left-2 decreases-loop-left-2
+add-sum-requires c κs = (c.before.loop-left-2.invariant.0, c.before.before.before.before.before.before.before.before.requires.1)
 
-sub-left : tie.Need-overflow-sub-left invariant-loop decreases-loop invariant-loop2 decreases-loop2
-sub-left c = search rules
+overflow_sub-left-in-loop-left-2 : tie.Need-overflow_sub-left-in-loop-left-2 invariant-loop-left decreases-loop-left invariant-loop-left-2 decreases-loop-left-2
+overflow_sub-left-in-loop-left-2 c = search rules
 
-loop2-less : tie.Need-loop2-smaller invariant-loop decreases-loop invariant-loop2 decreases-loop2
-loop2-less c = search rules
+loop-left-2-smaller : tie.Need-loop-left-2-smaller invariant-loop-left decreases-loop-left invariant-loop-left-2 decreases-loop-left-2
+loop-left-2-smaller c = search rules
 
-loop2-again : tie.Need-loop2-preserved invariant-loop decreases-loop invariant-loop2 decreases-loop2
+loop-left-2-preserved : tie.Need-loop-left-2-preserved invariant-loop-left decreases-loop-left invariant-loop-left-2 decreases-loop-left-2
 unfolding check_from
-loop2-again c =
+loop-left-2-preserved c =
     let w = c.before.before.before.before.before.before.before.before.before.args.word in
-    let o = c.before.before.loop2 in (
-      c.add2.ensures.small,
-      o.invariant.1 ∙ same_one (check_of_sum o.sum) w o.left (omega arith) ∙ ap (λ (n : ℕ). check_from n (same w (o.left - 1))) (sym c.add2.ensures.check),
+    let o = c.before.before.loop-left-2 in (
+      c.add-sum.ensures.small,
+      o.invariant.1 ∙ same_one (check_of_sum o.sum) w o.left (omega arith) ∙ ap (λ (n : ℕ). check_from n (same w (o.left - 1))) (sym c.add-sum.ensures.check),
     )
 
-returns : tie.Need-returns invariant-loop decreases-loop invariant-loop2 decreases-loop2
+returns : tie.Need-returns invariant-loop-left decreases-loop-left invariant-loop-left-2 decreases-loop-left-2
 returns c =
-    let o = c.before.loop2 in
+    let o = c.before.loop-left-2 in
     record {
       small = o.invariant.0;
-      check = sym (c.before.before.before.loop.invariant.1 ∙ o.invariant.1 ∙ same_none (check_of_sum o.sum) c.before.before.before.before.before.before.before.before.args.word o.left (omega arith));
+      check = sym (c.before.before.before.loop-left.invariant.1 ∙ o.invariant.1 ∙ same_none (check_of_sum o.sum) c.before.before.before.before.before.before.before.before.args.word o.left (omega arith));
     }
 
 pub add_same_spec : {M : Type 1} → statement M
 add_same_spec =
     tie.close
     (tie.spec
-    invariant-loop
-    decreases-loop
-    invariant-loop2
-    decreases-loop2
+    invariant-loop-left
+    decreases-loop-left
+    invariant-loop-left-2
+    decreases-loop-left-2
     start-requires
     add-requires
-    add-two-requires
-    add-two-requires-2
-    loop-holds
-    add-five-requires
-    loop-less
-    loop-again
-    loop2-holds
-    add-requires-2
-    sub-left
-    loop2-less
-    loop2-again
+    add_two-requires
+    add_two-five-requires
+    loop-left-init
+    add_five-sum-requires
+    loop-left-smaller
+    loop-left-preserved
+    loop-left-2-init
+    add-sum-requires
+    overflow_sub-left-in-loop-left-2
+    loop-left-2-smaller
+    loop-left-2-preserved
     returns)

@@ -11,26 +11,26 @@ use Rattle.crc.proofs.Low.{both_low, odd_low, quad_low, met_two_low, folded_low}
 use Rattle.crc.proofs.Sum.add_two.Statement.{statement}
 use Rattle.crc.proofs.Sum.add_two.Tie as tie
 
-mul-odd : tie.Need-overflow-mul-odd
-mul-odd c = search rules
+overflow_mul-odd : tie.Need-overflow_mul-odd
+overflow_mul-odd c = search rules
 
-mul-far : tie.Need-overflow-mul-far
-mul-far c = omega (arith, odd_low c.args.self.rest c.requires.0.0)
+overflow_mul-far : tie.Need-overflow_mul-far
+overflow_mul-far c = omega (arith, odd_low c.args.self.rest c.requires.0.0)
 
-mul-both : tie.Need-overflow-mul-both
-mul-both c = search rules
+overflow_mul-both : tie.Need-overflow_mul-both
+overflow_mul-both c = search rules
 
-add-both : tie.Need-overflow-add-both
-add-both c = search rules
+overflow_add-both : tie.Need-overflow_add-both
+overflow_add-both c = search rules
 
-mul-fold : tie.Need-overflow-mul-fold
-mul-fold c = omega (arith, quad_low c.args.self.rest c.requires.0.0)
+overflow_mul-far-2 : tie.Need-overflow_mul-far-2
+overflow_mul-far-2 c = omega (arith, quad_low c.args.self.rest c.requires.0.0)
 
 fold-requires : tie.Need-fold-requires
 fold-requires c κs = met_two_low c.args.self.rest c.args.one c.args.two c.requires.0.0 c.requires.1 c.requires.2
 
-cast-t12 : tie.Need-overflow-cast-t12
-cast-t12 c = omega (arith, both_low c.before.args.one c.before.args.two c.before.requires.1 c.before.requires.2)
+overflow_cast-result : tie.Need-overflow_cast-result
+overflow_cast-result c = omega (arith, both_low c.before.args.one c.before.args.two c.before.requires.1 c.before.requires.2)
 
 returns : tie.Need-returns
 unfolding check_of_sum check_from
@@ -51,4 +51,4 @@ returns c =
 
 pub add_two_spec : {M : Type 1} → statement M
 add_two_spec =
-    tie.close (tie.spec mul-odd mul-far mul-both add-both mul-fold fold-requires cast-t12 returns)
+    tie.close (tie.spec overflow_mul-odd overflow_mul-far overflow_mul-both overflow_add-both overflow_mul-far-2 fold-requires overflow_cast-result returns)

@@ -10,11 +10,11 @@ use Rattle.crc.proofs.Sum.add.Reads as add_reads
 add-requires : tie.Need-add-requires
 add-requires c κs = search rules
 
-returns : tie.Need-returns
-returns c = summed_true c.before.if1.true c.add.ensures
+returns-then-crc : tie.Need-returns-then-crc
+returns-then-crc c = summed_true c.before.if-crc.true c.add.ensures
 
-returns-2 : tie.Need-returns-2
-returns-2 c = summed_false (c.before.args.word ∷ []) c.if1.false c.before.requires.0
+returns-else-crc : tie.Need-returns-else-crc
+returns-else-crc c = summed_false (c.before.args.word ∷ []) c.if-crc.false c.before.requires.0
 
 pub with_one_spec : {M : Type 1} → statement M
-with_one_spec = tie.close (tie.spec add-requires returns returns-2)
+with_one_spec = tie.close (tie.spec add-requires returns-then-crc returns-else-crc)

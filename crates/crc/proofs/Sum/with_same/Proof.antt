@@ -7,14 +7,14 @@ use Rattle.crc.proofs.Sum.with_same.Reads as reads
 use Rattle.crc.proofs.Sum.with_same.Lts as lts
 use Rattle.crc.proofs.Sum.add_same.Reads as add-same-reads
 
-add-same-requires : tie.Need-add-same-requires
-add-same-requires c κs = search rules
+add_same-requires : tie.Need-add_same-requires
+add_same-requires c κs = search rules
 
-returns : tie.Need-returns
-returns c = summed_true c.before.if1.true c.add_same.ensures
+returns-then-crc : tie.Need-returns-then-crc
+returns-then-crc c = summed_true c.before.if-crc.true c.add_same.ensures
 
-returns-2 : tie.Need-returns-2
-returns-2 c = summed_false (same c.before.args.word c.before.args.times) c.if1.false c.before.requires.0
+returns-else-crc : tie.Need-returns-else-crc
+returns-else-crc c = summed_false (same c.before.args.word c.before.args.times) c.if-crc.false c.before.requires.0
 
 pub with_same_spec : {M : Type 1} → statement M
-with_same_spec = tie.close (tie.spec add-same-requires returns returns-2)
+with_same_spec = tie.close (tie.spec add_same-requires returns-then-crc returns-else-crc)

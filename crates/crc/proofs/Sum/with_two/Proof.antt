@@ -7,14 +7,14 @@ use Rattle.crc.proofs.Sum.with_two.Reads as reads
 use Rattle.crc.proofs.Sum.with_two.Lts as lts
 use Rattle.crc.proofs.Sum.add_two.Reads as add-two-reads
 
-add-two-requires : tie.Need-add-two-requires
-add-two-requires c κs = search rules
+add_two-requires : tie.Need-add_two-requires
+add_two-requires c κs = search rules
 
-returns : tie.Need-returns
-returns c = summed_true c.before.if1.true c.add-two.ensures
+returns-then-crc : tie.Need-returns-then-crc
+returns-then-crc c = summed_true c.before.if-crc.true c.add_two.ensures
 
-returns-2 : tie.Need-returns-2
-returns-2 c = summed_false (c.before.args.one ∷ c.before.args.two ∷ []) c.if1.false c.before.requires.0
+returns-else-crc : tie.Need-returns-else-crc
+returns-else-crc c = summed_false (c.before.args.one ∷ c.before.args.two ∷ []) c.if-crc.false c.before.requires.0
 
 pub with_two_spec : {M : Type 1} → statement M
-with_two_spec = tie.close (tie.spec add-two-requires returns returns-2)
+with_two_spec = tie.close (tie.spec add_two-requires returns-then-crc returns-else-crc)

@@ -3,11 +3,11 @@ use mathlib.Core.Path.{refl}
 use Rattle.data_run.proofs.fill.is_odd_fill.Statement.{statement}
 use Rattle.data_run.proofs.fill.is_odd_fill.Tie as tie
 
-returns : tie.Need-returns
-returns c = rw (eq-eqb _ 0 c.if1.true) refl
+returns-then-i-eq0 : tie.Need-returns-then-i-eq0
+returns-then-i-eq0 c = rw (eq-eqb _ 0 c.if-i-eq0.true) refl
 
-returns-2 : tie.Need-returns-2
-returns-2 c = rw (ne_eqb _ 0 c.if1.false) refl
+returns-else-i-eq0 : tie.Need-returns-else-i-eq0
+returns-else-i-eq0 c = rw (ne_eqb _ 0 c.if-i-eq0.false) refl
 
 pub is_odd_fill_spec : {M : Type 1} → statement M
-is_odd_fill_spec = tie.close (tie.spec returns returns-2)
+is_odd_fill_spec = tie.close (tie.spec returns-then-i-eq0 returns-else-i-eq0)

@@ -3,99 +3,99 @@ use borrow.Author.Rules.{rules}
 use Rattle.log_buffer.proofs.item.load_of.Statement.{statement}
 use Rattle.log_buffer.proofs.item.load_of.Tie as tie
 
-enum-known-item : tie.Need-enum-known-item
-enum-known-item c = search rules
+enum_known-item : tie.Need-enum_known-item
+enum_known-item c = search rules
 
-tagged-load-requires : tie.Need-tagged-load-requires
-tagged-load-requires c κs = search rules
+tagged_load-requires : tie.Need-tagged_load-requires
+tagged_load-requires c κs = search rules
 
-enum-known-item-2 : tie.Need-enum-known-item-2
-enum-known-item-2 c = search rules
+enum_known-item-in-Status-1 : tie.Need-enum_known-item-in-Status-1
+enum_known-item-in-Status-1 c = search rules
 
-status-load-requires : tie.Need-status-load-requires
-status-load-requires c κs = search rules
+status_load-requires : tie.Need-status_load-requires
+status_load-requires c κs = search rules
 
-enum-known-item-3 : tie.Need-enum-known-item-3
-enum-known-item-3 c = search rules
+enum_known-item-in-Data-1 : tie.Need-enum_known-item-in-Data-1
+enum_known-item-in-Data-1 c = search rules
 
-plain-load-requires : tie.Need-plain-load-requires
-plain-load-requires c κs = search rules
+plain_load-requires : tie.Need-plain_load-requires
+plain_load-requires c κs = search rules
 
-enum-known-item-4 : tie.Need-enum-known-item-4
-enum-known-item-4 c = search rules
+enum_known-item-in-BusError-1 : tie.Need-enum_known-item-in-BusError-1
+enum_known-item-in-BusError-1 c = search rules
 
-plain-load-requires-2 : tie.Need-plain-load-requires-2
-plain-load-requires-2 c κs = search rules
+plain_load-requires-in-BusError : tie.Need-plain_load-requires-in-BusError
+plain_load-requires-in-BusError c κs = search rules
 
-enum-known-item-5 : tie.Need-enum-known-item-5
-enum-known-item-5 c = search rules
+enum_known-item-in-Arinc-1 : tie.Need-enum_known-item-in-Arinc-1
+enum_known-item-in-Arinc-1 c = search rules
 
-tagged-load-requires-2 : tie.Need-tagged-load-requires-2
-tagged-load-requires-2 c κs = search rules
+tagged_load-requires-in-Arinc : tie.Need-tagged_load-requires-in-Arinc
+tagged_load-requires-in-Arinc c κs = search rules
 
-enum-known-item-6 : tie.Need-enum-known-item-6
-enum-known-item-6 c = search rules
+enum_known-item-in-Notice-1 : tie.Need-enum_known-item-in-Notice-1
+enum_known-item-in-Notice-1 c = search rules
 
-plain-load-requires-3 : tie.Need-plain-load-requires-3
-plain-load-requires-3 c κs = search rules
+plain_load-requires-in-Notice : tie.Need-plain_load-requires-in-Notice
+plain_load-requires-in-Notice c κs = search rules
 
-enum-known-item-7 : tie.Need-enum-known-item-7
-enum-known-item-7 c = search rules
+enum_known-item-in-User-1 : tie.Need-enum_known-item-in-User-1
+enum_known-item-in-User-1 c = search rules
 
-plain-load-requires-4 : tie.Need-plain-load-requires-4
-plain-load-requires-4 c κs = search rules
+plain_load-requires-in-User : tie.Need-plain_load-requires-in-User
+plain_load-requires-in-User c κs = search rules
 
-enum-known-item-8 : tie.Need-enum-known-item-8
-enum-known-item-8 c = search rules
+enum_known-item-in-Overflow-1 : tie.Need-enum_known-item-in-Overflow-1
+enum_known-item-in-Overflow-1 c = search rules
 
-returns : tie.Need-returns
-returns c = rw c.before.before.item.given.1 c.tagged-load.ensures
+returns-in-Command : tie.Need-returns-in-Command
+returns-in-Command c = rw c.before.before.item-1.given.1 c.tagged_load.ensures
 
-returns-2 : tie.Need-returns-2
-returns-2 c = rw c.before.before.item2.given.1 c.status-load.ensures
+returns-in-Status : tie.Need-returns-in-Status
+returns-in-Status c = rw c.before.before.item-in-Status-1.given.1 c.status_load.ensures
 
-returns-3 : tie.Need-returns-3
-returns-3 c = rw c.before.before.item3.given.1 c.plain-load.ensures
+returns-in-Data : tie.Need-returns-in-Data
+returns-in-Data c = rw c.before.before.item-in-Data-1.given.1 c.plain_load.ensures
 
-returns-4 : tie.Need-returns-4
-returns-4 c = rw c.before.before.item4.given.1 c.plain-load2.ensures
+returns-in-BusError : tie.Need-returns-in-BusError
+returns-in-BusError c = rw c.before.before.item-in-BusError-1.given.1 c.plain_load-in-BusError.ensures
 
-returns-5 : tie.Need-returns-5
-returns-5 c = rw c.before.before.item5.given.1 c.tagged-load2.ensures
+returns-in-Arinc : tie.Need-returns-in-Arinc
+returns-in-Arinc c = rw c.before.before.item-in-Arinc-1.given.1 c.tagged_load-in-Arinc.ensures
 
-returns-6 : tie.Need-returns-6
-returns-6 c = rw c.before.before.item6.given.1 c.plain-load3.ensures
+returns-in-Notice : tie.Need-returns-in-Notice
+returns-in-Notice c = rw c.before.before.item-in-Notice-1.given.1 c.plain_load-in-Notice.ensures
 
-returns-7 : tie.Need-returns-7
-returns-7 c = rw c.before.before.item7.given.1 c.plain-load4.ensures
+returns-in-User : tie.Need-returns-in-User
+returns-in-User c = rw c.before.before.item-in-User-1.given.1 c.plain_load-in-User.ensures
 
-returns-8 : tie.Need-returns-8
-returns-8 c = rw c.before.item8.given.1 refl
+returns-in-Overflow : tie.Need-returns-in-Overflow
+returns-in-Overflow c = rw c.before.item-in-Overflow-1.given.1 refl
 
 pub load_of_spec : {M : Type 1} → statement M
 load_of_spec =
     tie.close
     (tie.spec
-    enum-known-item
-    tagged-load-requires
-    enum-known-item-2
-    status-load-requires
-    enum-known-item-3
-    plain-load-requires
-    enum-known-item-4
-    plain-load-requires-2
-    enum-known-item-5
-    tagged-load-requires-2
-    enum-known-item-6
-    plain-load-requires-3
-    enum-known-item-7
-    plain-load-requires-4
-    enum-known-item-8
-    returns
-    returns-2
-    returns-3
-    returns-4
-    returns-5
-    returns-6
-    returns-7
-    returns-8)
+    enum_known-item
+    tagged_load-requires
+    enum_known-item-in-Status-1
+    status_load-requires
+    enum_known-item-in-Data-1
+    plain_load-requires
+    enum_known-item-in-BusError-1
+    plain_load-requires-in-BusError
+    enum_known-item-in-Arinc-1
+    tagged_load-requires-in-Arinc
+    enum_known-item-in-Notice-1
+    plain_load-requires-in-Notice
+    enum_known-item-in-User-1
+    plain_load-requires-in-User
+    enum_known-item-in-Overflow-1
+    returns-in-Command
+    returns-in-Status
+    returns-in-Data
+    returns-in-BusError
+    returns-in-Arinc
+    returns-in-Notice
+    returns-in-User
+    returns-in-Overflow)

@@ -2,25 +2,25 @@ use borrow.Author.Rules.{rules}
 use Rattle.log_buffer.proofs.item.status_load.Statement.{statement}
 use Rattle.log_buffer.proofs.item.status_load.Tie as tie
 
-enum_told : tie.Need-enum-told
-enum_told c = search rules
+enum_told-1 : tie.Need-enum_told-1
+enum_told-1 c = search rules
 
-plain-load-requires : tie.Need-plain-load-requires
-plain-load-requires c κs = search rules
+plain_load-requires : tie.Need-plain_load-requires
+plain_load-requires c κs = search rules
 
-enum-told-2 : tie.Need-enum-told-2
-enum-told-2 c = search rules
+enum_told-in-After : tie.Need-enum_told-in-After
+enum_told-in-After c = search rules
 
-plain-load-requires-2 : tie.Need-plain-load-requires-2
-plain-load-requires-2 c κs = search rules
+plain_load-requires-in-After : tie.Need-plain_load-requires-in-After
+plain_load-requires-in-After c κs = search rules
 
-returns : tie.Need-returns
-returns c = rw c.before.enum_told.given.1 c.plain-load.ensures
+returns-in-Untimed : tie.Need-returns-in-Untimed
+returns-in-Untimed c = rw c.before.enum_told-1.given.1 c.plain_load.ensures
 
-returns-2 : tie.Need-returns-2
-returns-2 c = rw c.before.enum-told2.given.1 c.plain-load2.ensures
+returns-in-After : tie.Need-returns-in-After
+returns-in-After c = rw c.before.enum_told-in-After-1.given.1 c.plain_load-in-After.ensures
 
 pub status_load_spec : {M : Type 1} → statement M
 status_load_spec =
     tie.close
-    (tie.spec enum_told plain-load-requires enum-told-2 plain-load-requires-2 returns returns-2)
+    (tie.spec enum_told-1 plain_load-requires enum_told-in-After plain_load-requires-in-After returns-in-Untimed returns-in-After)

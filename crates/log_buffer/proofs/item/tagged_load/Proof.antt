@@ -2,35 +2,35 @@ use borrow.Author.Rules.{rules}
 use Rattle.log_buffer.proofs.item.tagged_load.Statement.{statement}
 use Rattle.log_buffer.proofs.item.tagged_load.Tie as tie
 
-enum_told : tie.Need-enum-told
-enum_told c = search rules
+enum_told-1 : tie.Need-enum_told-1
+enum_told-1 c = search rules
 
-plain-load-requires : tie.Need-plain-load-requires
-plain-load-requires c κs = search rules
+plain_load-requires : tie.Need-plain_load-requires
+plain_load-requires c κs = search rules
 
-enum-told-2 : tie.Need-enum-told-2
-enum-told-2 c = search rules
+enum_told-in-At : tie.Need-enum_told-in-At
+enum_told-in-At c = search rules
 
-add-plain-load : tie.Need-overflow-add-plain-load
-add-plain-load c = search rules
+overflow_add-words : tie.Need-overflow_add-words
+overflow_add-words c = search rules
 
-plain-load-requires-2 : tie.Need-plain-load-requires-2
-plain-load-requires-2 c κs = search rules
+plain_load-requires-in-At : tie.Need-plain_load-requires-in-At
+plain_load-requires-in-At c κs = search rules
 
-returns : tie.Need-returns
-returns c = rw c.before.enum_told.given.1 c.plain-load.ensures
+returns-in-Untagged : tie.Need-returns-in-Untagged
+returns-in-Untagged c = rw c.before.enum_told-1.given.1 c.plain_load.ensures
 
-returns-2 : tie.Need-returns-2
-returns-2 c = rw c.before.enum-told2.given.1 c.plain-load2.ensures
+returns-in-At : tie.Need-returns-in-At
+returns-in-At c = rw c.before.enum_told-in-At-1.given.1 c.plain_load-in-At.ensures
 
 pub tagged_load_spec : {M : Type 1} → statement M
 tagged_load_spec =
     tie.close
     (tie.spec
-    enum_told
-    plain-load-requires
-    enum-told-2
-    add-plain-load
-    plain-load-requires-2
-    returns
-    returns-2)
+    enum_told-1
+    plain_load-requires
+    enum_told-in-At
+    overflow_add-words
+    plain_load-requires-in-At
+    returns-in-Untagged
+    returns-in-At)

@@ -6,11 +6,11 @@ use Rattle.log_buffer.proofs.room.fits.Tie as tie
 need-requires : tie.Need-need-requires
 need-requires c κs = search rules
 
-add-result : tie.Need-overflow-add-result
-add-result c = search rules
+overflow_add-result : tie.Need-overflow_add-result
+overflow_add-result c = search rules
 
 returns : tie.Need-returns
 returns c = rw (← c.before.need.ensures.0) refl
 
 pub fits_spec : {M : Type 1} → statement M
-fits_spec = tie.close (tie.spec need-requires add-result returns)
+fits_spec = tie.close (tie.spec need-requires overflow_add-result returns)

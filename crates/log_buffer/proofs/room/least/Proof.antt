@@ -5,11 +5,11 @@ use borrow.Author.Rules.{rules}
 use Rattle.log_buffer.proofs.room.least.Statement.{statement}
 use Rattle.log_buffer.proofs.room.least.Tie as tie
 
-returns : tie.Need-returns
-returns c = (rw (le-leb c.before.args.a c.before.args.b c.if1.true) refl, omega arith)
+returns-then-a-b : tie.Need-returns-then-a-b
+returns-then-a-b c = (rw (le-leb c.before.args.a c.before.args.b c.if-a-b.true) refl, omega arith)
 
-returns-2 : tie.Need-returns-2
-returns-2 c = (rw (lt-leb c.before.args.a c.before.args.b c.if1.false) refl, omega (arith, c.if1.false))
+returns : tie.Need-returns
+returns c = (rw (lt-leb c.before.args.a c.before.args.b c.if-a-b.false) refl, omega (arith, c.if-a-b.false))
 
 pub least_spec : {M : Type 1} → statement M
-least_spec = tie.close (tie.spec returns returns-2)
+least_spec = tie.close (tie.spec returns-then-a-b returns)

@@ -3,17 +3,17 @@ use borrow.Author.Rules.{rules}
 use Rattle.log_buffer.proofs.room.missed.Statement.{statement}
 use Rattle.log_buffer.proofs.room.missed.Tie as tie
 
-add-t3 : tie.Need-overflow-add-t3
-add-t3 c = search rules
+overflow_add-result : tie.Need-overflow_add-result
+overflow_add-result c = search rules
 
-add-t4 : tie.Need-overflow-add-t4
-add-t4 c = search rules
+overflow_add-result-2 : tie.Need-overflow_add-result-2
+overflow_add-result-2 c = search rules
 
-first-bus-requires : tie.Need-first-bus-requires
-first-bus-requires c κs = search rules
+first_bus-requires : tie.Need-first_bus-requires
+first_bus-requires c κs = search rules
 
 returns : tie.Need-returns
-returns c = rw (← c.first-bus.ensures) refl
+returns c = rw (← c.first_bus.ensures) refl
 
 pub missed_spec : {M : Type 1} → statement M
-missed_spec = tie.close (tie.spec add-t3 add-t4 first-bus-requires returns)
+missed_spec = tie.close (tie.spec overflow_add-result overflow_add-result-2 first_bus-requires returns)

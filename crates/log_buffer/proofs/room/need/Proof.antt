@@ -5,14 +5,14 @@ use borrow.Author.Rules.{rules}
 use Rattle.log_buffer.proofs.room.need.Statement.{statement}
 use Rattle.log_buffer.proofs.room.need.Tie as tie
 
+returns-then-unmarked-eq0 : tie.Need-returns-then-unmarked-eq0
+returns-then-unmarked-eq0 c = (rw (eq-eqb c.before.args.unmarked 0 c.if-unmarked-eq0.true) refl, omega (arith, c.before.requires))
+
+overflow_add-result : tie.Need-overflow_add-result
+overflow_add-result c = search rules
+
 returns : tie.Need-returns
-returns c = (rw (eq-eqb c.before.args.unmarked 0 c.if1.true) refl, omega (arith, c.before.requires))
-
-add-result : tie.Need-overflow-add-result
-add-result c = search rules
-
-returns-2 : tie.Need-returns-2
-returns-2 c = (rw (ne_eqb c.before.args.unmarked 0 c.if1.false) refl, omega (arith, c.before.requires))
+returns c = (rw (ne_eqb c.before.args.unmarked 0 c.if-unmarked-eq0.false) refl, omega (arith, c.before.requires))
 
 pub need_spec : {M : Type 1} → statement M
-need_spec = tie.close (tie.spec returns add-result returns-2)
+need_spec = tie.close (tie.spec returns-then-unmarked-eq0 overflow_add-result returns)

@@ -4,51 +4,51 @@ use borrow.Author.Rules.{rules}
 use Rattle.log_cases.proofs.answers.begins.Statement.{statement}
 use Rattle.log_cases.proofs.answers.begins.Tie as tie
 
-abbrev invariant-loop : tie.invariant-loop
-invariant-loop out made at₀ at = Unit {0}
+abbrev invariant-loop-at : tie.invariant-loop-at
+invariant-loop-at out made at₀ at = Unit {0}
 
-abbrev decreases-loop : tie.decreases-loop
-decreases-loop out made at₀ at = length made - at
+abbrev decreases-loop-at : tie.decreases-loop-at
+decreases-loop-at out made at₀ at = length made - at
 
-loop-holds : tie.Need-loop-init invariant-loop decreases-loop
-loop-holds c = search rules
+loop-at-init : tie.Need-loop-at-init invariant-loop-at decreases-loop-at
+loop-at-init c = search rules
 
-returns : tie.Need-returns invariant-loop decreases-loop
+returns-then-out-at : tie.Need-returns-then-out-at invariant-loop-at decreases-loop-at
+returns-then-out-at c = search rules
+
+bounds-out-at : tie.Need-bounds-out-at invariant-loop-at decreases-loop-at
+bounds-out-at c = search rules
+
+bounds-made-at : tie.Need-bounds-made-at invariant-loop-at decreases-loop-at
+bounds-made-at c = search rules
+
+returns-then-out-at-2 : tie.Need-returns-then-out-at-2 invariant-loop-at decreases-loop-at
+returns-then-out-at-2 c = search rules
+
+overflow_add-at : tie.Need-overflow_add-at invariant-loop-at decreases-loop-at
+overflow_add-at c = search rules
+
+loop-at-smaller : tie.Need-loop-at-smaller invariant-loop-at decreases-loop-at
+loop-at-smaller c = search rules
+
+loop-at-preserved : tie.Need-loop-at-preserved invariant-loop-at decreases-loop-at
+loop-at-preserved c = search rules
+
+returns : tie.Need-returns invariant-loop-at decreases-loop-at
 returns c = search rules
-
-shared-slice-read-if2 : tie.Need-shared-slice-read-if2 invariant-loop decreases-loop
-shared-slice-read-if2 c = search rules
-
-shared-slice-read-if2-2 : tie.Need-shared-slice-read-if2-2 invariant-loop decreases-loop
-shared-slice-read-if2-2 c = search rules
-
-returns-2 : tie.Need-returns-2 invariant-loop decreases-loop
-returns-2 c = search rules
-
-add_at : tie.Need-overflow-add-at invariant-loop decreases-loop
-add_at c = search rules
-
-loop-less : tie.Need-loop-smaller invariant-loop decreases-loop
-loop-less c = search rules
-
-loop-again : tie.Need-loop-preserved invariant-loop decreases-loop
-loop-again c = search rules
-
-returns-3 : tie.Need-returns-3 invariant-loop decreases-loop
-returns-3 c = search rules
 
 pub begins_spec : {M : Type 1} → statement M
 begins_spec =
     tie.close
     (tie.spec
-    invariant-loop
-    decreases-loop
-    loop-holds
-    returns
-    shared-slice-read-if2
-    shared-slice-read-if2-2
-    returns-2
-    add_at
-    loop-less
-    loop-again
-    returns-3)
+    invariant-loop-at
+    decreases-loop-at
+    loop-at-init
+    returns-then-out-at
+    bounds-out-at
+    bounds-made-at
+    returns-then-out-at-2
+    overflow_add-at
+    loop-at-smaller
+    loop-at-preserved
+    returns)

@@ -5,43 +5,43 @@ use borrow.Author.Rules.{rules}
 use Rattle.log_cases.proofs.digest.digest_of.Statement.{statement}
 use Rattle.log_cases.proofs.digest.digest_of.Tie as tie
 
-abbrev invariant-loop : tie.invariant-loop
-invariant-loop bytes digest₀ at₀ digest at = Unit {0}
+abbrev invariant-loop-at : tie.invariant-loop-at
+invariant-loop-at bytes digest₀ at₀ digest at = Unit {0}
 
-abbrev decreases-loop : tie.decreases-loop
-decreases-loop bytes digest₀ at₀ digest at = length bytes - at
+abbrev decreases-loop-at : tie.decreases-loop-at
+decreases-loop-at bytes digest₀ at₀ digest at = length bytes - at
 
-loop-holds : tie.Need-loop-init invariant-loop decreases-loop
-loop-holds c = search rules
+loop-at-init : tie.Need-loop-at-init invariant-loop-at decreases-loop-at
+loop-at-init c = search rules
 
-shared-slice-read-fold : tie.Need-shared-slice-read-fold invariant-loop decreases-loop
-shared-slice-read-fold c = search rules
+bounds-bytes-at : tie.Need-bounds-bytes-at invariant-loop-at decreases-loop-at
+bounds-bytes-at c = search rules
 
-fold-requires : tie.Need-fold-requires invariant-loop decreases-loop
-fold-requires c κs = search rules
+fold-digest-requires : tie.Need-fold-digest-requires invariant-loop-at decreases-loop-at
+fold-digest-requires c κs = search rules
 
-add_at : tie.Need-overflow-add-at invariant-loop decreases-loop
-add_at c = search rules
+overflow_add-at : tie.Need-overflow_add-at invariant-loop-at decreases-loop-at
+overflow_add-at c = search rules
 
-loop-less : tie.Need-loop-smaller invariant-loop decreases-loop
-loop-less c = search rules
+loop-at-smaller : tie.Need-loop-at-smaller invariant-loop-at decreases-loop-at
+loop-at-smaller c = search rules
 
-loop-again : tie.Need-loop-preserved invariant-loop decreases-loop
-loop-again c = search rules
+loop-at-preserved : tie.Need-loop-at-preserved invariant-loop-at decreases-loop-at
+loop-at-preserved c = search rules
 
-returns : tie.Need-returns invariant-loop decreases-loop
+returns : tie.Need-returns invariant-loop-at decreases-loop-at
 returns c = search rules
 
 pub digest_of_spec : {M : Type 1} → statement M
 digest_of_spec =
     tie.close
     (tie.spec
-    invariant-loop
-    decreases-loop
-    loop-holds
-    shared-slice-read-fold
-    fold-requires
-    add_at
-    loop-less
-    loop-again
+    invariant-loop-at
+    decreases-loop-at
+    loop-at-init
+    bounds-bytes-at
+    fold-digest-requires
+    overflow_add-at
+    loop-at-smaller
+    loop-at-preserved
     returns)

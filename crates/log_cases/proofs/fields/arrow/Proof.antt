@@ -4,43 +4,43 @@ use borrow.Author.Rules.{rules}
 use Rattle.log_cases.proofs.fields.arrow.Statement.{statement}
 use Rattle.log_cases.proofs.fields.arrow.Tie as tie
 
-abbrev invariant-loop : tie.invariant-loop
-invariant-loop line at₀ at = at ≤ length line
+abbrev invariant-loop-at : tie.invariant-loop-at
+invariant-loop-at line at₀ at = at ≤ length line
 
-abbrev decreases-loop : tie.decreases-loop
-decreases-loop line at₀ at = length line - at
+abbrev decreases-loop-at : tie.decreases-loop-at
+decreases-loop-at line at₀ at = length line - at
 
-loop-holds : tie.Need-loop-init invariant-loop decreases-loop
-loop-holds c = search rules
+loop-at-init : tie.Need-loop-at-init invariant-loop-at decreases-loop-at
+loop-at-init c = search rules
 
-shared-slice-read-if1 : tie.Need-shared-slice-read-if1 invariant-loop decreases-loop
-shared-slice-read-if1 c = search rules
+bounds-line-at : tie.Need-bounds-line-at invariant-loop-at decreases-loop-at
+bounds-line-at c = search rules
 
-returns : tie.Need-returns invariant-loop decreases-loop
+returns-then-line-at-eq62 : tie.Need-returns-then-line-at-eq62 invariant-loop-at decreases-loop-at
+returns-then-line-at-eq62 c = search rules
+
+overflow_add-at : tie.Need-overflow_add-at invariant-loop-at decreases-loop-at
+overflow_add-at c = search rules
+
+loop-at-smaller : tie.Need-loop-at-smaller invariant-loop-at decreases-loop-at
+loop-at-smaller c = search rules
+
+loop-at-preserved : tie.Need-loop-at-preserved invariant-loop-at decreases-loop-at
+loop-at-preserved c = search rules
+
+returns : tie.Need-returns invariant-loop-at decreases-loop-at
 returns c = search rules
-
-add_at : tie.Need-overflow-add-at invariant-loop decreases-loop
-add_at c = search rules
-
-loop-less : tie.Need-loop-smaller invariant-loop decreases-loop
-loop-less c = search rules
-
-loop-again : tie.Need-loop-preserved invariant-loop decreases-loop
-loop-again c = search rules
-
-returns-2 : tie.Need-returns-2 invariant-loop decreases-loop
-returns-2 c = search rules
 
 pub arrow_spec : {M : Type 1} → statement M
 arrow_spec =
     tie.close
     (tie.spec
-    invariant-loop
-    decreases-loop
-    loop-holds
-    shared-slice-read-if1
-    returns
-    add_at
-    loop-less
-    loop-again
-    returns-2)
+    invariant-loop-at
+    decreases-loop-at
+    loop-at-init
+    bounds-line-at
+    returns-then-line-at-eq62
+    overflow_add-at
+    loop-at-smaller
+    loop-at-preserved
+    returns)

@@ -4,51 +4,51 @@ use borrow.Author.Rules.{rules}
 use Rattle.log_cases.proofs.fields.field.Statement.{statement}
 use Rattle.log_cases.proofs.fields.field.Tie as tie
 
-abbrev invariant-loop : tie.invariant-loop
-invariant-loop line number left₀ at₀ left at = Unit {0}
+abbrev invariant-loop-at : tie.invariant-loop-at
+invariant-loop-at line number left₀ at₀ left at = Unit {0}
 
-abbrev decreases-loop : tie.decreases-loop
-decreases-loop line number left₀ at₀ left at = length line - at
+abbrev decreases-loop-at : tie.decreases-loop-at
+decreases-loop-at line number left₀ at₀ left at = length line - at
 
-loop-holds : tie.Need-loop-init invariant-loop decreases-loop
-loop-holds c = search rules
+loop-at-init : tie.Need-loop-at-init invariant-loop-at decreases-loop-at
+loop-at-init c = search rules
 
-returns : tie.Need-returns invariant-loop decreases-loop
+returns-then-left-eq0 : tie.Need-returns-then-left-eq0 invariant-loop-at decreases-loop-at
+returns-then-left-eq0 c = search rules
+
+bounds-line-at : tie.Need-bounds-line-at invariant-loop-at decreases-loop-at
+bounds-line-at c = search rules
+
+spaces-left-requires : tie.Need-spaces-left-requires invariant-loop-at decreases-loop-at
+spaces-left-requires c κs = search rules
+
+overflow_sub-left : tie.Need-overflow_sub-left invariant-loop-at decreases-loop-at
+overflow_sub-left c = search rules
+
+overflow_add-at : tie.Need-overflow_add-at invariant-loop-at decreases-loop-at
+overflow_add-at c = search rules
+
+loop-at-smaller : tie.Need-loop-at-smaller invariant-loop-at decreases-loop-at
+loop-at-smaller c = search rules
+
+loop-at-preserved : tie.Need-loop-at-preserved invariant-loop-at decreases-loop-at
+loop-at-preserved c = search rules
+
+returns : tie.Need-returns invariant-loop-at decreases-loop-at
 returns c = search rules
-
-shared-slice-read-spaces : tie.Need-shared-slice-read-spaces invariant-loop decreases-loop
-shared-slice-read-spaces c = search rules
-
-spaces-requires : tie.Need-spaces-requires invariant-loop decreases-loop
-spaces-requires c κs = search rules
-
-sub-left : tie.Need-overflow-sub-left invariant-loop decreases-loop
-sub-left c = search rules
-
-add_at : tie.Need-overflow-add-at invariant-loop decreases-loop
-add_at c = search rules
-
-loop-less : tie.Need-loop-smaller invariant-loop decreases-loop
-loop-less c = search rules
-
-loop-again : tie.Need-loop-preserved invariant-loop decreases-loop
-loop-again c = search rules
-
-returns-2 : tie.Need-returns-2 invariant-loop decreases-loop
-returns-2 c = search rules
 
 pub field_spec : {M : Type 1} → statement M
 field_spec =
     tie.close
     (tie.spec
-    invariant-loop
-    decreases-loop
-    loop-holds
-    returns
-    shared-slice-read-spaces
-    spaces-requires
-    sub-left
-    add_at
-    loop-less
-    loop-again
-    returns-2)
+    invariant-loop-at
+    decreases-loop-at
+    loop-at-init
+    returns-then-left-eq0
+    bounds-line-at
+    spaces-left-requires
+    overflow_sub-left
+    overflow_add-at
+    loop-at-smaller
+    loop-at-preserved
+    returns)

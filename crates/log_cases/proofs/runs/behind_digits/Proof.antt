@@ -4,47 +4,47 @@ use borrow.Author.Rules.{rules}
 use Rattle.log_cases.proofs.runs.behind_digits.Statement.{statement}
 use Rattle.log_cases.proofs.runs.behind_digits.Tie as tie
 
-abbrev invariant-loop : tie.invariant-loop
-invariant-loop line from at₀ at = from ≤ at
+abbrev invariant-loop-at : tie.invariant-loop-at
+invariant-loop-at line from at₀ at = from ≤ at
 
-abbrev decreases-loop : tie.decreases-loop
-decreases-loop line from at₀ at = length line - at
+abbrev decreases-loop-at : tie.decreases-loop-at
+decreases-loop-at line from at₀ at = length line - at
 
-loop-holds : tie.Need-loop-init invariant-loop decreases-loop
-loop-holds c = search rules
+loop-at-init : tie.Need-loop-at-init invariant-loop-at decreases-loop-at
+loop-at-init c = search rules
 
-shared-slice-read-digit : tie.Need-shared-slice-read-digit invariant-loop decreases-loop
-shared-slice-read-digit c = search rules
+bounds-line-at : tie.Need-bounds-line-at invariant-loop-at decreases-loop-at
+bounds-line-at c = search rules
 
-digit-requires : tie.Need-digit-requires invariant-loop decreases-loop
+digit-requires : tie.Need-digit-requires invariant-loop-at decreases-loop-at
 digit-requires c κs = search rules
 
-returns : tie.Need-returns invariant-loop decreases-loop
+returns-then-digit-ge10 : tie.Need-returns-then-digit-ge10 invariant-loop-at decreases-loop-at
+returns-then-digit-ge10 c = search rules
+
+overflow_add-at : tie.Need-overflow_add-at invariant-loop-at decreases-loop-at
+overflow_add-at c = search rules
+
+loop-at-smaller : tie.Need-loop-at-smaller invariant-loop-at decreases-loop-at
+loop-at-smaller c = search rules
+
+loop-at-preserved : tie.Need-loop-at-preserved invariant-loop-at decreases-loop-at
+loop-at-preserved c = search rules
+
+returns : tie.Need-returns invariant-loop-at decreases-loop-at
 returns c = search rules
-
-add_at : tie.Need-overflow-add-at invariant-loop decreases-loop
-add_at c = search rules
-
-loop-less : tie.Need-loop-smaller invariant-loop decreases-loop
-loop-less c = search rules
-
-loop-again : tie.Need-loop-preserved invariant-loop decreases-loop
-loop-again c = search rules
-
-returns-2 : tie.Need-returns-2 invariant-loop decreases-loop
-returns-2 c = search rules
 
 pub behind_digits_spec : {M : Type 1} → statement M
 behind_digits_spec =
     tie.close
     (tie.spec
-    invariant-loop
-    decreases-loop
-    loop-holds
-    shared-slice-read-digit
+    invariant-loop-at
+    decreases-loop-at
+    loop-at-init
+    bounds-line-at
     digit-requires
-    returns
-    add_at
-    loop-less
-    loop-again
-    returns-2)
+    returns-then-digit-ge10
+    overflow_add-at
+    loop-at-smaller
+    loop-at-preserved
+    returns)

@@ -5,47 +5,47 @@ use borrow.Author.Rules.{rules}
 use Rattle.log_cases.proofs.runs.copy.Statement.{statement}
 use Rattle.log_cases.proofs.runs.copy.Tie as tie
 
-abbrev invariant-loop : tie.invariant-loop
-invariant-loop room₀ from end to source₀ at₀ room source at = length room ≡ length room₀
+abbrev invariant-loop-source : tie.invariant-loop-source
+invariant-loop-source room₀ from end to source₀ at₀ room source at = length room ≡ length room₀
 
-abbrev decreases-loop : tie.decreases-loop
-decreases-loop room₀ from end to source₀ at₀ room source at = end - source
+abbrev decreases-loop-source : tie.decreases-loop-source
+decreases-loop-source room₀ from end to source₀ at₀ room source at = end - source
 
-loop-holds : tie.Need-loop-init invariant-loop decreases-loop
-loop-holds c = search rules
+loop-source-init : tie.Need-loop-source-init invariant-loop-source decreases-loop-source
+loop-source-init c = search rules
 
-copy-byte-requires : tie.Need-copy-byte-requires invariant-loop decreases-loop
-copy-byte-requires c κs = search rules
+copy_byte-requires : tie.Need-copy_byte-requires invariant-loop-source decreases-loop-source
+copy_byte-requires c κs = search rules
 
-add_at : tie.Need-overflow-add-at invariant-loop decreases-loop
-add_at c = search rules
+overflow_add-at : tie.Need-overflow_add-at invariant-loop-source decreases-loop-source
+overflow_add-at c = search rules
 
-add-source : tie.Need-overflow-add-source invariant-loop decreases-loop
-add-source c = search rules
+overflow_add-source : tie.Need-overflow_add-source invariant-loop-source decreases-loop-source
+overflow_add-source c = search rules
 
-loop-less : tie.Need-loop-smaller invariant-loop decreases-loop
-loop-less c = search rules
+loop-source-smaller : tie.Need-loop-source-smaller invariant-loop-source decreases-loop-source
+loop-source-smaller c = search rules
 
-loop-again : tie.Need-loop-preserved invariant-loop decreases-loop
-loop-again c = search rules
+loop-source-preserved : tie.Need-loop-source-preserved invariant-loop-source decreases-loop-source
+loop-source-preserved c = search rules
 
-same_length : tie.Need-same-length invariant-loop decreases-loop
-same_length c = search rules
+shape_of-room : tie.Need-shape_of-room invariant-loop-source decreases-loop-source
+shape_of-room c = search rules
 
-returns : tie.Need-returns invariant-loop decreases-loop
+returns : tie.Need-returns invariant-loop-source decreases-loop-source
 returns c = search rules
 
 pub copy_spec : {M : Type 1} → statement M
 copy_spec =
     tie.close
     (tie.spec
-    invariant-loop
-    decreases-loop
-    loop-holds
-    copy-byte-requires
-    add_at
-    add-source
-    loop-less
-    loop-again
-    same_length
+    invariant-loop-source
+    decreases-loop-source
+    loop-source-init
+    copy_byte-requires
+    overflow_add-at
+    overflow_add-source
+    loop-source-smaller
+    loop-source-preserved
+    shape_of-room
     returns)

@@ -5,51 +5,51 @@ use borrow.Author.Rules.{rules}
 use Rattle.log_cases.proofs.salvage.spread_report.Statement.{statement}
 use Rattle.log_cases.proofs.salvage.spread_report.Tie as tie
 
-abbrev invariant-loop : tie.invariant-loop
-invariant-loop report bytes₀ at₀ end₀ bytes at end = length bytes ≡ length bytes₀
+abbrev invariant-loop-at : tie.invariant-loop-at
+invariant-loop-at report bytes₀ at₀ end₀ bytes at end = length bytes ≡ length bytes₀
 
-abbrev decreases-loop : tie.decreases-loop
-decreases-loop report bytes₀ at₀ end₀ bytes at end = length report - at
+abbrev decreases-loop-at : tie.decreases-loop-at
+decreases-loop-at report bytes₀ at₀ end₀ bytes at end = length report - at
 
-loop-holds : tie.Need-loop-init invariant-loop decreases-loop
-loop-holds c = search rules
+loop-at-init : tie.Need-loop-at-init invariant-loop-at decreases-loop-at
+loop-at-init c = search rules
 
-mul-put-eight : tie.Need-overflow-mul-put-eight invariant-loop decreases-loop
-mul-put-eight c = search rules
+offset_bounds-report-at : tie.Need-offset_bounds-report-at invariant-loop-at decreases-loop-at
+offset_bounds-report-at c = search rules
 
-shared-slice-read-put-eight : tie.Need-shared-slice-read-put-eight invariant-loop decreases-loop
-shared-slice-read-put-eight c = search rules
+bounds-report-at : tie.Need-bounds-report-at invariant-loop-at decreases-loop-at
+bounds-report-at c = search rules
 
-put-eight-requires : tie.Need-put-eight-requires invariant-loop decreases-loop
-put-eight-requires c κs = search rules
+put_eight-end-requires : tie.Need-put_eight-end-requires invariant-loop-at decreases-loop-at
+put_eight-end-requires c κs = search rules
 
-add_at : tie.Need-overflow-add-at invariant-loop decreases-loop
-add_at c = search rules
+overflow_add-at : tie.Need-overflow_add-at invariant-loop-at decreases-loop-at
+overflow_add-at c = search rules
 
-loop-less : tie.Need-loop-smaller invariant-loop decreases-loop
-loop-less c = search rules
+loop-at-smaller : tie.Need-loop-at-smaller invariant-loop-at decreases-loop-at
+loop-at-smaller c = search rules
 
-loop-again : tie.Need-loop-preserved invariant-loop decreases-loop
-loop-again c = search rules
+loop-at-preserved : tie.Need-loop-at-preserved invariant-loop-at decreases-loop-at
+loop-at-preserved c = search rules
 
-same_length : tie.Need-same-length invariant-loop decreases-loop
-same_length c = search rules
+shape_of-bytes : tie.Need-shape_of-bytes invariant-loop-at decreases-loop-at
+shape_of-bytes c = search rules
 
-returns : tie.Need-returns invariant-loop decreases-loop
+returns : tie.Need-returns invariant-loop-at decreases-loop-at
 returns c = search rules
 
 pub spread_report_spec : {M : Type 1} → statement M
 spread_report_spec =
     tie.close
     (tie.spec
-    invariant-loop
-    decreases-loop
-    loop-holds
-    mul-put-eight
-    shared-slice-read-put-eight
-    put-eight-requires
-    add_at
-    loop-less
-    loop-again
-    same_length
+    invariant-loop-at
+    decreases-loop-at
+    loop-at-init
+    offset_bounds-report-at
+    bounds-report-at
+    put_eight-end-requires
+    overflow_add-at
+    loop-at-smaller
+    loop-at-preserved
+    shape_of-bytes
     returns)

@@ -5,59 +5,59 @@ use borrow.Author.Rules.{rules}
 use Rattle.log_cases.proofs.words.gather.Statement.{statement}
 use Rattle.log_cases.proofs.words.gather.Tie as tie
 
-abbrev invariant-loop : tie.invariant-loop
-invariant-loop bytes words₀ word₀ at₀ count₀ words word at count = length words ≡ length words₀
+abbrev invariant-loop-at : tie.invariant-loop-at
+invariant-loop-at bytes words₀ word₀ at₀ count₀ words word at count = length words ≡ length words₀
 
-abbrev decreases-loop : tie.decreases-loop
-decreases-loop bytes words₀ word₀ at₀ count₀ words word at count = length bytes - at
+abbrev decreases-loop-at : tie.decreases-loop-at
+decreases-loop-at bytes words₀ word₀ at₀ count₀ words word at count = length bytes - at
 
-loop-holds : tie.Need-loop-init invariant-loop decreases-loop
-loop-holds c = search rules
+loop-at-init : tie.Need-loop-at-init invariant-loop-at decreases-loop-at
+loop-at-init c = search rules
 
-shared-slice-read-with-byte : tie.Need-shared-slice-read-with-byte invariant-loop decreases-loop
-shared-slice-read-with-byte c = search rules
+bounds-bytes-at : tie.Need-bounds-bytes-at invariant-loop-at decreases-loop-at
+bounds-bytes-at c = search rules
 
-with-byte-requires : tie.Need-with-byte-requires invariant-loop decreases-loop
-with-byte-requires c κs = search rules
+with_byte-word-requires : tie.Need-with_byte-word-requires invariant-loop-at decreases-loop-at
+with_byte-word-requires c κs = search rules
 
-add_at : tie.Need-overflow-add-at invariant-loop decreases-loop
-add_at c = search rules
+overflow_add-at : tie.Need-overflow_add-at invariant-loop-at decreases-loop-at
+overflow_add-at c = search rules
 
-put-word-requires : tie.Need-put-word-requires invariant-loop decreases-loop
-put-word-requires c κs = search rules
+put_word-count-requires : tie.Need-put_word-count-requires invariant-loop-at decreases-loop-at
+put_word-count-requires c κs = search rules
 
-loop-less : tie.Need-loop-smaller invariant-loop decreases-loop
-loop-less c = search rules
+loop-at-smaller-then-at-eq0 : tie.Need-loop-at-smaller-then-at-eq0 invariant-loop-at decreases-loop-at
+loop-at-smaller-then-at-eq0 c = search rules
 
-loop-again : tie.Need-loop-preserved invariant-loop decreases-loop
-loop-again c = search rules
+loop-at-preserved-then-at-eq0 : tie.Need-loop-at-preserved-then-at-eq0 invariant-loop-at decreases-loop-at
+loop-at-preserved-then-at-eq0 c = search rules
 
-loop-less-2 : tie.Need-loop-smaller-2 invariant-loop decreases-loop
-loop-less-2 c = search rules
+loop-at-smaller : tie.Need-loop-at-smaller invariant-loop-at decreases-loop-at
+loop-at-smaller c = search rules
 
-loop-again-2 : tie.Need-loop-preserved-2 invariant-loop decreases-loop
-loop-again-2 c = search rules
+loop-at-preserved : tie.Need-loop-at-preserved invariant-loop-at decreases-loop-at
+loop-at-preserved c = search rules
 
-same_length : tie.Need-same-length invariant-loop decreases-loop
-same_length c = search rules
+shape_of-words : tie.Need-shape_of-words invariant-loop-at decreases-loop-at
+shape_of-words c = search rules
 
-returns : tie.Need-returns invariant-loop decreases-loop
+returns : tie.Need-returns invariant-loop-at decreases-loop-at
 returns c = search rules
 
 pub gather_spec : {M : Type 1} → statement M
 gather_spec =
     tie.close
     (tie.spec
-    invariant-loop
-    decreases-loop
-    loop-holds
-    shared-slice-read-with-byte
-    with-byte-requires
-    add_at
-    put-word-requires
-    loop-less
-    loop-again
-    loop-less-2
-    loop-again-2
-    same_length
+    invariant-loop-at
+    decreases-loop-at
+    loop-at-init
+    bounds-bytes-at
+    with_byte-word-requires
+    overflow_add-at
+    put_word-count-requires
+    loop-at-smaller-then-at-eq0
+    loop-at-preserved-then-at-eq0
+    loop-at-smaller
+    loop-at-preserved
+    shape_of-words
     returns)

@@ -5,51 +5,51 @@ use borrow.Author.Rules.{rules}
 use Rattle.log_cases.proofs.words.spread.Statement.{statement}
 use Rattle.log_cases.proofs.words.spread.Tie as tie
 
-abbrev invariant-loop : tie.invariant-loop
-invariant-loop words bytes₀ at₀ end₀ bytes at end = length bytes ≡ length bytes₀
+abbrev invariant-loop-at : tie.invariant-loop-at
+invariant-loop-at words bytes₀ at₀ end₀ bytes at end = length bytes ≡ length bytes₀
 
-abbrev decreases-loop : tie.decreases-loop
-decreases-loop words bytes₀ at₀ end₀ bytes at end = length words - at
+abbrev decreases-loop-at : tie.decreases-loop-at
+decreases-loop-at words bytes₀ at₀ end₀ bytes at end = length words - at
 
-loop-holds : tie.Need-loop-init invariant-loop decreases-loop
-loop-holds c = search rules
+loop-at-init : tie.Need-loop-at-init invariant-loop-at decreases-loop-at
+loop-at-init c = search rules
 
-mul-put-four : tie.Need-overflow-mul-put-four invariant-loop decreases-loop
-mul-put-four c = search rules
+offset_bounds-words-at : tie.Need-offset_bounds-words-at invariant-loop-at decreases-loop-at
+offset_bounds-words-at c = search rules
 
-shared-slice-read-put-four : tie.Need-shared-slice-read-put-four invariant-loop decreases-loop
-shared-slice-read-put-four c = search rules
+bounds-words-at : tie.Need-bounds-words-at invariant-loop-at decreases-loop-at
+bounds-words-at c = search rules
 
-put-four-requires : tie.Need-put-four-requires invariant-loop decreases-loop
-put-four-requires c κs = search rules
+put_four-end-requires : tie.Need-put_four-end-requires invariant-loop-at decreases-loop-at
+put_four-end-requires c κs = search rules
 
-add_at : tie.Need-overflow-add-at invariant-loop decreases-loop
-add_at c = search rules
+overflow_add-at : tie.Need-overflow_add-at invariant-loop-at decreases-loop-at
+overflow_add-at c = search rules
 
-loop-less : tie.Need-loop-smaller invariant-loop decreases-loop
-loop-less c = search rules
+loop-at-smaller : tie.Need-loop-at-smaller invariant-loop-at decreases-loop-at
+loop-at-smaller c = search rules
 
-loop-again : tie.Need-loop-preserved invariant-loop decreases-loop
-loop-again c = search rules
+loop-at-preserved : tie.Need-loop-at-preserved invariant-loop-at decreases-loop-at
+loop-at-preserved c = search rules
 
-same_length : tie.Need-same-length invariant-loop decreases-loop
-same_length c = search rules
+shape_of-bytes : tie.Need-shape_of-bytes invariant-loop-at decreases-loop-at
+shape_of-bytes c = search rules
 
-returns : tie.Need-returns invariant-loop decreases-loop
+returns : tie.Need-returns invariant-loop-at decreases-loop-at
 returns c = search rules
 
 pub spread_spec : {M : Type 1} → statement M
 spread_spec =
     tie.close
     (tie.spec
-    invariant-loop
-    decreases-loop
-    loop-holds
-    mul-put-four
-    shared-slice-read-put-four
-    put-four-requires
-    add_at
-    loop-less
-    loop-again
-    same_length
+    invariant-loop-at
+    decreases-loop-at
+    loop-at-init
+    offset_bounds-words-at
+    bounds-words-at
+    put_four-end-requires
+    overflow_add-at
+    loop-at-smaller
+    loop-at-preserved
+    shape_of-bytes
     returns)

@@ -3,21 +3,21 @@ use borrow.Author.Rules.{rules}
 use Rattle.log_check.proofs.item.command_role.Statement.{statement}
 use Rattle.log_check.proofs.item.command_role.Tie as tie
 
-enum_told : tie.Need-enum-told
-enum_told c = search rules
+enum_told-1 : tie.Need-enum_told-1
+enum_told-1 c = search rules
 
-enum-known-tag : tie.Need-enum-known-tag
-enum-known-tag c = search rules
+enum_known-tag : tie.Need-enum_known-tag
+enum_known-tag c = search rules
 
-time-number-requires : tie.Need-time-number-requires
-time-number-requires c κs = search rules
+time_number-requires : tie.Need-time_number-requires
+time_number-requires c κs = search rules
 
-returns : tie.Need-returns
-returns c = rw c.enum_told.given.1 refl
+returns-in-Untagged : tie.Need-returns-in-Untagged
+returns-in-Untagged c = rw c.enum_told-1.given.1 refl
 
-returns-2 : tie.Need-returns-2
-returns-2 c = rw (c.before.before.tag.given.1, c.time-number.ensures) refl
+returns-in-At : tie.Need-returns-in-At
+returns-in-At c = rw (c.before.before.tag-1.given.1, c.time_number.ensures) refl
 
 pub command_role_spec : {M : Type 1} → statement M
 command_role_spec =
-    tie.close (tie.spec enum_told enum-known-tag time-number-requires returns returns-2)
+    tie.close (tie.spec enum_told-1 enum_known-tag time_number-requires returns-in-Untagged returns-in-At)

@@ -2,103 +2,103 @@ use borrow.Author.Rules.{rules}
 use Rattle.log_check.proofs.item.role_of.Statement.{statement}
 use Rattle.log_check.proofs.item.role_of.Tie as tie
 
-enum-known-item : tie.Need-enum-known-item
-enum-known-item c = search rules
+enum_known-item : tie.Need-enum_known-item
+enum_known-item c = search rules
 
-command-role-requires : tie.Need-command-role-requires
-command-role-requires c κs = search rules
+command_role-requires : tie.Need-command_role-requires
+command_role-requires c κs = search rules
 
-enum-known-item-2 : tie.Need-enum-known-item-2
-enum-known-item-2 c = search rules
+enum_known-item-in-Status-1 : tie.Need-enum_known-item-in-Status-1
+enum_known-item-in-Status-1 c = search rules
 
-status-role-requires : tie.Need-status-role-requires
-status-role-requires c κs = search rules
+status_role-requires : tie.Need-status_role-requires
+status_role-requires c κs = search rules
 
-enum-known-item-3 : tie.Need-enum-known-item-3
-enum-known-item-3 c = search rules
+enum_known-item-in-Data-1 : tie.Need-enum_known-item-in-Data-1
+enum_known-item-in-Data-1 c = search rules
 
-plain-role-requires : tie.Need-plain-role-requires
-plain-role-requires c κs = search rules
+plain_role-requires : tie.Need-plain_role-requires
+plain_role-requires c κs = search rules
 
-enum-known-item-4 : tie.Need-enum-known-item-4
-enum-known-item-4 c = search rules
+enum_known-item-in-BusError-1 : tie.Need-enum_known-item-in-BusError-1
+enum_known-item-in-BusError-1 c = search rules
 
-plain-role-requires-2 : tie.Need-plain-role-requires-2
-plain-role-requires-2 c κs = search rules
+plain_role-requires-in-BusError : tie.Need-plain_role-requires-in-BusError
+plain_role-requires-in-BusError c κs = search rules
 
-enum-known-item-5 : tie.Need-enum-known-item-5
-enum-known-item-5 c = search rules
+enum_known-item-in-Arinc-1 : tie.Need-enum_known-item-in-Arinc-1
+enum_known-item-in-Arinc-1 c = search rules
 
-plain-role-requires-3 : tie.Need-plain-role-requires-3
-plain-role-requires-3 c κs = search rules
+plain_role-requires-in-Arinc : tie.Need-plain_role-requires-in-Arinc
+plain_role-requires-in-Arinc c κs = search rules
 
-enum-known-item-6 : tie.Need-enum-known-item-6
-enum-known-item-6 c = search rules
+enum_known-item-in-Notice-1 : tie.Need-enum_known-item-in-Notice-1
+enum_known-item-in-Notice-1 c = search rules
 
-plain-role-requires-4 : tie.Need-plain-role-requires-4
-plain-role-requires-4 c κs = search rules
+plain_role-requires-in-Notice : tie.Need-plain_role-requires-in-Notice
+plain_role-requires-in-Notice c κs = search rules
 
-enum-known-item-7 : tie.Need-enum-known-item-7
-enum-known-item-7 c = search rules
+enum_known-item-in-User-1 : tie.Need-enum_known-item-in-User-1
+enum_known-item-in-User-1 c = search rules
 
-plain-role-requires-5 : tie.Need-plain-role-requires-5
-plain-role-requires-5 c κs = search rules
+plain_role-requires-in-User : tie.Need-plain_role-requires-in-User
+plain_role-requires-in-User c κs = search rules
 
-enum-known-item-8 : tie.Need-enum-known-item-8
-enum-known-item-8 c = search rules
+enum_known-item-in-Overflow-1 : tie.Need-enum_known-item-in-Overflow-1
+enum_known-item-in-Overflow-1 c = search rules
 
-plain-role-requires-6 : tie.Need-plain-role-requires-6
-plain-role-requires-6 c κs = search rules
+plain_role-requires-in-Overflow : tie.Need-plain_role-requires-in-Overflow
+plain_role-requires-in-Overflow c κs = search rules
 
-returns : tie.Need-returns
-returns c = rw c.before.before.item.given.1 c.command-role.ensures
+returns-in-Command : tie.Need-returns-in-Command
+returns-in-Command c = rw c.before.before.item-1.given.1 c.command_role.ensures
 
-returns-2 : tie.Need-returns-2
-returns-2 c = rw c.before.before.item2.given.1 c.status-role.ensures
+returns-in-Status : tie.Need-returns-in-Status
+returns-in-Status c = rw c.before.before.item-in-Status-1.given.1 c.status_role.ensures
 
-returns-3 : tie.Need-returns-3
-returns-3 c = rw c.before.before.item3.given.1 c.plain-role.ensures
+returns-in-Data : tie.Need-returns-in-Data
+returns-in-Data c = rw c.before.before.item-in-Data-1.given.1 c.plain_role.ensures
 
-returns-4 : tie.Need-returns-4
-returns-4 c = rw c.before.before.item4.given.1 c.plain-role2.ensures
+returns-in-BusError : tie.Need-returns-in-BusError
+returns-in-BusError c = rw c.before.before.item-in-BusError-1.given.1 c.plain_role-in-BusError.ensures
 
-returns-5 : tie.Need-returns-5
-returns-5 c = rw c.before.before.item5.given.1 c.plain-role3.ensures
+returns-in-Arinc : tie.Need-returns-in-Arinc
+returns-in-Arinc c = rw c.before.before.item-in-Arinc-1.given.1 c.plain_role-in-Arinc.ensures
 
-returns-6 : tie.Need-returns-6
-returns-6 c = rw c.before.before.item6.given.1 c.plain-role4.ensures
+returns-in-Notice : tie.Need-returns-in-Notice
+returns-in-Notice c = rw c.before.before.item-in-Notice-1.given.1 c.plain_role-in-Notice.ensures
 
-returns-7 : tie.Need-returns-7
-returns-7 c = rw c.before.before.item7.given.1 c.plain-role5.ensures
+returns-in-User : tie.Need-returns-in-User
+returns-in-User c = rw c.before.before.item-in-User-1.given.1 c.plain_role-in-User.ensures
 
-returns-8 : tie.Need-returns-8
-returns-8 c = rw c.before.before.item8.given.1 c.plain-role6.ensures
+returns-in-Overflow : tie.Need-returns-in-Overflow
+returns-in-Overflow c = rw c.before.before.item-in-Overflow-1.given.1 c.plain_role-in-Overflow.ensures
 
 pub role_of_spec : {M : Type 1} → statement M
 role_of_spec =
     tie.close
     (tie.spec
-    enum-known-item
-    command-role-requires
-    enum-known-item-2
-    status-role-requires
-    enum-known-item-3
-    plain-role-requires
-    enum-known-item-4
-    plain-role-requires-2
-    enum-known-item-5
-    plain-role-requires-3
-    enum-known-item-6
-    plain-role-requires-4
-    enum-known-item-7
-    plain-role-requires-5
-    enum-known-item-8
-    plain-role-requires-6
-    returns
-    returns-2
-    returns-3
-    returns-4
-    returns-5
-    returns-6
-    returns-7
-    returns-8)
+    enum_known-item
+    command_role-requires
+    enum_known-item-in-Status-1
+    status_role-requires
+    enum_known-item-in-Data-1
+    plain_role-requires
+    enum_known-item-in-BusError-1
+    plain_role-requires-in-BusError
+    enum_known-item-in-Arinc-1
+    plain_role-requires-in-Arinc
+    enum_known-item-in-Notice-1
+    plain_role-requires-in-Notice
+    enum_known-item-in-User-1
+    plain_role-requires-in-User
+    enum_known-item-in-Overflow-1
+    plain_role-requires-in-Overflow
+    returns-in-Command
+    returns-in-Status
+    returns-in-Data
+    returns-in-BusError
+    returns-in-Arinc
+    returns-in-Notice
+    returns-in-User
+    returns-in-Overflow)

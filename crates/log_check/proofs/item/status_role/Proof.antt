@@ -2,25 +2,25 @@ use borrow.Author.Rules.{rules}
 use Rattle.log_check.proofs.item.status_role.Statement.{statement}
 use Rattle.log_check.proofs.item.status_role.Tie as tie
 
-enum_told : tie.Need-enum-told
-enum_told c = search rules
+enum_told-1 : tie.Need-enum_told-1
+enum_told-1 c = search rules
 
-plain-role-requires : tie.Need-plain-role-requires
-plain-role-requires c κs = search rules
+plain_role-requires : tie.Need-plain_role-requires
+plain_role-requires c κs = search rules
 
-enum-told-2 : tie.Need-enum-told-2
-enum-told-2 c = search rules
+enum_told-in-After : tie.Need-enum_told-in-After
+enum_told-in-After c = search rules
 
-plain-role-requires-2 : tie.Need-plain-role-requires-2
-plain-role-requires-2 c κs = search rules
+plain_role-requires-in-After : tie.Need-plain_role-requires-in-After
+plain_role-requires-in-After c κs = search rules
 
-returns : tie.Need-returns
-returns c = rw c.before.enum_told.given.1 c.plain-role.ensures
+returns-in-Untimed : tie.Need-returns-in-Untimed
+returns-in-Untimed c = rw c.before.enum_told-1.given.1 c.plain_role.ensures
 
-returns-2 : tie.Need-returns-2
-returns-2 c = rw c.before.enum-told2.given.1 c.plain-role2.ensures
+returns-in-After : tie.Need-returns-in-After
+returns-in-After c = rw c.before.enum_told-in-After-1.given.1 c.plain_role-in-After.ensures
 
 pub status_role_spec : {M : Type 1} → statement M
 status_role_spec =
     tie.close
-    (tie.spec enum_told plain-role-requires enum-told-2 plain-role-requires-2 returns returns-2)
+    (tie.spec enum_told-1 plain_role-requires enum_told-in-After plain_role-requires-in-After returns-in-Untimed returns-in-After)

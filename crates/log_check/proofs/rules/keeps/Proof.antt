@@ -7,17 +7,17 @@ use Rattle.log_check.proofs.rules.keeps.Tie as tie
 licence-requires : tie.Need-licence-requires
 licence-requires c κs = search rules
 
-returns : tie.Need-returns
-returns c = rw c.match.keys1 refl
+returns-in-0 : tie.Need-returns-in-0
+returns-in-0 c = rw c.in_default.keys1 refl
 
-returns-2 : tie.Need-returns-2
-returns-2 c = rw c.match.keys2 refl
+returns-in-1 : tie.Need-returns-in-1
+returns-in-1 c = rw c.in_default.keys2 refl
 
-returns-3 : tie.Need-returns-3
-returns-3 c = rw c.before.match.keys3 c.licence.ensures
+returns-in-2 : tie.Need-returns-in-2
+returns-in-2 c = rw c.before.in_default.keys3 c.licence.ensures
 
-returns-4 : tie.Need-returns-4
-returns-4 c = simp (ne_eqb _ _ c.before.match.rest.1, ne_eqb _ _ c.before.match.rest.0.1, ne_eqb _ _ c.before.match.rest.0.0.1)
+returns-in_default : tie.Need-returns-in_default
+returns-in_default c = simp (ne_eqb _ _ c.before.in_default.rest.1, ne_eqb _ _ c.before.in_default.rest.0.1, ne_eqb _ _ c.before.in_default.rest.0.0.1)
 
 pub keeps_spec : {M : Type 1} → statement M
-keeps_spec = tie.close (tie.spec licence-requires returns returns-2 returns-3 returns-4)
+keeps_spec = tie.close (tie.spec licence-requires returns-in-0 returns-in-1 returns-in-2 returns-in_default)

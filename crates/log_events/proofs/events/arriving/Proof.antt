@@ -8,51 +8,51 @@ use borrow.Author.Rules.{rules}
 use Rattle.log_events.proofs.events.arriving.Statement.{statement}
 use Rattle.log_events.proofs.events.arriving.Tie as tie
 
-abbrev invariant-loop : tie.invariant-loop
-invariant-loop events number₀ i₀ number i = (i ≤ length events) × (number ≤ i) × (arrivals events ≡ number + arrivals (drop i events))
+abbrev invariant-loop-i : tie.invariant-loop-i
+invariant-loop-i events number₀ i₀ number i = (i ≤ length events) × (number ≤ i) × (arrivals events ≡ number + arrivals (drop i events))
 
-abbrev decreases-loop : tie.decreases-loop
-decreases-loop events number₀ i₀ number i = length events - i
+abbrev decreases-loop-i : tie.decreases-loop-i
+decreases-loop-i events number₀ i₀ number i = length events - i
 
-loop-holds : tie.Need-loop-init invariant-loop decreases-loop
-loop-holds c = search rules
+loop-i-init : tie.Need-loop-i-init invariant-loop-i decreases-loop-i
+loop-i-init c = search rules
 
-shared-slice-read-arrives : tie.Need-shared-slice-read-arrives invariant-loop decreases-loop
-shared-slice-read-arrives c = search rules
+bounds-events-i : tie.Need-bounds-events-i invariant-loop-i decreases-loop-i
+bounds-events-i c = search rules
 
-arrives-requires : tie.Need-arrives-requires invariant-loop decreases-loop
-arrives-requires c κs = search rules
+arrives-number-requires : tie.Need-arrives-number-requires invariant-loop-i decreases-loop-i
+arrives-number-requires c κs = search rules
 
-add-number : tie.Need-overflow-add-number invariant-loop decreases-loop
-add-number c = omega (arith, c.arrives.ensures.1)
+overflow_add-number : tie.Need-overflow_add-number invariant-loop-i decreases-loop-i
+overflow_add-number c = omega (arith, c.arrives-number.ensures.1)
 
-add-i : tie.Need-overflow-add-i invariant-loop decreases-loop
-add-i c = search rules
+overflow_add-i : tie.Need-overflow_add-i invariant-loop-i decreases-loop-i
+overflow_add-i c = search rules
 
-loop-less : tie.Need-loop-smaller invariant-loop decreases-loop
-loop-less c = search rules
+loop-i-smaller : tie.Need-loop-i-smaller invariant-loop-i decreases-loop-i
+loop-i-smaller c = search rules
 
-loop-again : tie.Need-loop-preserved invariant-loop decreases-loop
-loop-again c =
+loop-i-preserved : tie.Need-loop-i-preserved invariant-loop-i decreases-loop-i
+loop-i-preserved c =
     let test = c.before.before in
     let o = test.before in
-    let m = arrivals_more o.before.before.args.events.now o.loop.i test.loop-test.true in
-    (omega arith, omega (arith, o.loop.invariant.1, c.arrives.ensures.1), o.loop.invariant.2 ∙ omega (arith, m, c.arrives.ensures.0))
+    let m = arrivals_more o.before.before.args.events.now o.loop-i.i test.loop-i-test.true in
+    (omega arith, omega (arith, o.loop-i.invariant.1, c.arrives-number.ensures.1), o.loop-i.invariant.2 ∙ omega (arith, m, c.arrives-number.ensures.0))
 
-returns : tie.Need-returns invariant-loop decreases-loop
-returns c = let o = c.before in sym (o.loop.invariant.2 ∙ omega (arith, arrivals_end o.before.before.args.events.now o.loop.i c.loop-test.false))
+returns : tie.Need-returns invariant-loop-i decreases-loop-i
+returns c = let o = c.before in sym (o.loop-i.invariant.2 ∙ omega (arith, arrivals_end o.before.before.args.events.now o.loop-i.i c.loop-i-test.false))
 
 pub arriving_spec : {M : Type 1} → statement M
 arriving_spec =
     tie.close
     (tie.spec
-    invariant-loop
-    decreases-loop
-    loop-holds
-    shared-slice-read-arrives
-    arrives-requires
-    add-number
-    add-i
-    loop-less
-    loop-again
+    invariant-loop-i
+    decreases-loop-i
+    loop-i-init
+    bounds-events-i
+    arrives-number-requires
+    overflow_add-number
+    overflow_add-i
+    loop-i-smaller
+    loop-i-preserved
     returns)

@@ -7,32 +7,32 @@ use borrow.Author.Rules.{rules}
 use Rattle.log_events.proofs.events.in_bounds.Statement.{statement}
 use Rattle.log_events.proofs.events.in_bounds.Tie as tie
 
-in_limits : (c : tie.Else1) → let a = c.before.before.before.args in limits_by (length a.events.now) a.capacity a.slots ≡ true
-in_limits c = sym c.before.limits.ensures ∙ not_false c.before.limits.result c.if1.false
+in_limits : (c : tie.Else-not-limits) → let a = c.before.before.before.args in limits_by (length a.events.now) a.capacity a.slots ≡ true
+in_limits c = sym c.before.limits.ensures ∙ not_false c.before.limits.result c.if-not-limits.false
 
 limits-requires : tie.Need-limits-requires
 limits-requires c κs = search rules
 
-returns : tie.Need-returns
-returns c = rw (sym c.before.limits.ensures ∙ not_true c.before.limits.result c.if1.true) refl
+returns-then-not-limits : tie.Need-returns-then-not-limits
+returns-then-not-limits c = rw (sym c.before.limits.ensures ∙ not_true c.before.limits.result c.if-not-limits.true) refl
 
 known-requires : tie.Need-known-requires
 known-requires c κs = search rules
 
-returns-2 : tie.Need-returns-2
-returns-2 c =
+returns-then-not-known : tie.Need-returns-then-not-known
+returns-then-not-known c =
     let known = c.before in
-    rw (in_limits known.before, sym known.known.ensures ∙ not_true known.known.result c.if2.true) refl
+    rw (in_limits known.before, sym known.known.ensures ∙ not_true known.known.result c.if-not-known.true) refl
 
 arriving-requires : tie.Need-arriving-requires
 arriving-requires c κs = search rules
 
-returns-3 : tie.Need-returns-3
-returns-3 c =
+returns : tie.Need-returns
+returns c =
     let known = c.before.before in
-    rw (in_limits known.before, sym known.known.ensures ∙ not_false known.known.result c.before.if2.false, ← c.arriving.ensures) refl
+    rw (in_limits known.before, sym known.known.ensures ∙ not_false known.known.result c.before.if-not-known.false, ← c.arriving.ensures) refl
 
 pub in_bounds_spec : {M : Type 1} → statement M
 in_bounds_spec =
     tie.close
-    (tie.spec limits-requires returns known-requires returns-2 arriving-requires returns-3)
+    (tie.spec limits-requires returns-then-not-limits known-requires returns-then-not-known arriving-requires returns)

@@ -5,25 +5,25 @@ use borrow.Author.Rules.{rules}
 use Rattle.log_events.proofs.events.limits.Statement.{statement}
 use Rattle.log_events.proofs.events.limits.Tie as tie
 
-returns : tie.Need-returns
-returns c = rw (lt-leb c.before.args.events 65535 c.if1.true) refl
+returns-then-events-gt65535 : tie.Need-returns-then-events-gt65535
+returns-then-events-gt65535 c = rw (lt-leb c.before.args.events 65535 c.if-events-gt65535.true) refl
 
 within-requires : tie.Need-within-requires
 within-requires c κs = search rules
 
-returns-2 : tie.Need-returns-2
-returns-2 c =
+returns-then-not-within : tie.Need-returns-then-not-within
+returns-then-not-within c =
     let within = c.before in
-    rw (le-leb within.before.before.args.events 65535 within.before.if1.false, sym within.within.ensures ∙ not_true within.within.result c.if2.true) refl
+    rw (le-leb within.before.before.args.events 65535 within.before.if-events-gt65535.false, sym within.within.ensures ∙ not_true within.within.result c.if-not-within.true) refl
 
 within-requires-2 : tie.Need-within-requires-2
 within-requires-2 c κs = search rules
 
-returns-3 : tie.Need-returns-3
-returns-3 c =
+returns : tie.Need-returns
+returns c =
     let within = c.before.before in
-    rw (le-leb within.before.before.args.events 65535 within.before.if1.false, sym within.within.ensures ∙ not_false within.within.result c.before.if2.false)
-    c.within2.ensures
+    rw (le-leb within.before.before.args.events 65535 within.before.if-events-gt65535.false, sym within.within.ensures ∙ not_false within.within.result c.before.if-not-within.false)
+    c.within-2.ensures
 
 pub limits_spec : {M : Type 1} → statement M
-limits_spec = tie.close (tie.spec returns within-requires returns-2 within-requires-2 returns-3)
+limits_spec = tie.close (tie.spec returns-then-events-gt65535 within-requires returns-then-not-within within-requires-2 returns)

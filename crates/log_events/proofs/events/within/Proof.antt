@@ -4,11 +4,11 @@ use borrow.Author.Rules.{rules}
 use Rattle.log_events.proofs.events.within.Statement.{statement}
 use Rattle.log_events.proofs.events.within.Tie as tie
 
-returns : tie.Need-returns
-returns c = rw (lt-leb c.before.args.low c.before.args.value c.if1.true) refl
+returns-then-value-low : tie.Need-returns-then-value-low
+returns-then-value-low c = rw (lt-leb c.before.args.low c.before.args.value c.if-value-low.true) refl
 
-returns-2 : tie.Need-returns-2
-returns-2 c = rw (le-leb c.before.args.low c.before.args.value c.if1.false) refl
+returns : tie.Need-returns
+returns c = rw (le-leb c.before.args.low c.before.args.value c.if-value-low.false) refl
 
 pub within_spec : {M : Type 1} → statement M
-within_spec = tie.close (tie.spec returns returns-2)
+within_spec = tie.close (tie.spec returns-then-value-low returns)

@@ -14,96 +14,96 @@ use Rattle.log_events.proofs.Marks.{Looking, looking_start, looking_more, lookin
 use Rattle.log_events.proofs.refusals.first_mark.Statement.{statement}
 use Rattle.log_events.proofs.refusals.first_mark.Tie as tie
 
-abbrev invariant-loop : tie.invariant-loop
-invariant-loop log at₀ at = Looking log at.at
+abbrev invariant-loop-item : tie.invariant-loop-item
+invariant-loop-item log at₀ at = Looking log at.at
 
-abbrev decreases-loop : tie.decreases-loop
-decreases-loop log at₀ at = length log * 8 - at.at
+abbrev decreases-loop-item : tie.decreases-loop-item
+decreases-loop-item log at₀ at = length log * 8 - at.at
 
 -- the loop's place, the log, and what stands there
 abbrev Loop : Type 0
-Loop = tie.At-loop invariant-loop decreases-loop
+Loop = tie.At-loop-item invariant-loop-item decreases-loop-item
 
 abbrev the_log : Loop → List ℕ
 the_log c = c.before.before.args.log.now
 
 abbrev next : Loop → Next
-next c = next_at (bytes_bits (the_log c)) c.loop.at.at
+next c = next_at (bytes_bits (the_log c)) c.loop-item.at.at
 
 -- in a turn: the item and the place behind it
 abbrev Turn : Type 0
-Turn = tie.After-load-of invariant-loop decreases-loop
+Turn = tie.After-load_of invariant-loop-item decreases-loop-item
 
 abbrev at_turn : Turn → Loop
 at_turn c = c.before.before.before.before.before
 
 abbrev the_item : Turn → Item
-the_item c = c.before.before.item2.given.0.0
+the_item c = c.before.before.item-1.given.0.0
 
-here : (c : Turn) → Follows (the_log (at_turn c)) (at_turn c).loop.at.at (the_item c) c.before.before.item2.given.0.1.0.at
+here : (c : Turn) → Follows (the_log (at_turn c)) (at_turn c).loop-item.at.at (the_item c) c.before.before.item-1.given.0.1.0.at
 here c =
-    let i = c.before.before.item2.given in
-    follows (the_log (at_turn c)) (at_turn c).loop.at.at c.before.before.before.before.item.result i.0.0 i.0.1.0
+    let i = c.before.before.item-1.given in
+    follows (the_log (at_turn c)) (at_turn c).loop-item.at.at c.before.before.before.before.item.result i.0.0 i.0.1.0
     c.before.before.before.before.item.ensures i.1
 
 seen : (c : Turn) → (load_of (the_item c)).mark ≡ c.load_of.result.mark
 seen c = ap (λ (l : Load). l.mark) (sym c.load_of.ensures)
 
-loop-holds : tie.Need-loop-init invariant-loop decreases-loop
-loop-holds c = looking_start c.before.args.log.now c.before.requires.0 c.before.requires.1
+loop-item-init : tie.Need-loop-item-init invariant-loop-item decreases-loop-item
+loop-item-init c = looking_start c.before.args.log.now c.before.requires.0 c.before.requires.1
 
-item-requires : tie.Need-item-requires invariant-loop decreases-loop
+item-requires : tie.Need-item-requires invariant-loop-item decreases-loop-item
 item-requires c κs = search rules
 
-enum-known-item : tie.Need-enum-known-item invariant-loop decreases-loop
-enum-known-item c = search rules
+enum_known-item : tie.Need-enum_known-item invariant-loop-item decreases-loop-item
+enum_known-item c = search rules
 
-load-of-requires : tie.Need-load-of-requires invariant-loop decreases-loop
-load-of-requires c κs = search rules
+load_of-requires : tie.Need-load_of-requires invariant-loop-item decreases-loop-item
+load_of-requires c κs = search rules
 
-returns : tie.Need-returns invariant-loop decreases-loop
-returns c =
+returns-then-load_of : tie.Need-returns-then-load_of invariant-loop-item decreases-loop-item
+returns-then-load_of c =
     let t : Turn = c.before in
-    rw (looking_mark (at_turn t).loop.invariant (the_item t) _ (here t) (seen t ∙ c.if1.true)) refl
+    rw (looking_mark (at_turn t).loop-item.invariant (the_item t) _ (here t) (seen t ∙ c.if-load_of.true)) refl
 
-loop-less : tie.Need-loop-smaller invariant-loop decreases-loop
-loop-less c = let f = here c.before in omega (arith, f.far, f.fits)
+loop-item-smaller : tie.Need-loop-item-smaller invariant-loop-item decreases-loop-item
+loop-item-smaller c = let f = here c.before in omega (arith, f.far, f.fits)
 
-loop-again : tie.Need-loop-preserved invariant-loop decreases-loop
-loop-again c =
+loop-item-preserved : tie.Need-loop-item-preserved invariant-loop-item decreases-loop-item
+loop-item-preserved c =
     let t : Turn = c.before in
-    looking_more (at_turn t).loop.invariant (the_item t) _ (here t) (seen t ∙ c.if1.false)
+    looking_more (at_turn t).loop-item.invariant (the_item t) _ (here t) (seen t ∙ c.if-load_of.false)
 
-enum_told : tie.Need-enum-told invariant-loop decreases-loop
-enum_told c = search rules
+enum_told-1 : tie.Need-enum_told-1 invariant-loop-item decreases-loop-item
+enum_told-1 c = search rules
 
-returns-2 : tie.Need-returns-2 invariant-loop decreases-loop
-returns-2 c =
+returns-in-End : tie.Need-returns-in-End invariant-loop-item decreases-loop-item
+returns-in-End c =
     let o : Loop = c.before.before.before in
-    rw (looking_over o.loop.invariant (found_end (next o) (sym c.before.before.item.ensures ∙ c.enum_told.given.1))) refl
+    rw (looking_over o.loop-item.invariant (found_end (next o) (sym c.before.before.item.ensures ∙ c.enum_told-1.given.1))) refl
 
-enum-told-2 : tie.Need-enum-told-2 invariant-loop decreases-loop
-enum-told-2 c = search rules
+enum_told-in-Wrong : tie.Need-enum_told-in-Wrong invariant-loop-item decreases-loop-item
+enum_told-in-Wrong c = search rules
 
-returns-3 : tie.Need-returns-3 invariant-loop decreases-loop
-returns-3 c =
+returns-in-Wrong : tie.Need-returns-in-Wrong invariant-loop-item decreases-loop-item
+returns-in-Wrong c =
     let o : Loop = c.before.before.before in
-    absurd (looking_never o.loop.invariant (found_wrong (next o) (sym c.before.before.item.ensures ∙ c.enum-told2.given.1)))
+    absurd (looking_never o.loop-item.invariant (found_wrong (next o) (sym c.before.before.item.ensures ∙ c.enum_told-in-Wrong-1.given.1)))
 
 pub first_mark_spec : {M : Type 1} → statement M
 first_mark_spec =
     tie.close
     (tie.spec
-    invariant-loop
-    decreases-loop
-    loop-holds
+    invariant-loop-item
+    decreases-loop-item
+    loop-item-init
     item-requires
-    enum-known-item
-    load-of-requires
-    returns
-    loop-less
-    loop-again
-    enum_told
-    returns-2
-    enum-told-2
-    returns-3)
+    enum_known-item
+    load_of-requires
+    returns-then-load_of
+    loop-item-smaller
+    loop-item-preserved
+    enum_told-1
+    returns-in-End
+    enum_told-in-Wrong
+    returns-in-Wrong)

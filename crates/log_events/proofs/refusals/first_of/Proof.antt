@@ -3,20 +3,20 @@ use borrow.Author.Rules.{rules}
 use Rattle.log_events.proofs.refusals.first_of.Statement.{statement}
 use Rattle.log_events.proofs.refusals.first_of.Tie as tie
 
-returns : tie.Need-returns
-returns c = rw c.if1.true refl
+returns-then-bounded : tie.Need-returns-then-bounded
+returns-then-bounded c = rw c.if-bounded.true refl
 
-enum_told : tie.Need-enum-told
-enum_told c = search rules
+enum_told-1 : tie.Need-enum_told-1
+enum_told-1 c = search rules
 
-enum-known-mark : tie.Need-enum-known-mark
-enum-known-mark c = search rules
+enum_known-mark : tie.Need-enum_known-mark
+enum_known-mark c = search rules
 
-returns-2 : tie.Need-returns-2
-returns-2 c = rw (c.before.before.if1.false, c.enum_told.given.1) refl
+returns-in-May : tie.Need-returns-in-May
+returns-in-May c = rw (c.before.before.if-bounded.false, c.enum_told-1.given.1) refl
 
-returns-3 : tie.Need-returns-3
-returns-3 c = rw (c.before.before.before.if1.false, c.before.mark.given.1) refl
+returns-in-Not : tie.Need-returns-in-Not
+returns-in-Not c = rw (c.before.before.before.if-bounded.false, c.before.mark-1.given.1) refl
 
 pub first_of_spec : {M : Type 1} → statement M
-first_of_spec = tie.close (tie.spec returns enum_told enum-known-mark returns-2 returns-3)
+first_of_spec = tie.close (tie.spec returns-then-bounded enum_told-1 enum_known-mark returns-in-May returns-in-Not)

@@ -8,22 +8,22 @@ use borrow.Author.Rules.{rules}
 use Rattle.log_events.proofs.refusals.judge.Statement.{statement}
 use Rattle.log_events.proofs.refusals.judge.Tie as tie
 
-first-mark-requires : tie.Need-first-mark-requires
-first-mark-requires c κs = search rules
+first_mark-mark-requires : tie.Need-first_mark-mark-requires
+first_mark-mark-requires c κs = search rules
 
-in-bounds-requires : tie.Need-in-bounds-requires
-in-bounds-requires c κs = search rules
+in_bounds-requires : tie.Need-in_bounds-requires
+in_bounds-requires c κs = search rules
 
-first-of-requires : tie.Need-first-of-requires
-first-of-requires c κs = search rules
+first_of-requires : tie.Need-first_of-requires
+first_of-requires c κs = search rules
 
 returns : tie.Need-returns
 returns c =
     let bounds = c.before in
     let first = bounds.before in
     let a = first.before.before.before.args in
-    c.first_of.ensures ∙ ap₂ first_of first.first-mark.ensures bounds.in_bounds.ensures
+    c.first_of.ensures ∙ ap₂ first_of first.first_mark-mark.ensures bounds.in_bounds.ensures
     ∙ first_verdict (first_mark 0 (items_of (parsed on_no_plan a.log.now))) (bounded_by a.events.now a.capacity a.slots a.count)
 
 pub judge_spec : {M : Type 1} → statement M
-judge_spec = tie.close (tie.spec first-mark-requires in-bounds-requires first-of-requires returns)
+judge_spec = tie.close (tie.spec first_mark-mark-requires in_bounds-requires first_of-requires returns)

@@ -5,29 +5,29 @@ use borrow.Author.Rules.{rules}
 use Rattle.log_read.proofs.Cursor.ends.Statement.{statement}
 use Rattle.log_read.proofs.Cursor.ends.Tie as tie
 
-sub-left : tie.Need-overflow-sub-left
-sub-left c = search rules
+overflow_sub-left : tie.Need-overflow_sub-left
+overflow_sub-left c = search rules
+
+returns-then-left-lt4 : tie.Need-returns-then-left-lt4
+unfolding ends_of
+returns-then-left-lt4 c =
+    rw (lt-leb 4 _ c.if-left-lt4.true)
+
+returns-then-left-ge12 : tie.Need-returns-then-left-ge12
+unfolding ends_of
+returns-then-left-ge12 c =
+    rw (le-leb 4 _ c.before.if-left-lt4.false, le-ltb _ 12 c.if-left-ge12.true)
+
+overflow_cast-left : tie.Need-overflow_cast-left
+overflow_cast-left c = search rules
+
+take-rest-requires : tie.Need-take-rest-requires
+take-rest-requires c κs = search rules
 
 returns : tie.Need-returns
 unfolding ends_of
 returns c =
-    rw (lt-leb 4 _ c.if1.true)
-
-returns-2 : tie.Need-returns-2
-unfolding ends_of
-returns-2 c =
-    rw (le-leb 4 _ c.before.if1.false, le-ltb _ 12 c.if2.true)
-
-cast-take : tie.Need-overflow-cast-take
-cast-take c = search rules
-
-take-requires : tie.Need-take-requires
-take-requires c κs = search rules
-
-returns-3 : tie.Need-returns-3
-unfolding ends_of
-returns-3 c =
-    rw (le-leb 4 _ c.before.before.before.if1.false, lt-ltb _ 12 c.before.before.if2.false, ← c.before.take.ensures.0)
+    rw (le-leb 4 _ c.before.before.before.if-left-lt4.false, lt-ltb _ 12 c.before.before.if-left-ge12.false, ← c.before.take-rest.ensures.0)
 
 pub ends_spec : {M : Type 1} → statement M
-ends_spec = tie.close (tie.spec sub-left returns returns-2 cast-take take-requires returns-3)
+ends_spec = tie.close (tie.spec overflow_sub-left returns-then-left-lt4 returns-then-left-ge12 overflow_cast-left take-rest-requires returns)

@@ -6,22 +6,22 @@ use borrow.Author.Rules.{rules}
 use Rattle.log_read.proofs.Cursor.filled_in.Statement.{statement}
 use Rattle.log_read.proofs.Cursor.filled_in.Tie as tie
 
-eight-in-requires : tie.Need-eight-in-requires
-eight-in-requires c κs = search rules
+eight_in-requires : tie.Need-eight_in-requires
+eight_in-requires c κs = search rules
 
-cast-t7 : tie.Need-overflow-cast-t7
-cast-t7 c = search rules
+overflow_cast-result : tie.Need-overflow_cast-result
+overflow_cast-result c = search rules
 
-cast-t8 : tie.Need-overflow-cast-t8
-cast-t8 c = search rules
+overflow_cast-result-2 : tie.Need-overflow_cast-result-2
+overflow_cast-result-2 c = search rules
 
-shl-t9 : tie.Need-overflow-shl-t9
-shl-t9 c = search rules
+overflow_shl-result : tie.Need-overflow_shl-result
+overflow_shl-result c = search rules
 
 returns : tie.Need-returns
 unfolding ahead_of
 returns c =
-    rw (← said_is _ _ c.eight-in.result (omega arith) c.eight-in.ensures) (refl, refl)
+    rw (← said_is _ _ c.eight_in.result (omega arith) c.eight_in.ensures) (refl, refl)
 
 pub filled_in_spec : {M : Type 1} → statement M
-filled_in_spec = tie.close (tie.spec eight-in-requires cast-t7 cast-t8 shl-t9 returns)
+filled_in_spec = tie.close (tie.spec eight_in-requires overflow_cast-result overflow_cast-result-2 overflow_shl-result returns)

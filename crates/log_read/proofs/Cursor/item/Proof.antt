@@ -16,37 +16,37 @@ use Rattle.log_read.proofs.Cursor.item.Statement.{statement}
 use Rattle.log_read.proofs.Cursor.item.Tie as tie
 
 -- the function's entry, from where the head was read; the log and the place
-abbrev entry : tie.After-head → tie.Start
+abbrev entry : tie.After-head-head → tie.Start
 entry c = c.before.before.before.before.before
 
-abbrev log : tie.After-head → List ℕ
+abbrev log : tie.After-head-head → List ℕ
 log c = (entry c).args.log.now
 
-abbrev place : tie.After-head → ℕ
+abbrev place : tie.After-head-head → ℕ
 place c = (entry c).args.self.at
 
-ahead : (c : tie.After-head) → Ahead (bytes_bits (log c)) (place c) 57 0 c.before.filled.result
-ahead c = filled_ahead (log c) (place c) c.before.filled.ensures.0
+ahead : (c : tie.After-head-head) → Ahead (bytes_bits (log c)) (place c) 57 0 c.before.filled-from.result
+ahead c = filled_ahead (log c) (place c) c.before.filled-from.ensures.0
 
-here : (c : tie.After-head) → Heads (bytes_bits (log c)) (place c) c.head.result
-here c = head_read (ahead c) c.head.ensures.0
+here : (c : tie.After-head-head) → Heads (bytes_bits (log c)) (place c) c.head-head.result
+here c = head_read (ahead c) c.head-head.ensures.0
 
-mul-total : tie.Need-overflow-mul-total
-mul-total c = search rules
+overflow_mul-total : tie.Need-overflow_mul-total
+overflow_mul-total c = search rules
 
-returns : tie.Need-returns
-returns c =
+returns-then-total-self : tie.Need-returns-then-total-self
+returns-then-total-self c =
     let a = c.before.before.before.args in
     rw (next_past (bytes_bits a.log.now) a.self.at (omega (arith, length_bytes a.log.now)))
 
-filled-requires : tie.Need-filled-requires
-filled-requires c κs = search rules
+filled-from-requires : tie.Need-filled-from-requires
+filled-from-requires c κs = search rules
 
-head-requires : tie.Need-head-requires
-head-requires c κs = search rules
+head-head-requires : tie.Need-head-head-requires
+head-head-requires c κs = search rules
 
-end-mark-requires : tie.Need-end-mark-requires
-end-mark-requires c κs = search rules
+end_mark-requires : tie.Need-end_mark-requires
+end_mark-requires c κs = search rules
 
 command-requires : tie.Need-command-requires
 command-requires c κs = search rules
@@ -57,8 +57,8 @@ status-requires c κs = search rules
 data-requires : tie.Need-data-requires
 data-requires c κs = search rules
 
-bus-error-requires : tie.Need-bus-error-requires
-bus-error-requires c κs = search rules
+bus_error-requires : tie.Need-bus_error-requires
+bus_error-requires c κs = search rules
 
 arinc-requires : tie.Need-arinc-requires
 arinc-requires c κs = search rules
@@ -72,39 +72,39 @@ user-requires c κs = search rules
 overflow-requires : tie.Need-overflow-requires
 overflow-requires c κs = search rules
 
-returns-2 : tie.Need-returns-2
-returns-2 c =
+returns-in-0 : tie.Need-returns-in-0
+returns-in-0 c =
     let h = c.before.before in
-    rw (ends_here (ahead h) _ (length_bytes (log h)) (omega arith) (sym (ap (λ (r : Head). r.kind) h.head.ensures.0) ∙ c.before.match.keys1)) c.end_mark.ensures
+    rw (ends_here (ahead h) _ (length_bytes (log h)) (omega arith) (sym (ap (λ (r : Head). r.kind) h.head-head.ensures.0) ∙ c.before.in_default.keys1)) c.end_mark.ensures
 
-returns-3 : tie.Need-returns-3
-returns-3 c = found_item (here c.before.before) 1 (omega arith) c.before.match.keys2 c.command.ensures
+returns-in-1 : tie.Need-returns-in-1
+returns-in-1 c = found_item (here c.before.before) 1 (omega arith) c.before.in_default.keys2 c.command.ensures
 
-returns-4 : tie.Need-returns-4
-returns-4 c = found_item (here c.before.before) 2 (omega arith) c.before.match.keys3 (c.status.ensures _ (length_bytes (log c.before.before)))
+returns-in-2 : tie.Need-returns-in-2
+returns-in-2 c = found_item (here c.before.before) 2 (omega arith) c.before.in_default.keys3 (c.status.ensures _ (length_bytes (log c.before.before)))
 
-returns-5 : tie.Need-returns-5
-returns-5 c = found_item (here c.before.before) 3 (omega arith) c.before.match.keys4 (c.data.ensures _ (length_bytes (log c.before.before)))
+returns-in-3 : tie.Need-returns-in-3
+returns-in-3 c = found_item (here c.before.before) 3 (omega arith) c.before.in_default.keys4 (c.data.ensures _ (length_bytes (log c.before.before)))
 
-returns-6 : tie.Need-returns-6
-returns-6 c = found_item (here c.before.before) 4 (omega arith) c.before.match.keys5 (c.bus-error.ensures _ (length_bytes (log c.before.before)))
+returns-in-4 : tie.Need-returns-in-4
+returns-in-4 c = found_item (here c.before.before) 4 (omega arith) c.before.in_default.keys5 (c.bus_error.ensures _ (length_bytes (log c.before.before)))
 
-returns-7 : tie.Need-returns-7
-returns-7 c = found_item (here c.before.before) 5 (omega arith) c.before.match.keys6 c.arinc.ensures
+returns-in-5 : tie.Need-returns-in-5
+returns-in-5 c = found_item (here c.before.before) 5 (omega arith) c.before.in_default.keys6 c.arinc.ensures
 
-returns-8 : tie.Need-returns-8
-returns-8 c = found_item (here c.before.before) 6 (omega arith) c.before.match.keys7 (c.notice.ensures _ (length_bytes (log c.before.before)))
+returns-in-6 : tie.Need-returns-in-6
+returns-in-6 c = found_item (here c.before.before) 6 (omega arith) c.before.in_default.keys7 (c.notice.ensures _ (length_bytes (log c.before.before)))
 
-returns-9 : tie.Need-returns-9
-returns-9 c = found_item (here c.before.before) 7 (omega arith) c.before.match.keys8 (c.user.ensures _ (length_bytes (log c.before.before)))
+returns-in-7 : tie.Need-returns-in-7
+returns-in-7 c = found_item (here c.before.before) 7 (omega arith) c.before.in_default.keys8 (c.user.ensures _ (length_bytes (log c.before.before)))
 
-returns-10 : tie.Need-returns-10
-returns-10 c = found_item (here c.before.before) 8 (omega arith) c.before.match.keys9 (c.overflow.ensures _ (length_bytes (log c.before.before)))
+returns-in-8 : tie.Need-returns-in-8
+returns-in-8 c = found_item (here c.before.before) 8 (omega arith) c.before.in_default.keys9 (c.overflow.ensures _ (length_bytes (log c.before.before)))
 
-returns-11 : tie.Need-returns-11
-returns-11 c =
-    let r = c.match.rest in
-    let k = c.before.head.result.kind in
+returns-in_default : tie.Need-returns-in_default
+returns-in_default c =
+    let r = c.in_default.rest in
+    let k = c.before.head-head.result.kind in
     rw (
       next_item (here c.before) r.0.0.0.0.0.0.0.0.1,
       none_other (bytes_bits (log c.before)) (place c.before) k r.0.0.0.0.0.0.0.1 r.0.0.0.0.0.0.1
@@ -115,26 +115,26 @@ pub item_spec : {M : Type 1} → statement M
 item_spec =
     tie.close
     (tie.spec
-    mul-total
-    returns
-    filled-requires
-    head-requires
-    end-mark-requires
+    overflow_mul-total
+    returns-then-total-self
+    filled-from-requires
+    head-head-requires
+    end_mark-requires
     command-requires
     status-requires
     data-requires
-    bus-error-requires
+    bus_error-requires
     arinc-requires
     notice-requires
     user-requires
     overflow-requires
-    returns-2
-    returns-3
-    returns-4
-    returns-5
-    returns-6
-    returns-7
-    returns-8
-    returns-9
-    returns-10
-    returns-11)
+    returns-in-0
+    returns-in-1
+    returns-in-2
+    returns-in-3
+    returns-in-4
+    returns-in-5
+    returns-in-6
+    returns-in-7
+    returns-in-8
+    returns-in_default)

@@ -4,22 +4,22 @@ use borrow.Author.Rules.{rules}
 use Rattle.log_read.proofs.Cursor.marked.Statement.{statement}
 use Rattle.log_read.proofs.Cursor.marked.Tie as tie
 
-take-requires : tie.Need-take-requires
-take-requires c κs = search rules
+take-side-requires : tie.Need-take-side-requires
+take-side-requires c κs = search rules
 
-take-requires-2 : tie.Need-take-requires-2
-take-requires-2 c κs = search rules
+take-mark-requires : tie.Need-take-mark-requires
+take-mark-requires c κs = search rules
 
-take-requires-3 : tie.Need-take-requires-3
-take-requires-3 c κs = search rules
+take-word-requires : tie.Need-take-word-requires
+take-word-requires c κs = search rules
 
 returns : tie.Need-returns
 unfolding marked_of
 returns c =
-    let side = c.before.before.before.take.ensures in
-    let mark = c.before.before.take2.ensures in
-    let word = c.before.take3.ensures in
+    let side = c.before.before.before.take-side.ensures in
+    let mark = c.before.before.take-mark.ensures in
+    let word = c.before.take-word.ensures in
     (rw (word.0, mark.0, side.0), omega arith, omega arith, omega arith, omega arith)
 
 pub marked_spec : {M : Type 1} → statement M
-marked_spec = tie.close (tie.spec take-requires take-requires-2 take-requires-3 returns)
+marked_spec = tie.close (tie.spec take-side-requires take-mark-requires take-word-requires returns)

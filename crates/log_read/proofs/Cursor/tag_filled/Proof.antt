@@ -6,49 +6,49 @@ use borrow.Author.Rules.{rules}
 use Rattle.log_read.proofs.Cursor.tag_filled.Statement.{statement}
 use Rattle.log_read.proofs.Cursor.tag_filled.Tie as tie
 
-add-last : tie.Need-overflow-add-last
-add-last c = search rules
+overflow_add-last : tie.Need-overflow_add-last
+overflow_add-last c = search rules
 
-sub-eight-in : tie.Need-overflow-sub-eight-in
-sub-eight-in c = search rules
+overflow_sub-last : tie.Need-overflow_sub-last
+overflow_sub-last c = search rules
 
-eight-in-requires : tie.Need-eight-in-requires
-eight-in-requires c κs = search rules
+eight_in-requires : tie.Need-eight_in-requires
+eight_in-requires c κs = search rules
 
-add-t7 : tie.Need-overflow-add-t7
-add-t7 c = search rules
+overflow_add-result : tie.Need-overflow_add-result
+overflow_add-result c = search rules
 
-mul-t8 : tie.Need-overflow-mul-t8
-mul-t8 c = search rules
+overflow_mul-result : tie.Need-overflow_mul-result
+overflow_mul-result c = search rules
 
-sub-t9 : tie.Need-overflow-sub-t9
-sub-t9 c = search rules
+overflow_sub-result : tie.Need-overflow_sub-result
+overflow_sub-result c = search rules
 
-cast-t10 : tie.Need-overflow-cast-t10
-cast-t10 c = search rules
+overflow_cast-result : tie.Need-overflow_cast-result
+overflow_cast-result c = search rules
 
-cast-t11 : tie.Need-overflow-cast-t11
-cast-t11 c = search rules
+overflow_cast-result-2 : tie.Need-overflow_cast-result-2
+overflow_cast-result-2 c = search rules
 
-shl-t12 : tie.Need-overflow-shl-t12
-shl-t12 c = search rules
+overflow_shl-result : tie.Need-overflow_shl-result
+overflow_shl-result c = search rules
 
 returns : tie.Need-returns
 unfolding ahead_of
 returns c =
-    rw (← said_is _ _ c.eight-in.result (omega arith) c.eight-in.ensures) (refl, refl)
+    rw (← said_is _ _ c.eight_in.result (omega arith) c.eight_in.ensures) (refl, refl)
 
 pub tag_filled_spec : {M : Type 1} → statement M
 tag_filled_spec =
     tie.close
     (tie.spec
-    add-last
-    sub-eight-in
-    eight-in-requires
-    add-t7
-    mul-t8
-    sub-t9
-    cast-t10
-    cast-t11
-    shl-t12
+    overflow_add-last
+    overflow_sub-last
+    eight_in-requires
+    overflow_add-result
+    overflow_mul-result
+    overflow_sub-result
+    overflow_cast-result
+    overflow_cast-result-2
+    overflow_shl-result
     returns)

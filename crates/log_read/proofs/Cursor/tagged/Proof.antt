@@ -4,22 +4,22 @@ use borrow.Author.Rules.{rules}
 use Rattle.log_read.proofs.Cursor.tagged.Statement.{statement}
 use Rattle.log_read.proofs.Cursor.tagged.Tie as tie
 
-take-requires : tie.Need-take-requires
-take-requires c κs = search rules
+take-high-requires : tie.Need-take-high-requires
+take-high-requires c κs = search rules
 
-take-requires-2 : tie.Need-take-requires-2
-take-requires-2 c κs = search rules
+take-low-requires : tie.Need-take-low-requires
+take-low-requires c κs = search rules
 
-take-requires-3 : tie.Need-take-requires-3
-take-requires-3 c κs = search rules
+take-micro-requires : tie.Need-take-micro-requires
+take-micro-requires c κs = search rules
 
 returns : tie.Need-returns
 unfolding tagged_of
 returns c =
-    let high = c.before.before.before.take.ensures in
-    let low = c.before.before.take2.ensures in
-    let micro = c.before.take3.ensures in
+    let high = c.before.before.before.take-high.ensures in
+    let low = c.before.before.take-low.ensures in
+    let micro = c.before.take-micro.ensures in
     (rw (micro.0, low.0, high.0), omega arith, omega arith, omega arith, omega arith)
 
 pub tagged_spec : {M : Type 1} → statement M
-tagged_spec = tie.close (tie.spec take-requires take-requires-2 take-requires-3 returns)
+tagged_spec = tie.close (tie.spec take-high-requires take-low-requires take-micro-requires returns)

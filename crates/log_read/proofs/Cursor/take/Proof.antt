@@ -6,24 +6,24 @@ use borrow.Author.Rules.{rules}
 use Rattle.log_read.proofs.Cursor.take.Statement.{statement}
 use Rattle.log_read.proofs.Cursor.take.Tie as tie
 
-sub-field : tie.Need-overflow-sub-field
-sub-field c = search rules
+overflow_sub-field : tie.Need-overflow_sub-field
+overflow_sub-field c = search rules
 
-cast-field : tie.Need-overflow-cast-field
-cast-field c = search rules
+overflow_cast-field : tie.Need-overflow_cast-field
+overflow_cast-field c = search rules
 
-shr-field : tie.Need-overflow-shr-field
-shr-field c = search rules
+overflow_shr-field : tie.Need-overflow_shr-field
+overflow_shr-field c = search rules
 
-cast-field-2 : tie.Need-overflow-cast-field-2
-cast-field-2 c =
+overflow_cast-field-2 : tie.Need-overflow_cast-field-2
+overflow_cast-field-2 c =
     record { fits = (top_small {a = c.before.args.self.ahead} c.before.args.width (omega arith) (omega arith)).1 }
 
-add_at : tie.Need-overflow-add-at
-add_at c = search rules
+overflow_add-at : tie.Need-overflow_add-at
+overflow_add-at c = search rules
 
-shl-ahead : tie.Need-overflow-shl-ahead
-shl-ahead c = search rules
+overflow_shl-ahead : tie.Need-overflow_shl-ahead
+overflow_shl-ahead c = search rules
 
 returns : tie.Need-returns
 unfolding took_of
@@ -33,4 +33,4 @@ returns c =
 
 pub take_spec : {M : Type 1} → statement M
 take_spec =
-    tie.close (tie.spec sub-field cast-field shr-field cast-field-2 add_at shl-ahead returns)
+    tie.close (tie.spec overflow_sub-field overflow_cast-field overflow_shr-field overflow_cast-field-2 overflow_add-at overflow_shl-ahead returns)

@@ -9,19 +9,19 @@ use Rattle.log_read.proofs.bits.join.Tie as tie
 four-requires : tie.Need-four-requires
 four-requires c κs = search rules
 
-mul-result : tie.Need-overflow-mul-result
-mul-result c = search rules
+overflow_mul-result : tie.Need-overflow_mul-result
+overflow_mul-result c = search rules
 
 four-requires-2 : tie.Need-four-requires-2
 four-requires-2 c κs = search rules
 
-add-result : tie.Need-overflow-add-result
-add-result c = search rules
+overflow_add-result : tie.Need-overflow_add-result
+overflow_add-result c = search rules
 
 returns : tie.Need-returns
 returns c =
     eight_num c.before.before.args.a c.before.before.args.b c.before.before.args.c c.before.before.args.d c.before.before.args.e c.before.before.args.f c.before.before.args.g c.before.before.args.h (omega arith)
-    ∙ ap (bits_of 64) (omega (arith, c.before.four.ensures.0, c.four2.ensures.0))
+    ∙ ap (bits_of 64) (omega (arith, c.before.four.ensures.0, c.four-2.ensures.0))
 
 pub join_spec : {M : Type 1} → statement M
-join_spec = tie.close (tie.spec four-requires mul-result four-requires-2 add-result returns)
+join_spec = tie.close (tie.spec four-requires overflow_mul-result four-requires-2 overflow_add-result returns)

@@ -2,14 +2,14 @@ use borrow.Author.Rules.{rules}
 use Rattle.log_read.proofs.faults.fault_of.Statement.{statement}
 use Rattle.log_read.proofs.faults.fault_of.Tie as tie
 
-in-time-requires : tie.Need-in-time-requires
-in-time-requires c κs = search rules
+in_time-timely-requires : tie.Need-in_time-timely-requires
+in_time-timely-requires c κs = search rules
 
-returns : tie.Need-returns
-returns c = rw (← c.before.in_time.ensures, c.if1.true)
+returns-then-timely : tie.Need-returns-then-timely
+returns-then-timely c = rw (← c.before.in_time-timely.ensures, c.if-timely.true)
 
-returns-2 : tie.Need-returns-2
-returns-2 c = rw (← c.before.in_time.ensures, c.if1.false)
+returns-else-timely : tie.Need-returns-else-timely
+returns-else-timely c = rw (← c.before.in_time-timely.ensures, c.if-timely.false)
 
 pub fault_of_spec : {M : Type 1} → statement M
-fault_of_spec = tie.close (tie.spec in-time-requires returns returns-2)
+fault_of_spec = tie.close (tie.spec in_time-timely-requires returns-then-timely returns-else-timely)

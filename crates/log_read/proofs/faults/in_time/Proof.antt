@@ -4,91 +4,91 @@ use borrow.Author.Rules.{rules}
 use Rattle.log_read.proofs.faults.in_time.Statement.{statement}
 use Rattle.log_read.proofs.faults.in_time.Tie as tie
 
-enum-known-item : tie.Need-enum-known-item
-enum-known-item c = search rules
+enum_known-item : tie.Need-enum_known-item
+enum_known-item c = search rules
 
-tag-in-time-requires : tie.Need-tag-in-time-requires
-tag-in-time-requires c κs = search rules
+tag_in_time-requires : tie.Need-tag_in_time-requires
+tag_in_time-requires c κs = search rules
 
-enum-known-item-2 : tie.Need-enum-known-item-2
-enum-known-item-2 c = search rules
+enum_known-item-in-Status-1 : tie.Need-enum_known-item-in-Status-1
+enum_known-item-in-Status-1 c = search rules
 
-response-in-time-requires : tie.Need-response-in-time-requires
-response-in-time-requires c κs = search rules
+response_in_time-requires : tie.Need-response_in_time-requires
+response_in_time-requires c κs = search rules
 
-enum_told : tie.Need-enum-told
-enum_told c = search rules
+enum_told-1 : tie.Need-enum_told-1
+enum_told-1 c = search rules
 
-enum-told-2 : tie.Need-enum-told-2
-enum-told-2 c = search rules
+enum_told-in-BusError : tie.Need-enum_told-in-BusError
+enum_told-in-BusError c = search rules
 
-enum-known-item-3 : tie.Need-enum-known-item-3
-enum-known-item-3 c = search rules
+enum_known-item-in-Arinc-1 : tie.Need-enum_known-item-in-Arinc-1
+enum_known-item-in-Arinc-1 c = search rules
 
-tag-in-time-requires-2 : tie.Need-tag-in-time-requires-2
-tag-in-time-requires-2 c κs = search rules
+tag_in_time-requires-in-Arinc : tie.Need-tag_in_time-requires-in-Arinc
+tag_in_time-requires-in-Arinc c κs = search rules
 
-enum-told-3 : tie.Need-enum-told-3
-enum-told-3 c = search rules
+enum_told-in-Notice : tie.Need-enum_told-in-Notice
+enum_told-in-Notice c = search rules
 
-enum-told-4 : tie.Need-enum-told-4
-enum-told-4 c = search rules
+enum_told-in-User : tie.Need-enum_told-in-User
+enum_told-in-User c = search rules
 
-enum-told-5 : tie.Need-enum-told-5
-enum-told-5 c = search rules
+enum_told-in-Overflow : tie.Need-enum_told-in-Overflow
+enum_told-in-Overflow c = search rules
 
-returns : tie.Need-returns
+returns-in-Command : tie.Need-returns-in-Command
 unfolding in_time
-returns c = simp c.before.before.item.given.1 c.tag-in-time.ensures
+returns-in-Command c = simp c.before.before.item-1.given.1 c.tag_in_time.ensures
 
-returns-2 : tie.Need-returns-2
+returns-in-Status : tie.Need-returns-in-Status
 unfolding in_time
-returns-2 c = simp c.before.before.item2.given.1 c.response-in-time.ensures
+returns-in-Status c = simp c.before.before.item-in-Status-1.given.1 c.response_in_time.ensures
 
-returns-3 : tie.Need-returns-3
+returns-in-Data : tie.Need-returns-in-Data
 unfolding in_time
-returns-3 c = simp c.enum_told.given.1
+returns-in-Data c = simp c.enum_told-1.given.1
 
-returns-4 : tie.Need-returns-4
+returns-in-BusError : tie.Need-returns-in-BusError
 unfolding in_time
-returns-4 c = simp c.enum-told2.given.1
+returns-in-BusError c = simp c.enum_told-in-BusError-1.given.1
 
-returns-5 : tie.Need-returns-5
+returns-in-Arinc : tie.Need-returns-in-Arinc
 unfolding in_time
-returns-5 c = simp c.before.before.item3.given.1 c.tag-in-time2.ensures
+returns-in-Arinc c = simp c.before.before.item-in-Arinc-1.given.1 c.tag_in_time-in-Arinc.ensures
 
-returns-6 : tie.Need-returns-6
+returns-in-Notice : tie.Need-returns-in-Notice
 unfolding in_time
-returns-6 c = simp c.enum-told3.given.1
+returns-in-Notice c = simp c.enum_told-in-Notice-1.given.1
 
-returns-7 : tie.Need-returns-7
+returns-in-User : tie.Need-returns-in-User
 unfolding in_time
-returns-7 c = simp c.enum-told4.given.1
+returns-in-User c = simp c.enum_told-in-User-1.given.1
 
-returns-8 : tie.Need-returns-8
+returns-in-Overflow : tie.Need-returns-in-Overflow
 unfolding in_time
-returns-8 c = simp c.enum-told5.given.1
+returns-in-Overflow c = simp c.enum_told-in-Overflow-1.given.1
 
 pub in_time_spec : {M : Type 1} → statement M
 in_time_spec =
     tie.close
     (tie.spec
-    enum-known-item
-    tag-in-time-requires
-    enum-known-item-2
-    response-in-time-requires
-    enum_told
-    enum-told-2
-    enum-known-item-3
-    tag-in-time-requires-2
-    enum-told-3
-    enum-told-4
-    enum-told-5
-    returns
-    returns-2
-    returns-3
-    returns-4
-    returns-5
-    returns-6
-    returns-7
-    returns-8)
+    enum_known-item
+    tag_in_time-requires
+    enum_known-item-in-Status-1
+    response_in_time-requires
+    enum_told-1
+    enum_told-in-BusError
+    enum_known-item-in-Arinc-1
+    tag_in_time-requires-in-Arinc
+    enum_told-in-Notice
+    enum_told-in-User
+    enum_told-in-Overflow
+    returns-in-Command
+    returns-in-Status
+    returns-in-Data
+    returns-in-BusError
+    returns-in-Arinc
+    returns-in-Notice
+    returns-in-User
+    returns-in-Overflow)

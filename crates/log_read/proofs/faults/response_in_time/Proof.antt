@@ -3,17 +3,17 @@ use borrow.Author.Rules.{rules}
 use Rattle.log_read.proofs.faults.response_in_time.Statement.{statement}
 use Rattle.log_read.proofs.faults.response_in_time.Tie as tie
 
-enum_told : tie.Need-enum-told
-enum_told c = search rules
+enum_told-1 : tie.Need-enum_told-1
+enum_told-1 c = search rules
 
-enum-known-response : tie.Need-enum-known-response
-enum-known-response c = search rules
+enum_known-response : tie.Need-enum_known-response
+enum_known-response c = search rules
 
-returns : tie.Need-returns
-returns c = simp c.enum_told.given.1
+returns-in-Untimed : tie.Need-returns-in-Untimed
+returns-in-Untimed c = simp c.enum_told-1.given.1
 
-returns-2 : tie.Need-returns-2
-returns-2 c = simp c.before.response.given.1
+returns-in-After : tie.Need-returns-in-After
+returns-in-After c = simp c.before.response-1.given.1
 
 pub response_in_time_spec : {M : Type 1} → statement M
-response_in_time_spec = tie.close (tie.spec enum_told enum-known-response returns returns-2)
+response_in_time_spec = tie.close (tie.spec enum_told-1 enum_known-response returns-in-Untimed returns-in-After)

@@ -3,17 +3,17 @@ use borrow.Author.Rules.{rules}
 use Rattle.log_read.proofs.faults.tag_in_time.Statement.{statement}
 use Rattle.log_read.proofs.faults.tag_in_time.Tie as tie
 
-enum_told : tie.Need-enum-told
-enum_told c = search rules
+enum_told-1 : tie.Need-enum_told-1
+enum_told-1 c = search rules
 
-enum-known-tag : tie.Need-enum-known-tag
-enum-known-tag c = search rules
+enum_known-tag : tie.Need-enum_known-tag
+enum_known-tag c = search rules
 
-returns : tie.Need-returns
-returns c = simp c.enum_told.given.1
+returns-in-Untagged : tie.Need-returns-in-Untagged
+returns-in-Untagged c = simp c.enum_told-1.given.1
 
-returns-2 : tie.Need-returns-2
-returns-2 c = simp c.before.before.tag.given.1
+returns-in-At : tie.Need-returns-in-At
+returns-in-At c = simp c.before.before.tag-1.given.1
 
 pub tag_in_time_spec : {M : Type 1} → statement M
-tag_in_time_spec = tie.close (tie.spec enum_told enum-known-tag returns returns-2)
+tag_in_time_spec = tie.close (tie.spec enum_told-1 enum_known-tag returns-in-Untagged returns-in-At)

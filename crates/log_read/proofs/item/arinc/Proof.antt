@@ -11,68 +11,68 @@ use Rattle.log_read.proofs.item.arinc.Statement.{statement}
 use Rattle.log_read.proofs.item.arinc.Tie as tie
 
 -- where the fields were read, with a tag behind them and without, and the function's entry
-abbrev timed : tie.After-if-there → tie.After-channelled
+abbrev timed : tie.After-if_there → tie.After-channelled-fields
 timed c = c.before.before.before.before.before.before.before.before
 
-abbrev plain : tie.After-if-there2 → tie.After-channelled
+abbrev plain : tie.After-if_there-2 → tie.After-channelled-fields
 plain c = c.before.before.before.before.before.before
 
-abbrev entry : tie.After-channelled → tie.Start
+abbrev entry : tie.After-channelled-fields → tie.Start
 entry c = c.before.before.before
 
-mul-total : tie.Need-overflow-mul-total
-mul-total c = search rules
+overflow_mul-total : tie.Need-overflow_mul-total
+overflow_mul-total c = search rules
 
-channelled-requires : tie.Need-channelled-requires
-channelled-requires c κs = search rules
+channelled-fields-requires : tie.Need-channelled-fields-requires
+channelled-fields-requires c κs = search rules
 
-cast-bus : tie.Need-overflow-cast-bus
-cast-bus c = search rules
+overflow_cast-bus : tie.Need-overflow_cast-bus
+overflow_cast-bus c = search rules
 
-cast-channel : tie.Need-overflow-cast-channel
-cast-channel c = search rules
+overflow_cast-channel : tie.Need-overflow_cast-channel
+overflow_cast-channel c = search rules
 
-time-at-requires : tie.Need-time-at-requires
-time-at-requires c κs = search rules
+time_at-requires : tie.Need-time_at-requires
+time_at-requires c κs = search rules
 
-add-if-there : tie.Need-overflow-add-if-there
-add-if-there c = search rules
+overflow_add-behind : tie.Need-overflow_add-behind
+overflow_add-behind c = search rules
 
-if-there-requires : tie.Need-if-there-requires
-if-there-requires c κs = search rules
+if_there-requires : tie.Need-if_there-requires
+if_there-requires c κs = search rules
 
-returns : tie.Need-returns
-returns c =
+returns-then-fields-eq1 : tie.Need-returns-then-fields-eq1
+returns-then-fields-eq1 c =
     let f = timed c in
     let log = (entry f).args.log.now in
     λ p g.
-    let q : f.channelled.result.next.at ≡ p + 43 = omega (arith, f.channelled.ensures.3, g.next.place) in
+    let q : f.channelled-fields.result.next-1.at ≡ p + 43 = omega (arith, f.channelled-fields.ensures.3, g.next-1.place) in
     let t : p + 43 + 46 ≤ length (bytes_bits log) → time_at (bytes_bits log) (p + 43) ≡ c.before.before.time_at.result =
     λ l. sym (rw q at (c.before.before.time_at.ensures (omega (arith, l, length_bytes log, q)))) in
-    rw (arinc_tagged g (rw f.channelled.ensures.0 at c.before.before.before.if1.true) _ t, ← f.channelled.ensures.0, ← q) (c.if-there.ensures (bytes_bits log) (length_bytes log))
+    rw (arinc_tagged g (rw f.channelled-fields.ensures.0 at c.before.before.before.if-fields-eq1.true) _ t, ← f.channelled-fields.ensures.0, ← q) (c.if_there.ensures (bytes_bits log) (length_bytes log))
 
-if-there-requires-2 : tie.Need-if-there-requires-2
-if-there-requires-2 c κs = search rules
+if_there-requires-2 : tie.Need-if_there-requires-2
+if_there-requires-2 c κs = search rules
 
-returns-2 : tie.Need-returns-2
-returns-2 c =
+returns : tie.Need-returns
+returns c =
     let f = plain c in
     λ p g.
-    let q : f.channelled.result.next.at ≡ p + 43 = omega (arith, f.channelled.ensures.3, g.next.place) in
-    rw (arinc_plain g (rw f.channelled.ensures.0 at c.before.if1.false), ← f.channelled.ensures.0, ← q)
-    (c.if-there2.ensures (bytes_bits (entry f).args.log.now) (length_bytes (entry f).args.log.now))
+    let q : f.channelled-fields.result.next-1.at ≡ p + 43 = omega (arith, f.channelled-fields.ensures.3, g.next-1.place) in
+    rw (arinc_plain g (rw f.channelled-fields.ensures.0 at c.before.if-fields-eq1.false), ← f.channelled-fields.ensures.0, ← q)
+    (c.if_there-2.ensures (bytes_bits (entry f).args.log.now) (length_bytes (entry f).args.log.now))
 
 pub arinc_spec : {M : Type 1} → statement M
 arinc_spec =
     tie.close
     (tie.spec
-    mul-total
-    channelled-requires
-    cast-bus
-    cast-channel
-    time-at-requires
-    add-if-there
-    if-there-requires
-    returns
-    if-there-requires-2
-    returns-2)
+    overflow_mul-total
+    channelled-fields-requires
+    overflow_cast-bus
+    overflow_cast-channel
+    time_at-requires
+    overflow_add-behind
+    if_there-requires
+    returns-then-fields-eq1
+    if_there-requires-2
+    returns)

@@ -7,27 +7,27 @@ use Rattle.log_read.proofs.item.bus_error.Statement.{statement}
 use Rattle.log_read.proofs.item.bus_error.Tie as tie
 
 -- where the fields were read
-abbrev read : tie.After-if-there → tie.After-sided
+abbrev read : tie.After-if_there → tie.After-sided-fields
 read c = c.before.before.before.before
 
-sided-requires : tie.Need-sided-requires
-sided-requires c κs = search rules
+sided-fields-requires : tie.Need-sided-fields-requires
+sided-fields-requires c κs = search rules
 
-cast-bus : tie.Need-overflow-cast-bus
-cast-bus c = search rules
+overflow_cast-bus : tie.Need-overflow_cast-bus
+overflow_cast-bus c = search rules
 
-cast-word : tie.Need-overflow-cast-word
-cast-word c = search rules
+overflow_cast-word : tie.Need-overflow_cast-word
+overflow_cast-word c = search rules
 
-if-there-requires : tie.Need-if-there-requires
-if-there-requires c κs = search rules
+if_there-requires : tie.Need-if_there-requires
+if_there-requires c κs = search rules
 
 returns : tie.Need-returns
 returns c =
     let f = read c in
     λ s e p g.
-    let q : f.sided.result.next.at ≡ p + 25 = omega (arith, f.sided.ensures.3, g.next.place) in
-    rw (error_at g, ← f.sided.ensures.0, ← q) (c.if-there.ensures s e)
+    let q : f.sided-fields.result.next-1.at ≡ p + 25 = omega (arith, f.sided-fields.ensures.3, g.next-1.place) in
+    rw (error_at g, ← f.sided-fields.ensures.0, ← q) (c.if_there.ensures s e)
 
 pub bus_error_spec : {M : Type 1} → statement M
-bus_error_spec = tie.close (tie.spec sided-requires cast-bus cast-word if-there-requires returns)
+bus_error_spec = tie.close (tie.spec sided-fields-requires overflow_cast-bus overflow_cast-word if_there-requires returns)

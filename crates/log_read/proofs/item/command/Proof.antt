@@ -11,68 +11,68 @@ use Rattle.log_read.proofs.item.command.Statement.{statement}
 use Rattle.log_read.proofs.item.command.Tie as tie
 
 -- where the fields were read, with a tag behind them and without, and the function's entry
-abbrev timed : tie.After-if-there → tie.After-marked
+abbrev timed : tie.After-if_there → tie.After-marked-fields
 timed c = c.before.before.before.before.before.before.before.before.before
 
-abbrev plain : tie.After-if-there2 → tie.After-marked
+abbrev plain : tie.After-if_there-2 → tie.After-marked-fields
 plain c = c.before.before.before.before.before.before.before
 
-abbrev entry : tie.After-marked → tie.Start
+abbrev entry : tie.After-marked-fields → tie.Start
 entry c = c.before.before.before
 
-mul-total : tie.Need-overflow-mul-total
-mul-total c = search rules
+overflow_mul-total : tie.Need-overflow_mul-total
+overflow_mul-total c = search rules
 
-marked-requires : tie.Need-marked-requires
-marked-requires c κs = search rules
+marked-fields-requires : tie.Need-marked-fields-requires
+marked-fields-requires c κs = search rules
 
-cast-bus : tie.Need-overflow-cast-bus
-cast-bus c = search rules
+overflow_cast-bus : tie.Need-overflow_cast-bus
+overflow_cast-bus c = search rules
 
-cast-word : tie.Need-overflow-cast-word
-cast-word c = search rules
+overflow_cast-word : tie.Need-overflow_cast-word
+overflow_cast-word c = search rules
 
-time-at-requires : tie.Need-time-at-requires
-time-at-requires c κs = search rules
+time_at-requires : tie.Need-time_at-requires
+time_at-requires c κs = search rules
 
-add-if-there : tie.Need-overflow-add-if-there
-add-if-there c = search rules
+overflow_add-behind : tie.Need-overflow_add-behind
+overflow_add-behind c = search rules
 
-if-there-requires : tie.Need-if-there-requires
-if-there-requires c κs = search rules
+if_there-requires : tie.Need-if_there-requires
+if_there-requires c κs = search rules
 
-returns : tie.Need-returns
-returns c =
+returns-then-fields-eq1 : tie.Need-returns-then-fields-eq1
+returns-then-fields-eq1 c =
     let f = timed c in
     let log = (entry f).args.log.now in
     λ p g.
-    let q : f.marked.result.next.at ≡ p + 26 = omega (arith, f.marked.ensures.4, g.next.place) in
+    let q : f.marked-fields.result.next-1.at ≡ p + 26 = omega (arith, f.marked-fields.ensures.4, g.next-1.place) in
     let t : p + 26 + 46 ≤ length (bytes_bits log) → time_at (bytes_bits log) (p + 26) ≡ c.before.before.time_at.result =
     λ l. sym (rw q at (c.before.before.time_at.ensures (omega (arith, l, length_bytes log, q)))) in
-    rw (command-tagged g (rw f.marked.ensures.0 at c.before.before.before.if1.true) _ t, ← f.marked.ensures.0, ← q) (c.if-there.ensures (bytes_bits log) (length_bytes log))
+    rw (command-tagged g (rw f.marked-fields.ensures.0 at c.before.before.before.if-fields-eq1.true) _ t, ← f.marked-fields.ensures.0, ← q) (c.if_there.ensures (bytes_bits log) (length_bytes log))
 
-if-there-requires-2 : tie.Need-if-there-requires-2
-if-there-requires-2 c κs = search rules
+if_there-requires-2 : tie.Need-if_there-requires-2
+if_there-requires-2 c κs = search rules
 
-returns-2 : tie.Need-returns-2
-returns-2 c =
+returns : tie.Need-returns
+returns c =
     let f = plain c in
     λ p g.
-    let q : f.marked.result.next.at ≡ p + 26 = omega (arith, f.marked.ensures.4, g.next.place) in
-    rw (command-plain g (rw f.marked.ensures.0 at c.before.if1.false), ← f.marked.ensures.0, ← q)
-    (c.if-there2.ensures (bytes_bits (entry f).args.log.now) (length_bytes (entry f).args.log.now))
+    let q : f.marked-fields.result.next-1.at ≡ p + 26 = omega (arith, f.marked-fields.ensures.4, g.next-1.place) in
+    rw (command-plain g (rw f.marked-fields.ensures.0 at c.before.if-fields-eq1.false), ← f.marked-fields.ensures.0, ← q)
+    (c.if_there-2.ensures (bytes_bits (entry f).args.log.now) (length_bytes (entry f).args.log.now))
 
 pub command_spec : {M : Type 1} → statement M
 command_spec =
     tie.close
     (tie.spec
-    mul-total
-    marked-requires
-    cast-bus
-    cast-word
-    time-at-requires
-    add-if-there
-    if-there-requires
-    returns
-    if-there-requires-2
-    returns-2)
+    overflow_mul-total
+    marked-fields-requires
+    overflow_cast-bus
+    overflow_cast-word
+    time_at-requires
+    overflow_add-behind
+    if_there-requires
+    returns-then-fields-eq1
+    if_there-requires-2
+    returns)

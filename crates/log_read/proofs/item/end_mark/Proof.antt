@@ -5,13 +5,13 @@ use Rattle.log_read.proofs.item.end_mark.Tie as tie
 ends-requires : tie.Need-ends-requires
 ends-requires c κs = search rules
 
+returns-then-ends : tie.Need-returns-then-ends
+returns-then-ends c =
+    rw (← c.before.ends.ensures, c.if-ends.true)
+
 returns : tie.Need-returns
 returns c =
-    rw (← c.before.ends.ensures, c.if1.true)
-
-returns-2 : tie.Need-returns-2
-returns-2 c =
-    rw (← c.before.ends.ensures, c.if1.false)
+    rw (← c.before.ends.ensures, c.if-ends.false)
 
 pub end_mark_spec : {M : Type 1} → statement M
-end_mark_spec = tie.close (tie.spec ends-requires returns returns-2)
+end_mark_spec = tie.close (tie.spec ends-requires returns-then-ends returns)

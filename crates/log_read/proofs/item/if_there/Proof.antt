@@ -5,13 +5,13 @@ use borrow.Author.Rules.{rules}
 use Rattle.log_read.proofs.item.if_there.Statement.{statement}
 use Rattle.log_read.proofs.item.if_there.Tie as tie
 
-returns : tie.Need-returns
-returns c =
+returns-then-total-behind : tie.Need-returns-then-total-behind
+returns-then-total-behind c =
     λ s e. rw (lt-leb c.before.args.behind (length s) (omega (arith, e)))
 
-returns-2 : tie.Need-returns-2
-returns-2 c =
+returns : tie.Need-returns
+returns c =
     λ s e. rw (le-leb c.before.args.behind (length s) (omega (arith, e)))
 
 pub if_there_spec : {M : Type 1} → statement M
-if_there_spec = tie.close (tie.spec returns returns-2)
+if_there_spec = tie.close (tie.spec returns-then-total-behind returns)

@@ -7,32 +7,32 @@ use Rattle.log_read.proofs.item.notice.Statement.{statement}
 use Rattle.log_read.proofs.item.notice.Tie as tie
 
 -- where the fields were read
-abbrev read : tie.After-if-there → tie.After-noticed
+abbrev read : tie.After-if_there → tie.After-noticed-fields
 read c = c.before.before.before.before
 
-noticed-requires : tie.Need-noticed-requires
-noticed-requires c κs = search rules
+noticed-fields-requires : tie.Need-noticed-fields-requires
+noticed-fields-requires c κs = search rules
 
-cast-bus : tie.Need-overflow-cast-bus
-cast-bus c = search rules
+overflow_cast-bus : tie.Need-overflow_cast-bus
+overflow_cast-bus c = search rules
 
-cast-channel : tie.Need-overflow-cast-channel
-cast-channel c = search rules
+overflow_cast-channel : tie.Need-overflow_cast-channel
+overflow_cast-channel c = search rules
 
-cast-diagnostics : tie.Need-overflow-cast-diagnostics
-cast-diagnostics c = search rules
+overflow_cast-diagnostics : tie.Need-overflow_cast-diagnostics
+overflow_cast-diagnostics c = search rules
 
-if-there-requires : tie.Need-if-there-requires
-if-there-requires c κs = search rules
+if_there-requires : tie.Need-if_there-requires
+if_there-requires c κs = search rules
 
 returns : tie.Need-returns
 returns c =
     let f = read c in
     λ s e p g.
-    let q : f.noticed.result.next.at ≡ p + 18 = omega (arith, f.noticed.ensures.3, g.next.place) in
-    rw (notice_at g, ← f.noticed.ensures.0, ← q) (c.if-there.ensures s e)
+    let q : f.noticed-fields.result.next-1.at ≡ p + 18 = omega (arith, f.noticed-fields.ensures.3, g.next-1.place) in
+    rw (notice_at g, ← f.noticed-fields.ensures.0, ← q) (c.if_there.ensures s e)
 
 pub notice_spec : {M : Type 1} → statement M
 notice_spec =
     tie.close
-    (tie.spec noticed-requires cast-bus cast-channel cast-diagnostics if-there-requires returns)
+    (tie.spec noticed-fields-requires overflow_cast-bus overflow_cast-channel overflow_cast-diagnostics if_there-requires returns)

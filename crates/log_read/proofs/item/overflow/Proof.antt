@@ -7,27 +7,27 @@ use Rattle.log_read.proofs.item.overflow.Statement.{statement}
 use Rattle.log_read.proofs.item.overflow.Tie as tie
 
 -- where the fields were read
-abbrev read : tie.After-if-there → tie.After-take
+abbrev read : tie.After-if_there → tie.After-take-took
 read c = c.before.before.before
 
-take-requires : tie.Need-take-requires
-take-requires c κs = search rules
+take-took-requires : tie.Need-take-took-requires
+take-took-requires c κs = search rules
 
-cast-bus : tie.Need-overflow-cast-bus
-cast-bus c = search rules
+overflow_cast-bus : tie.Need-overflow_cast-bus
+overflow_cast-bus c = search rules
 
-cast-word : tie.Need-overflow-cast-word
-cast-word c = search rules
+overflow_cast-word : tie.Need-overflow_cast-word
+overflow_cast-word c = search rules
 
-if-there-requires : tie.Need-if-there-requires
-if-there-requires c κs = search rules
+if_there-requires : tie.Need-if_there-requires
+if_there-requires c κs = search rules
 
 returns : tie.Need-returns
 returns c =
     let f = read c in
     λ s e p g.
-    let q : f.take.result.next.at ≡ p + 24 = omega (arith, f.take.ensures.2, g.next.place) in
-    rw (overflow_at g, ← f.take.ensures.0, ← q) (c.if-there.ensures s e)
+    let q : f.take-took.result.next-1.at ≡ p + 24 = omega (arith, f.take-took.ensures.2, g.next-1.place) in
+    rw (overflow_at g, ← f.take-took.ensures.0, ← q) (c.if_there.ensures s e)
 
 pub overflow_spec : {M : Type 1} → statement M
-overflow_spec = tie.close (tie.spec take-requires cast-bus cast-word if-there-requires returns)
+overflow_spec = tie.close (tie.spec take-took-requires overflow_cast-bus overflow_cast-word if_there-requires returns)

@@ -4,118 +4,118 @@ use borrow.Author.Rules.{rules}
 use Rattle.log_read.proofs.whole.words_of.Statement.{statement}
 use Rattle.log_read.proofs.whole.words_of.Tie as tie
 
-enum-known-item : tie.Need-enum-known-item
-enum-known-item c = search rules
+enum_known-item : tie.Need-enum_known-item
+enum_known-item c = search rules
 
-enum_told : tie.Need-enum-told
-enum_told c = search rules
+enum_told-1 : tie.Need-enum_told-1
+enum_told-1 c = search rules
 
-enum-told-2 : tie.Need-enum-told-2
-enum-told-2 c = search rules
+enum_told-in-At : tie.Need-enum_told-in-At
+enum_told-in-At c = search rules
 
-enum-known-item-2 : tie.Need-enum-known-item-2
-enum-known-item-2 c = search rules
+enum_known-item-in-Status-1 : tie.Need-enum_known-item-in-Status-1
+enum_known-item-in-Status-1 c = search rules
 
-enum-told-3 : tie.Need-enum-told-3
-enum-told-3 c = search rules
+enum_told-in-Untimed : tie.Need-enum_told-in-Untimed
+enum_told-in-Untimed c = search rules
 
-enum-told-4 : tie.Need-enum-told-4
-enum-told-4 c = search rules
+enum_told-in-After : tie.Need-enum_told-in-After
+enum_told-in-After c = search rules
 
-enum-told-5 : tie.Need-enum-told-5
-enum-told-5 c = search rules
+enum_told-in-Data : tie.Need-enum_told-in-Data
+enum_told-in-Data c = search rules
 
-enum-told-6 : tie.Need-enum-told-6
-enum-told-6 c = search rules
+enum_told-in-BusError : tie.Need-enum_told-in-BusError
+enum_told-in-BusError c = search rules
 
-enum-known-item-3 : tie.Need-enum-known-item-3
-enum-known-item-3 c = search rules
+enum_known-item-in-Arinc-1 : tie.Need-enum_known-item-in-Arinc-1
+enum_known-item-in-Arinc-1 c = search rules
 
-enum-told-7 : tie.Need-enum-told-7
-enum-told-7 c = search rules
+enum_told-in-Untagged-tag : tie.Need-enum_told-in-Untagged-tag
+enum_told-in-Untagged-tag c = search rules
 
-enum-told-8 : tie.Need-enum-told-8
-enum-told-8 c = search rules
+enum_told-in-At-tag : tie.Need-enum_told-in-At-tag
+enum_told-in-At-tag c = search rules
 
-enum-told-9 : tie.Need-enum-told-9
-enum-told-9 c = search rules
+enum_told-in-Notice : tie.Need-enum_told-in-Notice
+enum_told-in-Notice c = search rules
 
-enum-told-10 : tie.Need-enum-told-10
-enum-told-10 c = search rules
+enum_told-in-User : tie.Need-enum_told-in-User
+enum_told-in-User c = search rules
 
-enum-told-11 : tie.Need-enum-told-11
-enum-told-11 c = search rules
+enum_told-in-Overflow : tie.Need-enum_told-in-Overflow
+enum_told-in-Overflow c = search rules
 
-returns : tie.Need-returns
+returns-in-Untagged : tie.Need-returns-in-Untagged
 unfolding item_words
-returns c = simp (c.before.before.before.item.given.1, c.enum_told.given.1)
+returns-in-Untagged c = simp (c.before.before.before.item-1.given.1, c.enum_told-1.given.1)
 
-returns-2 : tie.Need-returns-2
+returns-in-At : tie.Need-returns-in-At
 unfolding item_words
-returns-2 c = simp (c.before.before.before.item.given.1, c.enum-told2.given.1)
+returns-in-At c = simp (c.before.before.before.item-1.given.1, c.enum_told-in-At-1.given.1)
 
-returns-3 : tie.Need-returns-3
+returns-in-Untimed : tie.Need-returns-in-Untimed
 unfolding item_words
-returns-3 c = simp (c.before.before.before.item2.given.1, c.enum-told3.given.1)
+returns-in-Untimed c = simp (c.before.before.before.item-in-Status-1.given.1, c.enum_told-in-Untimed-1.given.1)
 
-returns-4 : tie.Need-returns-4
+returns-in-After : tie.Need-returns-in-After
 unfolding item_words
-returns-4 c = simp (c.before.before.before.item2.given.1, c.enum-told4.given.1)
+returns-in-After c = simp (c.before.before.before.item-in-Status-1.given.1, c.enum_told-in-After-1.given.1)
 
-returns-5 : tie.Need-returns-5
+returns-in-Data : tie.Need-returns-in-Data
 unfolding item_words
-returns-5 c = simp c.enum-told5.given.1
+returns-in-Data c = simp c.enum_told-in-Data-1.given.1
 
-returns-6 : tie.Need-returns-6
+returns-in-BusError : tie.Need-returns-in-BusError
 unfolding item_words
-returns-6 c = simp c.enum-told6.given.1
+returns-in-BusError c = simp c.enum_told-in-BusError-1.given.1
 
-returns-7 : tie.Need-returns-7
+returns-in-Untagged-tag : tie.Need-returns-in-Untagged-tag
 unfolding item_words
-returns-7 c = simp (c.before.before.before.item3.given.1, c.enum-told7.given.1)
+returns-in-Untagged-tag c = simp (c.before.before.before.item-in-Arinc-1.given.1, c.enum_told-in-Untagged-tag-1.given.1)
 
-returns-8 : tie.Need-returns-8
+returns-in-At-tag : tie.Need-returns-in-At-tag
 unfolding item_words
-returns-8 c = simp (c.before.before.before.item3.given.1, c.enum-told8.given.1)
+returns-in-At-tag c = simp (c.before.before.before.item-in-Arinc-1.given.1, c.enum_told-in-At-tag-1.given.1)
 
-returns-9 : tie.Need-returns-9
+returns-in-Notice : tie.Need-returns-in-Notice
 unfolding item_words
-returns-9 c = simp c.enum-told9.given.1
+returns-in-Notice c = simp c.enum_told-in-Notice-1.given.1
 
-returns-10 : tie.Need-returns-10
+returns-in-User : tie.Need-returns-in-User
 unfolding item_words
-returns-10 c = simp c.enum-told10.given.1
+returns-in-User c = simp c.enum_told-in-User-1.given.1
 
-returns-11 : tie.Need-returns-11
+returns-in-Overflow : tie.Need-returns-in-Overflow
 unfolding item_words
-returns-11 c = simp c.enum-told11.given.1
+returns-in-Overflow c = simp c.enum_told-in-Overflow-1.given.1
 
 pub words_of_spec : {M : Type 1} → statement M
 words_of_spec =
     tie.close
     (tie.spec
-    enum-known-item
-    enum_told
-    enum-told-2
-    enum-known-item-2
-    enum-told-3
-    enum-told-4
-    enum-told-5
-    enum-told-6
-    enum-known-item-3
-    enum-told-7
-    enum-told-8
-    enum-told-9
-    enum-told-10
-    enum-told-11
-    returns
-    returns-2
-    returns-3
-    returns-4
-    returns-5
-    returns-6
-    returns-7
-    returns-8
-    returns-9
-    returns-10
-    returns-11)
+    enum_known-item
+    enum_told-1
+    enum_told-in-At
+    enum_known-item-in-Status-1
+    enum_told-in-Untimed
+    enum_told-in-After
+    enum_told-in-Data
+    enum_told-in-BusError
+    enum_known-item-in-Arinc-1
+    enum_told-in-Untagged-tag
+    enum_told-in-At-tag
+    enum_told-in-Notice
+    enum_told-in-User
+    enum_told-in-Overflow
+    returns-in-Untagged
+    returns-in-At
+    returns-in-Untimed
+    returns-in-After
+    returns-in-Data
+    returns-in-BusError
+    returns-in-Untagged-tag
+    returns-in-At-tag
+    returns-in-Notice
+    returns-in-User
+    returns-in-Overflow)

@@ -10,68 +10,68 @@ use Rattle.log_words.proofs.item.lay_arinc.Statement.{statement}
 use Rattle.log_words.proofs.item.lay_arinc.Tie as tie
 
 -- where the fields were read, of a word with a tag and of one without
-abbrev tagged : tie.After-lay-pair-tagged → tie.After-channelled
+abbrev tagged : tie.After-lay_pair_tagged → tie.After-channelled-fields
 tagged c = c.before.before.before.before.before
 
-abbrev plain : tie.After-lay-pair → tie.After-channelled
+abbrev plain : tie.After-lay_pair → tie.After-channelled-fields
 plain c = c.before.before.before.before.before
 
-abbrev entry : tie.After-channelled → tie.Start
+abbrev entry : tie.After-channelled-fields → tie.Start
 entry c = c.before.before.before.before
 
-channelled-requires : tie.Need-channelled-requires
-channelled-requires c κs = search rules
+channelled-fields-requires : tie.Need-channelled-fields-requires
+channelled-fields-requires c κs = search rules
 
-is-arinc-requires : tie.Need-is-arinc-requires
-is-arinc-requires c κs = search rules
+is_arinc-requires : tie.Need-is_arinc-requires
+is_arinc-requires c κs = search rules
 
-lay-pair-tagged-requires : tie.Need-lay-pair-tagged-requires
-lay-pair-tagged-requires c κs = search rules
+lay_pair_tagged-requires : tie.Need-lay_pair_tagged-requires
+lay_pair_tagged-requires c κs = search rules
 
-same_length : tie.Need-same-length
-same_length c = search rules
+shape_of-words-then-fields-eq1 : tie.Need-shape_of-words-then-fields-eq1
+shape_of-words-then-fields-eq1 c = search rules
+
+returns-then-fields-eq1 : tie.Need-returns-then-fields-eq1
+returns-then-fields-eq1 c =
+    let l = c.before.before in
+    let f = tagged l in
+    λ ks p g b.
+    let q : f.channelled-fields.result.next-1.at ≡ p + 43 = omega (arith, f.channelled-fields.ensures.3, g.next-1.place) in
+    tagged_lays (pair_tagged_read g (rw f.channelled-fields.ensures.0 at l.before.before.before.if-fields-eq1.true)) ks _ b (length_bytes (entry f).args.log.now)
+    (omega arith) (omega (arith, (entry f).pre)) l.before.is_arinc.ensures (pair_words (entry f).args.head.bus f.channelled-fields.ensures.0) q l.lay_pair_tagged.ensures
+
+is_arinc-requires-2 : tie.Need-is_arinc-requires-2
+is_arinc-requires-2 c κs = search rules
+
+overflow_mul-log : tie.Need-overflow_mul-log
+overflow_mul-log c = search rules
+
+lay_pair-requires : tie.Need-lay_pair-requires
+lay_pair-requires c κs = search rules
+
+shape_of-words : tie.Need-shape_of-words
+shape_of-words c = search rules
 
 returns : tie.Need-returns
 returns c =
     let l = c.before.before in
-    let f = tagged l in
-    λ ks p g b.
-    let q : f.channelled.result.next.at ≡ p + 43 = omega (arith, f.channelled.ensures.3, g.next.place) in
-    tagged_lays (pair_tagged_read g (rw f.channelled.ensures.0 at l.before.before.before.if1.true)) ks _ b (length_bytes (entry f).args.log.now)
-    (omega arith) (omega (arith, (entry f).pre)) l.before.is_arinc.ensures (pair_words (entry f).args.head.bus f.channelled.ensures.0) q l.lay-pair-tagged.ensures
-
-is-arinc-requires-2 : tie.Need-is-arinc-requires-2
-is-arinc-requires-2 c κs = search rules
-
-mul-lay-pair : tie.Need-overflow-mul-lay-pair
-mul-lay-pair c = search rules
-
-lay-pair-requires : tie.Need-lay-pair-requires
-lay-pair-requires c κs = search rules
-
-same-length-2 : tie.Need-same-length-2
-same-length-2 c = search rules
-
-returns-2 : tie.Need-returns-2
-returns-2 c =
-    let l = c.before.before in
     let f = plain l in
     λ ks p g b.
-    let q : f.channelled.result.next.at ≡ p + 43 = omega (arith, f.channelled.ensures.3, g.next.place) in
-    read_lays (pair_read g (rw f.channelled.ensures.0 at l.before.before.before.if1.false)) ks _ b (length_bytes (entry f).args.log.now)
-    (omega arith) l.before.is-arinc2.ensures refl (pair_words (entry f).args.head.bus f.channelled.ensures.0) q l.lay-pair.ensures
+    let q : f.channelled-fields.result.next-1.at ≡ p + 43 = omega (arith, f.channelled-fields.ensures.3, g.next-1.place) in
+    read_lays (pair_read g (rw f.channelled-fields.ensures.0 at l.before.before.before.if-fields-eq1.false)) ks _ b (length_bytes (entry f).args.log.now)
+    (omega arith) l.before.is_arinc-2.ensures refl (pair_words (entry f).args.head.bus f.channelled-fields.ensures.0) q l.lay_pair.ensures
 
 pub lay_arinc_spec : {M : Type 1} → statement M
 lay_arinc_spec =
     tie.close
     (tie.spec
-    channelled-requires
-    is-arinc-requires
-    lay-pair-tagged-requires
-    same_length
-    returns
-    is-arinc-requires-2
-    mul-lay-pair
-    lay-pair-requires
-    same-length-2
-    returns-2)
+    channelled-fields-requires
+    is_arinc-requires
+    lay_pair_tagged-requires
+    shape_of-words-then-fields-eq1
+    returns-then-fields-eq1
+    is_arinc-requires-2
+    overflow_mul-log
+    lay_pair-requires
+    shape_of-words
+    returns)

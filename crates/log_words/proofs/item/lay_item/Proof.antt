@@ -3,52 +3,52 @@ use borrow.Author.Rules.{rules}
 use Rattle.log_words.proofs.item.lay_item.Statement.{statement}
 use Rattle.log_words.proofs.item.lay_item.Tie as tie
 
-mul-lay-data : tie.Need-overflow-mul-lay-data
-mul-lay-data c = search rules
+overflow_mul-log : tie.Need-overflow_mul-log
+overflow_mul-log c = search rules
 
-lay-data-requires : tie.Need-lay-data-requires
-lay-data-requires c κs = search rules
+lay_data-requires : tie.Need-lay_data-requires
+lay_data-requires c κs = search rules
 
-same_length : tie.Need-same-length
-same_length c = search rules
+shape_of-words-then-number-eq3 : tie.Need-shape_of-words-then-number-eq3
+shape_of-words-then-number-eq3 c = search rules
+
+returns-then-number-eq3 : tie.Need-returns-then-number-eq3
+returns-then-number-eq3 c =
+    let l = c.before.before in
+    λ ks p g b. rw l.before.before.if-number-eq3.true (l.lay_data.ensures _ (length_bytes _) ks p g b)
+
+lay_arinc-requires : tie.Need-lay_arinc-requires
+lay_arinc-requires c κs = search rules
+
+shape_of-words-then-number-eq5 : tie.Need-shape_of-words-then-number-eq5
+shape_of-words-then-number-eq5 c = search rules
+
+returns-then-number-eq5 : tie.Need-returns-then-number-eq5
+returns-then-number-eq5 c =
+    let l = c.before.before in
+    λ ks p g b. rw l.before.before.if-number-eq5.true (l.lay_arinc.ensures ks p g b)
+
+lay_other-requires : tie.Need-lay_other-requires
+lay_other-requires c κs = search rules
+
+shape_of-words : tie.Need-shape_of-words
+shape_of-words c = search rules
 
 returns : tie.Need-returns
 returns c =
-    let l = c.before.before in
-    λ ks p g b. rw l.before.before.if1.true (l.lay-data.ensures _ (length_bytes _) ks p g b)
-
-lay-arinc-requires : tie.Need-lay-arinc-requires
-lay-arinc-requires c κs = search rules
-
-same-length-2 : tie.Need-same-length-2
-same-length-2 c = search rules
-
-returns-2 : tie.Need-returns-2
-returns-2 c =
-    let l = c.before.before in
-    λ ks p g b. rw l.before.before.if2.true (l.lay-arinc.ensures ks p g b)
-
-lay-other-requires : tie.Need-lay-other-requires
-lay-other-requires c κs = search rules
-
-same-length-3 : tie.Need-same-length-3
-same-length-3 c = search rules
-
-returns-3 : tie.Need-returns-3
-returns-3 c =
-    c.before.before.lay-other.ensures
+    c.before.before.lay_other.ensures
 
 pub lay_item_spec : {M : Type 1} → statement M
 lay_item_spec =
     tie.close
     (tie.spec
-    mul-lay-data
-    lay-data-requires
-    same_length
-    returns
-    lay-arinc-requires
-    same-length-2
-    returns-2
-    lay-other-requires
-    same-length-3
-    returns-3)
+    overflow_mul-log
+    lay_data-requires
+    shape_of-words-then-number-eq3
+    returns-then-number-eq3
+    lay_arinc-requires
+    shape_of-words-then-number-eq5
+    returns-then-number-eq5
+    lay_other-requires
+    shape_of-words
+    returns)

@@ -18,128 +18,128 @@ use Rattle.log_words.proofs.item.lay_marked.Statement.{statement}
 use Rattle.log_words.proofs.item.lay_marked.Tie as tie
 
 -- where the word was made, of one with a tag, with a response time, and without; where its fields were read; the function's entry
-abbrev tagged : tie.After-lay-tagged → tie.After-is-1553
+abbrev tagged : tie.After-lay_tagged → tie.After-is_1553-stands
 tagged c = c.before.before.before.before.before.before.before
 
-abbrev timed : tie.After-lay-timed → tie.After-is-1553
+abbrev timed : tie.After-lay_timed → tie.After-is_1553-stands
 timed c = c.before.before.before.before.before.before.before
 
-abbrev plain : tie.After-lay-one → tie.After-is-1553
+abbrev plain : tie.After-lay_one → tie.After-is_1553-stands
 plain c = c.before.before.before.before.before
 
-abbrev read : tie.After-is-1553 → tie.After-marked
+abbrev read : tie.After-is_1553-stands → tie.After-marked-fields
 read c = c.before.before.before.before
 
-abbrev entry : tie.After-marked → tie.Start
+abbrev entry : tie.After-marked-fields → tie.Start
 entry c = c.before.before.before.before
 
-abbrev taken : tie.After-is-1553 → Head
+abbrev taken : tie.After-is_1553-stands → Head
 taken c = (entry (read c)).args.head
 
 -- the word of a command or a status, by its kind
-word_is : (c : tie.After-is-1553) → c.before.join.result
-    ≡ word_of (taken c).bus (sided (16 - (taken c).kind) (eqb (marked_of (taken c).next).side 1)) (marked_of (taken c).next).word
+word_is : (c : tie.After-is_1553-stands) → c.before.join-word.result
+    ≡ word_of (taken c).bus (sided (16 - (taken c).kind) (eqb (marked_of (taken c).next-1).side 1)) (marked_of (taken c).next-1).word
 word_is c =
-    let m = (read c).marked in
-    marked_word (taken c).bus (16 - (taken c).kind) m.ensures.0 m.ensures.1 c.before.join.ensures
+    let m = (read c).marked-fields in
+    marked_word (taken c).bus (16 - (taken c).kind) m.ensures.0 m.ensures.1 c.before.join-word.ensures
 
-marked-requires : tie.Need-marked-requires
-marked-requires c κs = search rules
+marked-fields-requires : tie.Need-marked-fields-requires
+marked-fields-requires c κs = search rules
 
-sub-join : tie.Need-overflow-sub-join
-sub-join c = search rules
+overflow_sub-head : tie.Need-overflow_sub-head
+overflow_sub-head c = search rules
 
-mul-join : tie.Need-overflow-mul-join
-mul-join c = search rules
+overflow_mul-fields : tie.Need-overflow_mul-fields
+overflow_mul-fields c = search rules
 
-sub-join-2 : tie.Need-overflow-sub-join-2
-sub-join-2 c = search rules
+overflow_sub-head-2 : tie.Need-overflow_sub-head-2
+overflow_sub-head-2 c = search rules
 
-join-requires : tie.Need-join-requires
-join-requires c κs = search rules
+join-word-requires : tie.Need-join-word-requires
+join-word-requires c κs = search rules
 
-is-1553-requires : tie.Need-is-1553-requires
-is-1553-requires c κs = search rules
+is_1553-stands-requires : tie.Need-is_1553-stands-requires
+is_1553-stands-requires c κs = search rules
 
-lay-tagged-requires : tie.Need-lay-tagged-requires
-lay-tagged-requires c κs = search rules
+lay_tagged-requires : tie.Need-lay_tagged-requires
+lay_tagged-requires c κs = search rules
 
-same_length : tie.Need-same-length
-same_length c = search rules
+shape_of-words-then-head-eq1 : tie.Need-shape_of-words-then-head-eq1
+shape_of-words-then-head-eq1 c = search rules
 
-returns : tie.Need-returns
-returns c =
+returns-then-head-eq1 : tie.Need-returns-then-head-eq1
+returns-then-head-eq1 c =
     let l = c.before.before in
     let w = tagged l in
     let f = read w in
     let a = entry f in
     λ ks p g b.
-    let q : f.marked.result.next.at ≡ p + 26 = omega (arith, f.marked.ensures.4, g.next.place) in
-    let t = command-read g (rw f.marked.ensures.0 at l.before.before.before.before.if1.true) a.args.head.kind l.before.before.if2.true in
-    tagged_lays t ks _ b (length_bytes a.args.log.now) (omega arith) (omega (arith, a.pre)) w.is-1553.ensures (ap (λ (x : ℕ). x ∷ []) (word_is w)) q l.lay-tagged.ensures
+    let q : f.marked-fields.result.next-1.at ≡ p + 26 = omega (arith, f.marked-fields.ensures.4, g.next-1.place) in
+    let t = command-read g (rw f.marked-fields.ensures.0 at l.before.before.before.before.if-fields-eq1.true) a.args.head.kind l.before.before.if-head-eq1.true in
+    tagged_lays t ks _ b (length_bytes a.args.log.now) (omega arith) (omega (arith, a.pre)) w.is_1553-stands.ensures (ap (λ (x : ℕ). x ∷ []) (word_is w)) q l.lay_tagged.ensures
 
-mul-lay-timed : tie.Need-overflow-mul-lay-timed
-mul-lay-timed c = search rules
+overflow_mul-log : tie.Need-overflow_mul-log
+overflow_mul-log c = search rules
 
-lay-timed-requires : tie.Need-lay-timed-requires
-lay-timed-requires c κs = search rules
+lay_timed-requires : tie.Need-lay_timed-requires
+lay_timed-requires c κs = search rules
 
-same-length-2 : tie.Need-same-length-2
-same-length-2 c = search rules
+shape_of-words-then-fields-eq1 : tie.Need-shape_of-words-then-fields-eq1
+shape_of-words-then-fields-eq1 c = search rules
 
-returns-2 : tie.Need-returns-2
-returns-2 c =
+returns-then-fields-eq1 : tie.Need-returns-then-fields-eq1
+returns-then-fields-eq1 c =
     let l = c.before.before in
     let w = timed l in
     let f = read w in
     let a = entry f in
-    let m = f.marked.ensures.0 in
-    let k : a.args.head.kind ≡ 2 = omega (arith, l.before.before.if2.false, a.pre) in
+    let m = f.marked-fields.ensures.0 in
+    let k : a.args.head.kind ≡ 2 = omega (arith, l.before.before.if-head-eq1.false, a.pre) in
     λ ks p g b.
-    let q : f.marked.result.next.at + 14 ≡ p + 26 + 14 = omega (arith, f.marked.ensures.4, g.next.place) in
-    let t = timed-read g (rw m at l.before.before.before.before.if1.true) a.args.head.kind k in
-    read_lays t ks _ b (length_bytes a.args.log.now) (omega arith) w.is-1553.ensures
-    (ap (λ (x : Marked). ltb (took_of x.next 14).field 10000) m) (timed_words a.args.head.bus m (word_is w)) q l.lay-timed.ensures
+    let q : f.marked-fields.result.next-1.at + 14 ≡ p + 26 + 14 = omega (arith, f.marked-fields.ensures.4, g.next-1.place) in
+    let t = timed-read g (rw m at l.before.before.before.before.if-fields-eq1.true) a.args.head.kind k in
+    read_lays t ks _ b (length_bytes a.args.log.now) (omega arith) w.is_1553-stands.ensures
+    (ap (λ (x : Marked). ltb (took_of x.next-1 14).field 10000) m) (timed_words a.args.head.bus m (word_is w)) q l.lay_timed.ensures
 
-mul-lay-one : tie.Need-overflow-mul-lay-one
-mul-lay-one c = search rules
+overflow_mul-log-2 : tie.Need-overflow_mul-log-2
+overflow_mul-log-2 c = search rules
 
-lay-one-requires : tie.Need-lay-one-requires
-lay-one-requires c κs = search rules
+lay_one-requires : tie.Need-lay_one-requires
+lay_one-requires c κs = search rules
 
-same-length-3 : tie.Need-same-length-3
-same-length-3 c = search rules
+shape_of-words : tie.Need-shape_of-words
+shape_of-words c = search rules
 
-returns-3 : tie.Need-returns-3
-returns-3 c =
+returns : tie.Need-returns
+returns c =
     let l = c.before.before in
     let w = plain l in
     let f = read w in
     λ ks p g b.
-    let q : f.marked.result.next.at ≡ p + 26 = omega (arith, f.marked.ensures.4, g.next.place) in
+    let q : f.marked-fields.result.next-1.at ≡ p + 26 = omega (arith, f.marked-fields.ensures.4, g.next-1.place) in
     let a = entry f in
-    let t = marked_read g a.args.head.kind a.pre.5 a.pre.6 (rw f.marked.ensures.0 at l.before.before.if1.false) in
+    let t = marked_read g a.args.head.kind a.pre.5 a.pre.6 (rw f.marked-fields.ensures.0 at l.before.before.if-fields-eq1.false) in
     read_lays t ks _ b (length_bytes a.args.log.now)
-    (omega arith) w.is-1553.ensures refl (ap (λ (x : ℕ). x ∷ []) (word_is w)) q l.lay-one.ensures
+    (omega arith) w.is_1553-stands.ensures refl (ap (λ (x : ℕ). x ∷ []) (word_is w)) q l.lay_one.ensures
 
 pub lay_marked_spec : {M : Type 1} → statement M
 lay_marked_spec =
     tie.close
     (tie.spec
-    marked-requires
-    sub-join
-    mul-join
-    sub-join-2
-    join-requires
-    is-1553-requires
-    lay-tagged-requires
-    same_length
-    returns
-    mul-lay-timed
-    lay-timed-requires
-    same-length-2
-    returns-2
-    mul-lay-one
-    lay-one-requires
-    same-length-3
-    returns-3)
+    marked-fields-requires
+    overflow_sub-head
+    overflow_mul-fields
+    overflow_sub-head-2
+    join-word-requires
+    is_1553-stands-requires
+    lay_tagged-requires
+    shape_of-words-then-head-eq1
+    returns-then-head-eq1
+    overflow_mul-log
+    lay_timed-requires
+    shape_of-words-then-fields-eq1
+    returns-then-fields-eq1
+    overflow_mul-log-2
+    lay_one-requires
+    shape_of-words
+    returns)

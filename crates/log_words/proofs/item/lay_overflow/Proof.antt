@@ -7,26 +7,26 @@ use Rattle.log_words.proofs.item.lay_overflow.Statement.{statement}
 use Rattle.log_words.proofs.item.lay_overflow.Tie as tie
 
 -- where the word was laid and where its fields were read
-abbrev made : tie.After-lay-one → tie.After-join
+abbrev made : tie.After-lay_one → tie.After-join-word
 made c = c.before.before.before
 
-abbrev read : tie.After-join → tie.After-take
+abbrev read : tie.After-join-word → tie.After-take-took
 read c = c.before
 
-take-requires : tie.Need-take-requires
-take-requires c κs = search rules
+take-took-requires : tie.Need-take-took-requires
+take-took-requires c κs = search rules
 
-join-requires : tie.Need-join-requires
-join-requires c κs = search rules
+join-word-requires : tie.Need-join-word-requires
+join-word-requires c κs = search rules
 
-is-used-requires : tie.Need-is-used-requires
-is-used-requires c κs = search rules
+is_used-requires : tie.Need-is_used-requires
+is_used-requires c κs = search rules
 
-lay-one-requires : tie.Need-lay-one-requires
-lay-one-requires c κs = search rules
+lay_one-requires : tie.Need-lay_one-requires
+lay_one-requires c κs = search rules
 
-same_length : tie.Need-same-length
-same_length c = search rules
+shape_of-words : tie.Need-shape_of-words
+shape_of-words c = search rules
 
 returns : tie.Need-returns
 returns c =
@@ -34,12 +34,12 @@ returns c =
     let j = made l in
     let f = read j in
     λ s e ks p g b.
-    let q : f.take.result.next.at ≡ p + 24 = omega (arith, f.take.ensures.2, g.next.place) in
-    read_lays (overflow_read g) ks _ b e (omega arith) l.before.is-used.ensures refl
-    (rw (j.join.ensures, ← f.take.ensures.0))
-    q l.lay-one.ensures
+    let q : f.take-took.result.next-1.at ≡ p + 24 = omega (arith, f.take-took.ensures.2, g.next-1.place) in
+    read_lays (overflow_read g) ks _ b e (omega arith) l.before.is_used.ensures refl
+    (rw (j.join-word.ensures, ← f.take-took.ensures.0))
+    q l.lay_one.ensures
 
 pub lay_overflow_spec : {M : Type 1} → statement M
 lay_overflow_spec =
     tie.close
-    (tie.spec take-requires join-requires is-used-requires lay-one-requires same_length returns)
+    (tie.spec take-took-requires join-word-requires is_used-requires lay_one-requires shape_of-words returns)

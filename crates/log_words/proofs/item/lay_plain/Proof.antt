@@ -8,29 +8,29 @@ use Rattle.log_words.proofs.item.lay_plain.Statement.{statement}
 use Rattle.log_words.proofs.item.lay_plain.Tie as tie
 
 -- where the word was laid and where its fields were read
-abbrev made : tie.After-lay-one → tie.After-join
+abbrev made : tie.After-lay_one → tie.After-join-word
 made c = c.before.before.before
 
-abbrev read : tie.After-join → tie.After-sided
+abbrev read : tie.After-join-word → tie.After-sided-fields
 read c = c.before.before
 
-sided-requires : tie.Need-sided-requires
-sided-requires c κs = search rules
+sided-fields-requires : tie.Need-sided-fields-requires
+sided-fields-requires c κs = search rules
 
-plain-label-requires : tie.Need-plain-label-requires
-plain-label-requires c κs = let h = plain_few _ c.before.before.before.requires.3 in (h.0, h.1, c.sided.ensures.1)
+plain_label-label-requires : tie.Need-plain_label-label-requires
+plain_label-label-requires c κs = let h = plain_few _ c.before.before.before.requires.3 in (h.0, h.1, c.sided-fields.ensures.1)
 
-join-requires : tie.Need-join-requires
-join-requires c κs = search rules
+join-word-requires : tie.Need-join-word-requires
+join-word-requires c κs = search rules
 
-plain-stands-requires : tie.Need-plain-stands-requires
-plain-stands-requires c κs = search rules
+plain_stands-requires : tie.Need-plain_stands-requires
+plain_stands-requires c κs = search rules
 
-lay-one-requires : tie.Need-lay-one-requires
-lay-one-requires c κs = search rules
+lay_one-requires : tie.Need-lay_one-requires
+lay_one-requires c κs = search rules
 
-same_length : tie.Need-same-length
-same_length c = search rules
+shape_of-words : tie.Need-shape_of-words
+shape_of-words c = search rules
 
 returns : tie.Need-returns
 returns c =
@@ -39,19 +39,19 @@ returns c =
     let f = read j in
     let a = f.before.before.before in
     λ s e ks p g b.
-    let q : f.sided.result.next.at ≡ p + 25 = omega (arith, f.sided.ensures.3, g.next.place) in
-    read_lays (plain_read g a.args.head.kind a.pre.3) ks _ b e (omega arith) l.before.plain-stands.ensures refl
-    (plain_word a.args.head.bus a.args.head.kind j.before.Plain-Label.result f.sided.ensures.0 j.before.Plain-Label.ensures.0 j.join.ensures)
-    q l.lay-one.ensures
+    let q : f.sided-fields.result.next-1.at ≡ p + 25 = omega (arith, f.sided-fields.ensures.3, g.next-1.place) in
+    read_lays (plain_read g a.args.head.kind a.pre.3) ks _ b e (omega arith) l.before.plain_stands.ensures refl
+    (plain_word a.args.head.bus a.args.head.kind j.before.Plain-Label.result f.sided-fields.ensures.0 j.before.Plain-Label.ensures.0 j.join-word.ensures)
+    q l.lay_one.ensures
 
 pub lay_plain_spec : {M : Type 1} → statement M
 lay_plain_spec =
     tie.close
     (tie.spec
-    sided-requires
-    plain-label-requires
-    join-requires
-    plain-stands-requires
-    lay-one-requires
-    same_length
+    sided-fields-requires
+    plain_label-label-requires
+    join-word-requires
+    plain_stands-requires
+    lay_one-requires
+    shape_of-words
     returns)

@@ -3,19 +3,19 @@ use borrow.Author.Rules.{rules}
 use Rattle.log_words.proofs.item.plain_stands.Statement.{statement}
 use Rattle.log_words.proofs.item.plain_stands.Tie as tie
 
-is-1553-requires : tie.Need-is-1553-requires
-is-1553-requires c κs = search rules
+is_1553-requires : tie.Need-is_1553-requires
+is_1553-requires c κs = search rules
+
+returns-then-number-lt7 : tie.Need-returns-then-number-lt7
+returns-then-number-lt7 c =
+    rw (lt-ltb _ 7 c.before.if-number-lt7.true) c.is_1553.ensures
+
+is_used-requires : tie.Need-is_used-requires
+is_used-requires c κs = search rules
 
 returns : tie.Need-returns
 returns c =
-    rw (lt-ltb _ 7 c.before.if1.true) c.is-1553.ensures
-
-is-used-requires : tie.Need-is-used-requires
-is-used-requires c κs = search rules
-
-returns-2 : tie.Need-returns-2
-returns-2 c =
-    rw (le-ltb _ 7 c.before.if1.false) c.is-used.ensures
+    rw (le-ltb _ 7 c.before.if-number-lt7.false) c.is_used.ensures
 
 pub plain_stands_spec : {M : Type 1} → statement M
-plain_stands_spec = tie.close (tie.spec is-1553-requires returns is-used-requires returns-2)
+plain_stands_spec = tie.close (tie.spec is_1553-requires returns-then-number-lt7 is_used-requires returns)

@@ -8,28 +8,28 @@ use Rattle.log_words.proofs.put.lay_one.Tie as tie
 fault-requires : tie.Need-fault-requires
 fault-requires c κs = search rules
 
-returns : tie.Need-returns
-returns c =
-    laid.short c.before.if1.true c.fault.ensures refl
+returns-then-total-at : tie.Need-returns-then-total-at
+returns-then-total-at c =
+    laid.short c.before.if-total-at.true c.fault.ensures refl
 
-put-requires : tie.Need-put-requires
-put-requires c κs = search rules
+put-next-requires : tie.Need-put-next-requires
+put-next-requires c κs = search rules
 
-same_length : tie.Need-same-length
-same_length c = search rules
+shape_of-words-then-stands : tie.Need-shape_of-words-then-stands
+shape_of-words-then-stands c = search rules
 
-returns-2 : tie.Need-returns-2
-returns-2 c =
-    laid.put c.before.before.before.before.before.if1.false c.before.before.before.before.if2.true refl refl refl c.before.before.put.ensures
+returns-then-stands : tie.Need-returns-then-stands
+returns-then-stands c =
+    laid.put-next c.before.before.before.before.before.if-total-at.false c.before.before.before.before.if-stands.true refl refl refl c.before.before.put-next.ensures
 
 fault-requires-2 : tie.Need-fault-requires-2
 fault-requires-2 c κs = search rules
 
-returns-3 : tie.Need-returns-3
-returns-3 c =
-    laid.misplaced c.before.before.if1.false c.before.if2.false c.fault2.ensures refl
+returns : tie.Need-returns
+returns c =
+    laid.misplaced c.before.before.if-total-at.false c.before.if-stands.false c.fault-2.ensures refl
 
 pub lay_one_spec : {M : Type 1} → statement M
 lay_one_spec =
     tie.close
-    (tie.spec fault-requires returns put-requires same_length returns-2 fault-requires-2 returns-3)
+    (tie.spec fault-requires returns-then-total-at put-next-requires shape_of-words-then-stands returns-then-stands fault-requires-2 returns)

@@ -8,35 +8,35 @@ use Rattle.log_words.proofs.put.lay_pair.Tie as tie
 fault-requires : tie.Need-fault-requires
 fault-requires c κs = search rules
 
-returns : tie.Need-returns
-returns c =
-    laid.short c.before.if1.true c.fault.ensures refl
+returns-then-total-fields : tie.Need-returns-then-total-fields
+returns-then-total-fields c =
+    laid.short c.before.if-total-fields.true c.fault.ensures refl
 
-put-syllables-requires : tie.Need-put-syllables-requires
-put-syllables-requires c κs = search rules
+put_syllables-next-requires : tie.Need-put_syllables-next-requires
+put_syllables-next-requires c κs = search rules
 
-same_length : tie.Need-same-length
-same_length c = search rules
+shape_of-words-then-stands : tie.Need-shape_of-words-then-stands
+shape_of-words-then-stands c = search rules
 
-returns-2 : tie.Need-returns-2
-returns-2 c =
-    laid.put c.before.before.before.before.before.if1.false c.before.before.before.before.if2.true refl refl refl c.before.before.put-syllables.ensures
+returns-then-stands : tie.Need-returns-then-stands
+returns-then-stands c =
+    laid.put c.before.before.before.before.before.if-total-fields.false c.before.before.before.before.if-stands.true refl refl refl c.before.before.put_syllables-next.ensures
 
 fault-requires-2 : tie.Need-fault-requires-2
 fault-requires-2 c κs = search rules
 
-returns-3 : tie.Need-returns-3
-returns-3 c =
-    laid.misplaced c.before.before.if1.false c.before.if2.false c.fault2.ensures refl
+returns : tie.Need-returns
+returns c =
+    laid.misplaced c.before.before.if-total-fields.false c.before.if-stands.false c.fault-2.ensures refl
 
 pub lay_pair_spec : {M : Type 1} → statement M
 lay_pair_spec =
     tie.close
     (tie.spec
     fault-requires
-    returns
-    put-syllables-requires
-    same_length
-    returns-2
+    returns-then-total-fields
+    put_syllables-next-requires
+    shape_of-words-then-stands
+    returns-then-stands
     fault-requires-2
-    returns-3)
+    returns)

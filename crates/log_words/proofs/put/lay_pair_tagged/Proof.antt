@@ -5,56 +5,56 @@ use borrow.Author.Rules.{rules}
 use Rattle.log_words.proofs.put.lay_pair_tagged.Statement.{statement}
 use Rattle.log_words.proofs.put.lay_pair_tagged.Tie as tie
 
-mul-if1 : tie.Need-overflow-mul-if1
-mul-if1 c = search rules
+overflow_mul-log : tie.Need-overflow_mul-log
+overflow_mul-log c = search rules
 
-add-if1 : tie.Need-overflow-add-if1
-add-if1 c = search rules
+overflow_add-behind : tie.Need-overflow_add-behind
+overflow_add-behind c = search rules
 
 fault-requires : tie.Need-fault-requires
 fault-requires c κs = search rules
 
 -- where the words before the tag were put
-abbrev first : tie.After-lay-tag → tie.After-put-syllables
+abbrev first : tie.After-lay_tag → tie.After-put_syllables-next
 first c = c.before.before.before.before
 
-returns : tie.Need-returns
-returns c =
-    laid.short c.before.if1.true c.fault.ensures refl
+returns-then-log-behind : tie.Need-returns-then-log-behind
+returns-then-log-behind c =
+    laid.short c.before.if-log-behind.true c.fault.ensures refl
 
-put-syllables-requires : tie.Need-put-syllables-requires
-put-syllables-requires c κs = search rules
+put_syllables-next-requires : tie.Need-put_syllables-next-requires
+put_syllables-next-requires c κs = search rules
 
-lay-tag-requires : tie.Need-lay-tag-requires
-lay-tag-requires c κs = search rules
+lay_tag-requires : tie.Need-lay_tag-requires
+lay_tag-requires c κs = search rules
 
-same_length : tie.Need-same-length
-same_length c = search rules
+shape_of-words-then-stands : tie.Need-shape_of-words-then-stands
+shape_of-words-then-stands c = search rules
 
-returns-2 : tie.Need-returns-2
-returns-2 c =
+returns-then-stands : tie.Need-returns-then-stands
+returns-then-stands c =
     let t = c.before.before in
     let w = first t in
-    laid.put w.before.before.before.if1.left w.before.before.if2.taken _ _ w.put-syllables.ensures t.lay-tag.ensures
+    laid.put w.before.before.before.if-log-behind.left w.before.before.if-stands.taken _ _ w.put_syllables-next.ensures t.lay_tag.ensures
 
 fault-requires-2 : tie.Need-fault-requires-2
 fault-requires-2 c κs = search rules
 
-returns-3 : tie.Need-returns-3
-returns-3 c =
-    laid.misplaced c.before.before.if1.false c.before.if2.false c.fault2.ensures refl
+returns : tie.Need-returns
+returns c =
+    laid.misplaced c.before.before.if-log-behind.false c.before.if-stands.false c.fault-2.ensures refl
 
 pub lay_pair_tagged_spec : {M : Type 1} → statement M
 lay_pair_tagged_spec =
     tie.close
     (tie.spec
-    mul-if1
-    add-if1
+    overflow_mul-log
+    overflow_add-behind
     fault-requires
-    returns
-    put-syllables-requires
-    lay-tag-requires
-    same_length
-    returns-2
+    returns-then-log-behind
+    put_syllables-next-requires
+    lay_tag-requires
+    shape_of-words-then-stands
+    returns-then-stands
     fault-requires-2
-    returns-3)
+    returns)

@@ -8,78 +8,78 @@ use Rattle.log_words.proofs.put.lay_timed.Statement.{statement}
 use Rattle.log_words.proofs.put.lay_timed.Tie as tie
 
 -- where the response time's word was put and the tests were made; where it was taken
-abbrev first : tie.After-put2 → tie.After-put
+abbrev first : tie.After-put-next → tie.After-put-first
 first c = c.before.before.before.before
 
-abbrev timely : tie.After-put → tie.Then3
+abbrev timely : tie.After-put-first → tie.Then-response-lt10000
 timely c = c.before.before.before
 
-abbrev took : tie.Then3 → tie.After-take
+abbrev took : tie.Then-response-lt10000 → tie.After-take-response
 took c = c.before.before.before.before.before
 
-take-requires : tie.Need-take-requires
-take-requires c κs = search rules
+take-response-requires : tie.Need-take-response-requires
+take-response-requires c κs = search rules
 
 fault-requires : tie.Need-fault-requires
 fault-requires c κs = search rules
 
-returns : tie.Need-returns
-returns c =
-    let t = c.before.before.before.take in
-    laid.short (omega (arith, c.before.if1.true, t.ensures.2)) c.fault.ensures refl
+returns-then-total-response : tie.Need-returns-then-total-response
+returns-then-total-response c =
+    let t = c.before.before.before.take-response in
+    laid.short (omega (arith, c.before.if-total-response.true, t.ensures.2)) c.fault.ensures refl
 
 join-requires : tie.Need-join-requires
 join-requires c κs = search rules
 
-put-requires : tie.Need-put-requires
-put-requires c κs = search rules
+put-first-requires : tie.Need-put-first-requires
+put-first-requires c κs = search rules
 
-put-requires-2 : tie.Need-put-requires-2
-put-requires-2 c κs = search rules
+put-next-requires : tie.Need-put-next-requires
+put-next-requires c κs = search rules
 
-same_length : tie.Need-same-length
-same_length c = search rules
+shape_of-words-then-response-lt10000 : tie.Need-shape_of-words-then-response-lt10000
+shape_of-words-then-response-lt10000 c = search rules
 
-returns-2 : tie.Need-returns-2
-returns-2 c =
+returns-then-response-lt10000 : tie.Need-returns-then-response-lt10000
+returns-then-response-lt10000 c =
     let two = c.before.before in
     let one = first two in
     let m = timely one in
-    let t = (took m).take in
+    let t = (took m).take-response in
     rw (← t.ensures.0, ← t.ensures.2, ← one.before.join.ensures)
-    (laid.put m.before.before.before.if1.left m.before.before.if2.taken (lt-ltb _ 10000 m.if3.taken) refl refl
-    (puts_more one.put.ensures two.put2.ensures (omega (arith, (took m).before.before.pre))))
+    (laid.put-first m.before.before.before.if-total-response.left m.before.before.if-stands.taken (lt-ltb _ 10000 m.if-response-lt10000.taken) refl refl
+    (puts_more one.put-first.ensures two.put-next.ensures (omega (arith, (took m).before.before.pre))))
+
+fault-requires-then-stands : tie.Need-fault-requires-then-stands
+fault-requires-then-stands c κs = search rules
+
+returns-then-stands : tie.Need-returns-then-stands
+returns-then-stands c =
+    let t = c.before.before.before.before.before.before.take-response in
+    rw (← t.ensures.0, ← t.ensures.2)
+    (laid.past c.before.before.before.before.if-total-response.false c.before.before.before.if-stands.true (le-ltb _ 10000 c.before.if-response-lt10000.false) c.fault-then-stands.ensures refl)
 
 fault-requires-2 : tie.Need-fault-requires-2
 fault-requires-2 c κs = search rules
 
-returns-3 : tie.Need-returns-3
-returns-3 c =
-    let t = c.before.before.before.before.before.before.take in
-    rw (← t.ensures.0, ← t.ensures.2)
-    (laid.past c.before.before.before.before.if1.false c.before.before.before.if2.true (le-ltb _ 10000 c.before.if3.false) c.fault2.ensures refl)
-
-fault-requires-3 : tie.Need-fault-requires-3
-fault-requires-3 c κs = search rules
-
-returns-4 : tie.Need-returns-4
-returns-4 c =
-    let t = c.before.before.before.before.take in
-    laid.misplaced (omega (arith, c.before.before.if1.false, t.ensures.2)) c.before.if2.false c.fault3.ensures refl
+returns : tie.Need-returns
+returns c =
+    let t = c.before.before.before.before.take-response in
+    laid.misplaced (omega (arith, c.before.before.if-total-response.false, t.ensures.2)) c.before.if-stands.false c.fault-2.ensures refl
 
 pub lay_timed_spec : {M : Type 1} → statement M
 lay_timed_spec =
     tie.close
     (tie.spec
-    take-requires
+    take-response-requires
     fault-requires
-    returns
+    returns-then-total-response
     join-requires
-    put-requires
-    put-requires-2
-    same_length
-    returns-2
+    put-first-requires
+    put-next-requires
+    shape_of-words-then-response-lt10000
+    returns-then-response-lt10000
+    fault-requires-then-stands
+    returns-then-stands
     fault-requires-2
-    returns-3
-    fault-requires-3
-    returns-4)
+    returns)

@@ -10,15 +10,15 @@ use Rattle.log_write.proofs.Pen.put.Reads as put_reads
 put-requires : tie.Need-put-requires
 put-requires c κs = search rules
 
-add-result : tie.Need-overflow-add-result
-add-result c = search rules
+overflow_add-result : tie.Need-overflow_add-result
+overflow_add-result c = search rules
 
-same_length : tie.Need-same-length
-same_length c = search rules
+shape_of-out : tie.Need-shape_of-out
+shape_of-out c = search rules
 
 returns : tie.Need-returns
 unfolding closed_size closed_in
 returns c = (refl, c.before.before.before.put.ensures.1)
 
 pub close_spec : {M : Type 1} → statement M
-close_spec = tie.close (tie.spec put-requires add-result same_length returns)
+close_spec = tie.close (tie.spec put-requires overflow_add-result shape_of-out returns)

@@ -15,40 +15,40 @@ use Rattle.log_write.proofs.Pen.put.Reads as put_reads
 
 -- the item as numbers
 abbrev Packed-item : Type 0
-Packed-item = tie.After-item-bits
+Packed-item = tie.After-item_bits-p
 
 abbrev start : Packed-item → tie.Start
 start c = c.before.before
 
-told : (c : Packed-item) → Says (start c).args.item c.item_bits.result
-told c = says (start c).args.item c.item_bits.result c.item_bits.ensures
+told : (c : Packed-item) → Says (start c).args.item c.item_bits-p.result
+told c = says (start c).args.item c.item_bits-p.result c.item_bits-p.ensures
 
 -- its first number is put
-abbrev numbers : tie.After-put → Packed-item
+abbrev numbers : tie.After-put-pen → Packed-item
 numbers c = c.before.before
 
-first_put : (c : tie.After-put) → c.put.result.bits ≡ (start (numbers c)).args.self.bits + (numbers c).item_bits.result.first_bits
+first_put : (c : tie.After-put-pen) → c.put-pen.result.bits ≡ (start (numbers c)).args.self.bits + (numbers c).item_bits-p.result.first_bits
 first_put c =
     let p = numbers c in
-    let x = p.item_bits.result in
-    ap (λ (q : Pen). q.bits) c.put.ensures.0 ∙ put_bits (start p).args.self x.first x.first_bits (omega (arith, (told p).first_few)) (told p).first_low
+    let x = p.item_bits-p.result in
+    ap (λ (q : Pen). q.bits) c.put-pen.ensures.0 ∙ put_bits (start p).args.self x.first x.first_bits (omega (arith, (told p).first_few)) (told p).first_low
 
-item-bits-requires : tie.Need-item-bits-requires
-item-bits-requires c κs = search rules
+item_bits-p-requires : tie.Need-item_bits-p-requires
+item_bits-p-requires c κs = search rules
 
-put-requires : tie.Need-put-requires
-put-requires c κs =
+put-pen-requires : tie.Need-put-pen-requires
+put-pen-requires c κs =
     let p = c.before in
     (omega (arith, (start p).requires), omega (arith, (told p).first_few), (told p).first_low)
 
-put-requires-2 : tie.Need-put-requires-2
-put-requires-2 c κs =
+put-requires : tie.Need-put-requires
+put-requires c κs =
     let f = c.before.before.before in
     let p = numbers f in
     (omega (arith, first_put f, (told p).first_few, (start p).pre), omega (arith, (told p).behind_few), (told p).behind_low)
 
-same_length : tie.Need-same-length
-same_length c = search rules
+shape_of-out : tie.Need-shape_of-out
+shape_of-out c = search rules
 
 returns : tie.Need-returns
 unfolding item_put item_in
@@ -56,10 +56,10 @@ returns c =
     let g = c.before.before in
     let f = g.before.before.before.before in
     let p = numbers f in (
-      rw (← p.item_bits.ensures, ← f.put.ensures.0) g.put2.ensures.0,
-      rw (← p.item_bits.ensures, ← f.put.ensures.0, ← f.put.ensures.1) g.put2.ensures.1,
+      rw (← p.item_bits-p.ensures, ← f.put-pen.ensures.0) g.put.ensures.0,
+      rw (← p.item_bits-p.ensures, ← f.put-pen.ensures.0, ← f.put-pen.ensures.1) g.put.ensures.1,
     )
 
 pub put_item_spec : {M : Type 1} → statement M
 put_item_spec =
-    tie.close (tie.spec item-bits-requires put-requires put-requires-2 same_length returns)
+    tie.close (tie.spec item_bits-p-requires put-pen-requires put-requires shape_of-out returns)

@@ -16,68 +16,68 @@ item c x = let a = c.before.args in Arinc a.bus a.channel x a.word
 head-requires : tie.Need-head-requires
 head-requires c κs = search rules
 
-mul-front : tie.Need-overflow-mul-front
-mul-front c = search rules
+overflow_mul-front : tie.Need-overflow_mul-front
+overflow_mul-front c = search rules
 
-cast-front : tie.Need-overflow-cast-front
-cast-front c = search rules
+overflow_cast-front : tie.Need-overflow_cast-front
+overflow_cast-front c = search rules
 
-add-front : tie.Need-overflow-add-front
-add-front c = search rules
+overflow_add-front : tie.Need-overflow_add-front
+overflow_add-front c = search rules
 
-mul-front-2 : tie.Need-overflow-mul-front-2
-mul-front-2 c = search rules
+overflow_mul-front-2 : tie.Need-overflow_mul-front-2
+overflow_mul-front-2 c = search rules
 
-enum_told : tie.Need-enum-told
-enum_told c = search rules
+enum_told-1 : tie.Need-enum_told-1
+enum_told-1 c = search rules
 
-mul-t13 : tie.Need-overflow-mul-t13
-mul-t13 c = search rules
+overflow_mul-result : tie.Need-overflow_mul-result
+overflow_mul-result c = search rules
 
-add-t15 : tie.Need-overflow-add-t15
-add-t15 c = search rules
+overflow_add-result : tie.Need-overflow_add-result
+overflow_add-result c = search rules
 
-enum-known-tag : tie.Need-enum-known-tag
-enum-known-tag c = search rules
+enum_known-tag : tie.Need-enum_known-tag
+enum_known-tag c = search rules
 
-add-t16 : tie.Need-overflow-add-t16
-add-t16 c = search rules
+overflow_add-result-in-At : tie.Need-overflow_add-result-in-At
+overflow_add-result-in-At c = search rules
 
-mul-t17 : tie.Need-overflow-mul-t17
-mul-t17 c = search rules
+overflow_mul-result-in-At : tie.Need-overflow_mul-result-in-At
+overflow_mul-result-in-At c = search rules
 
-add-t19 : tie.Need-overflow-add-t19
-add-t19 c = search rules
+overflow_add-result-in-At-2 : tie.Need-overflow_add-result-in-At-2
+overflow_add-result-in-At-2 c = search rules
 
-tag-number-requires : tie.Need-tag-number-requires
-tag-number-requires c κs = search rules
+tag_number-requires : tie.Need-tag_number-requires
+tag_number-requires c κs = search rules
 
-returns : tie.Need-returns
+returns-in-Untagged : tie.Need-returns-in-Untagged
 unfolding item_fields
-returns c = rw c.enum_told.given.1 (packed_by (item c.before.before Untagged) _ _ (omega arith) refl)
+returns-in-Untagged c = rw c.enum_told-1.given.1 (packed_by (item c.before.before Untagged) _ _ (omega arith) refl)
 
-returns-2 : tie.Need-returns-2
+returns-in-At : tie.Need-returns-in-At
 unfolding item_fields
-returns-2 c =
+returns-in-At c =
     let t = c.before.before in
-    rw t.tag.given.1 (packed_by (item t.before.before (At t.tag.given.0.0)) _ _ (omega arith) (omega (arith, c.tag-number.ensures)))
+    rw t.tag-1.given.1 (packed_by (item t.before.before (At t.tag-1.given.0.0)) _ _ (omega arith) (omega (arith, c.tag_number.ensures)))
 
 pub arinc_bits_spec : {M : Type 1} → statement M
 arinc_bits_spec =
     tie.close
     (tie.spec
     head-requires
-    mul-front
-    cast-front
-    add-front
-    mul-front-2
-    enum_told
-    mul-t13
-    add-t15
-    enum-known-tag
-    add-t16
-    mul-t17
-    add-t19
-    tag-number-requires
-    returns
-    returns-2)
+    overflow_mul-front
+    overflow_cast-front
+    overflow_add-front
+    overflow_mul-front-2
+    enum_told-1
+    overflow_mul-result
+    overflow_add-result
+    enum_known-tag
+    overflow_add-result-in-At
+    overflow_mul-result-in-At
+    overflow_add-result-in-At-2
+    tag_number-requires
+    returns-in-Untagged
+    returns-in-At)

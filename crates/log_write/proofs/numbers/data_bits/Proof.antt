@@ -10,20 +10,20 @@ use Rattle.log_write.proofs.numbers.data_bits.Tie as tie
 head-requires : tie.Need-head-requires
 head-requires c κs = search rules
 
-mul-t5 : tie.Need-overflow-mul-t5
-mul-t5 c = search rules
+overflow_mul-result : tie.Need-overflow_mul-result
+overflow_mul-result c = search rules
 
 flag-requires : tie.Need-flag-requires
 flag-requires c κs = search rules
 
-add-t7 : tie.Need-overflow-add-t7
-add-t7 c = search rules
+overflow_add-result : tie.Need-overflow_add-result
+overflow_add-result c = search rules
 
-mul-t8 : tie.Need-overflow-mul-t8
-mul-t8 c = search rules
+overflow_mul-result-2 : tie.Need-overflow_mul-result-2
+overflow_mul-result-2 c = search rules
 
-add-t10 : tie.Need-overflow-add-t10
-add-t10 c = search rules
+overflow_add-result-2 : tie.Need-overflow_add-result-2
+overflow_add-result-2 c = search rules
 
 returns : tie.Need-returns
 unfolding item_fields
@@ -31,4 +31,4 @@ returns c = packed_by (Data c.before.before.args.bus c.before.before.args.b c.be
 
 pub data_bits_spec : {M : Type 1} → statement M
 data_bits_spec =
-    tie.close (tie.spec head-requires mul-t5 flag-requires add-t7 mul-t8 add-t10 returns)
+    tie.close (tie.spec head-requires overflow_mul-result flag-requires overflow_add-result overflow_mul-result-2 overflow_add-result-2 returns)

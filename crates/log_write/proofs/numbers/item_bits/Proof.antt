@@ -3,103 +3,103 @@ use borrow.Author.Rules.{rules}
 use Rattle.log_write.proofs.numbers.item_bits.Statement.{statement}
 use Rattle.log_write.proofs.numbers.item_bits.Tie as tie
 
-enum-known-item : tie.Need-enum-known-item
-enum-known-item c = search rules
+enum_known-item : tie.Need-enum_known-item
+enum_known-item c = search rules
 
-command-bits-requires : tie.Need-command-bits-requires
-command-bits-requires c κs = search rules
+command_bits-requires : tie.Need-command_bits-requires
+command_bits-requires c κs = search rules
 
-enum-known-item-2 : tie.Need-enum-known-item-2
-enum-known-item-2 c = search rules
+enum_known-item-in-Status-1 : tie.Need-enum_known-item-in-Status-1
+enum_known-item-in-Status-1 c = search rules
 
-status-bits-requires : tie.Need-status-bits-requires
-status-bits-requires c κs = search rules
+status_bits-requires : tie.Need-status_bits-requires
+status_bits-requires c κs = search rules
 
-enum-known-item-3 : tie.Need-enum-known-item-3
-enum-known-item-3 c = search rules
+enum_known-item-in-Data-1 : tie.Need-enum_known-item-in-Data-1
+enum_known-item-in-Data-1 c = search rules
 
-data-bits-requires : tie.Need-data-bits-requires
-data-bits-requires c κs = search rules
+data_bits-requires : tie.Need-data_bits-requires
+data_bits-requires c κs = search rules
 
-enum-known-item-4 : tie.Need-enum-known-item-4
-enum-known-item-4 c = search rules
+enum_known-item-in-BusError-1 : tie.Need-enum_known-item-in-BusError-1
+enum_known-item-in-BusError-1 c = search rules
 
-error-bits-requires : tie.Need-error-bits-requires
-error-bits-requires c κs = search rules
+error_bits-requires : tie.Need-error_bits-requires
+error_bits-requires c κs = search rules
 
-enum-known-item-5 : tie.Need-enum-known-item-5
-enum-known-item-5 c = search rules
+enum_known-item-in-Arinc-1 : tie.Need-enum_known-item-in-Arinc-1
+enum_known-item-in-Arinc-1 c = search rules
 
-arinc-bits-requires : tie.Need-arinc-bits-requires
-arinc-bits-requires c κs = search rules
+arinc_bits-requires : tie.Need-arinc_bits-requires
+arinc_bits-requires c κs = search rules
 
-enum-known-item-6 : tie.Need-enum-known-item-6
-enum-known-item-6 c = search rules
+enum_known-item-in-Notice-1 : tie.Need-enum_known-item-in-Notice-1
+enum_known-item-in-Notice-1 c = search rules
 
-notice-bits-requires : tie.Need-notice-bits-requires
-notice-bits-requires c κs = search rules
+notice_bits-requires : tie.Need-notice_bits-requires
+notice_bits-requires c κs = search rules
 
-enum-known-item-7 : tie.Need-enum-known-item-7
-enum-known-item-7 c = search rules
+enum_known-item-in-User-1 : tie.Need-enum_known-item-in-User-1
+enum_known-item-in-User-1 c = search rules
 
-user-bits-requires : tie.Need-user-bits-requires
-user-bits-requires c κs = search rules
+user_bits-requires : tie.Need-user_bits-requires
+user_bits-requires c κs = search rules
 
-enum-known-item-8 : tie.Need-enum-known-item-8
-enum-known-item-8 c = search rules
+enum_known-item-in-Overflow-1 : tie.Need-enum_known-item-in-Overflow-1
+enum_known-item-in-Overflow-1 c = search rules
 
-overflow-bits-requires : tie.Need-overflow-bits-requires
-overflow-bits-requires c κs = search rules
+overflow_bits-requires : tie.Need-overflow_bits-requires
+overflow_bits-requires c κs = search rules
 
-returns : tie.Need-returns
-returns c = simp c.before.before.item.given.1 c.command-bits.ensures
+returns-in-Command : tie.Need-returns-in-Command
+returns-in-Command c = simp c.before.before.item-1.given.1 c.command_bits.ensures
 
-returns-2 : tie.Need-returns-2
-returns-2 c = simp c.before.before.item2.given.1 c.status_bits.ensures
+returns-in-Status : tie.Need-returns-in-Status
+returns-in-Status c = simp c.before.before.item-in-Status-1.given.1 c.status_bits.ensures
 
-returns-3 : tie.Need-returns-3
-returns-3 c = simp c.before.before.item3.given.1 c.data-bits.ensures
+returns-in-Data : tie.Need-returns-in-Data
+returns-in-Data c = simp c.before.before.item-in-Data-1.given.1 c.data_bits.ensures
 
-returns-4 : tie.Need-returns-4
-returns-4 c = simp c.before.before.item4.given.1 c.error-bits.ensures
+returns-in-BusError : tie.Need-returns-in-BusError
+returns-in-BusError c = simp c.before.before.item-in-BusError-1.given.1 c.error_bits.ensures
 
-returns-5 : tie.Need-returns-5
-returns-5 c = simp c.before.before.item5.given.1 c.arinc-bits.ensures
+returns-in-Arinc : tie.Need-returns-in-Arinc
+returns-in-Arinc c = simp c.before.before.item-in-Arinc-1.given.1 c.arinc_bits.ensures
 
-returns-6 : tie.Need-returns-6
-returns-6 c = simp c.before.before.item6.given.1 c.notice-bits.ensures
+returns-in-Notice : tie.Need-returns-in-Notice
+returns-in-Notice c = simp c.before.before.item-in-Notice-1.given.1 c.notice_bits.ensures
 
-returns-7 : tie.Need-returns-7
-returns-7 c = simp c.before.before.item7.given.1 c.user-bits.ensures
+returns-in-User : tie.Need-returns-in-User
+returns-in-User c = simp c.before.before.item-in-User-1.given.1 c.user_bits.ensures
 
-returns-8 : tie.Need-returns-8
-returns-8 c = simp c.before.before.item8.given.1 c.overflow-bits.ensures
+returns-in-Overflow : tie.Need-returns-in-Overflow
+returns-in-Overflow c = simp c.before.before.item-in-Overflow-1.given.1 c.overflow_bits.ensures
 
 pub item_bits_spec : {M : Type 1} → statement M
 item_bits_spec =
     tie.close
     (tie.spec
-    enum-known-item
-    command-bits-requires
-    enum-known-item-2
-    status-bits-requires
-    enum-known-item-3
-    data-bits-requires
-    enum-known-item-4
-    error-bits-requires
-    enum-known-item-5
-    arinc-bits-requires
-    enum-known-item-6
-    notice-bits-requires
-    enum-known-item-7
-    user-bits-requires
-    enum-known-item-8
-    overflow-bits-requires
-    returns
-    returns-2
-    returns-3
-    returns-4
-    returns-5
-    returns-6
-    returns-7
-    returns-8)
+    enum_known-item
+    command_bits-requires
+    enum_known-item-in-Status-1
+    status_bits-requires
+    enum_known-item-in-Data-1
+    data_bits-requires
+    enum_known-item-in-BusError-1
+    error_bits-requires
+    enum_known-item-in-Arinc-1
+    arinc_bits-requires
+    enum_known-item-in-Notice-1
+    notice_bits-requires
+    enum_known-item-in-User-1
+    user_bits-requires
+    enum_known-item-in-Overflow-1
+    overflow_bits-requires
+    returns-in-Command
+    returns-in-Status
+    returns-in-Data
+    returns-in-BusError
+    returns-in-Arinc
+    returns-in-Notice
+    returns-in-User
+    returns-in-Overflow)

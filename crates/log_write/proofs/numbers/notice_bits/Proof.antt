@@ -10,24 +10,24 @@ use Rattle.log_write.proofs.numbers.notice_bits.Tie as tie
 head-requires : tie.Need-head-requires
 head-requires c κs = search rules
 
-mul-t5 : tie.Need-overflow-mul-t5
-mul-t5 c = search rules
+overflow_mul-result : tie.Need-overflow_mul-result
+overflow_mul-result c = search rules
 
-cast-t7 : tie.Need-overflow-cast-t7
-cast-t7 c = search rules
+overflow_cast-result : tie.Need-overflow_cast-result
+overflow_cast-result c = search rules
 
-add-t8 : tie.Need-overflow-add-t8
-add-t8 c = search rules
+overflow_add-result : tie.Need-overflow_add-result
+overflow_add-result c = search rules
 
-mul-t9 : tie.Need-overflow-mul-t9
-mul-t9 c = search rules
+overflow_mul-result-2 : tie.Need-overflow_mul-result-2
+overflow_mul-result-2 c = search rules
 
-add-t11 : tie.Need-overflow-add-t11
-add-t11 c = search rules
+overflow_add-result-2 : tie.Need-overflow_add-result-2
+overflow_add-result-2 c = search rules
 
 returns : tie.Need-returns
 unfolding item_fields
 returns c = packed_by (Notice c.before.args.bus c.before.args.channel c.before.args.diagnostics) _ _ (omega arith) refl
 
 pub notice_bits_spec : {M : Type 1} → statement M
-notice_bits_spec = tie.close (tie.spec head-requires mul-t5 cast-t7 add-t8 mul-t9 add-t11 returns)
+notice_bits_spec = tie.close (tie.spec head-requires overflow_mul-result overflow_cast-result overflow_add-result overflow_mul-result-2 overflow_add-result-2 returns)

@@ -10,15 +10,15 @@ use Rattle.log_write.proofs.numbers.overflow_bits.Tie as tie
 head-requires : tie.Need-head-requires
 head-requires c κs = search rules
 
-mul-t4 : tie.Need-overflow-mul-t4
-mul-t4 c = search rules
+overflow_mul-result : tie.Need-overflow_mul-result
+overflow_mul-result c = search rules
 
-add-t6 : tie.Need-overflow-add-t6
-add-t6 c = search rules
+overflow_add-result : tie.Need-overflow_add-result
+overflow_add-result c = search rules
 
 returns : tie.Need-returns
 unfolding item_fields
 returns c = packed_by (Overflow c.before.args.bus c.before.args.word) _ _ (omega arith) refl
 
 pub overflow_bits_spec : {M : Type 1} → statement M
-overflow_bits_spec = tie.close (tie.spec head-requires mul-t4 add-t6 returns)
+overflow_bits_spec = tie.close (tie.spec head-requires overflow_mul-result overflow_add-result returns)

@@ -2,17 +2,17 @@ use borrow.Author.Rules.{rules}
 use Rattle.vinculampe.proofs.full.vin_read_closed_full.Statement.{statement}
 use Rattle.vinculampe.proofs.full.vin_read_closed_full.Tie as tie
 
-read-from-requires : tie.Need-read-from-requires
-read-from-requires c κs = search rules
+read_from-requires : tie.Need-read_from-requires
+read_from-requires c κs = search rules
 
-same_length : tie.Need-same-length
-same_length c = search rules
+shape_of-log : tie.Need-shape_of-log
+shape_of-log c = search rules
 
-same-length-2 : tie.Need-same-length-2
-same-length-2 c = search rules
+shape_of-times : tie.Need-shape_of-times
+shape_of-times c = search rules
 
 returns : tie.Need-returns
-returns c = c.before.before.before.before.read-from.ensures
+returns c = c.before.before.before.before.read_from.ensures
 
 pub vin_read_closed_full_spec : {M : Type 1} → statement M
-vin_read_closed_full_spec = tie.close (tie.spec read-from-requires same_length same-length-2 returns)
+vin_read_closed_full_spec = tie.close (tie.spec read_from-requires shape_of-log shape_of-times returns)

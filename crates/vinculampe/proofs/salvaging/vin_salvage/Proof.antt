@@ -2,20 +2,20 @@ use borrow.Author.Rules.{rules}
 use Rattle.vinculampe.proofs.salvaging.vin_salvage.Statement.{statement}
 use Rattle.vinculampe.proofs.salvaging.vin_salvage.Tie as tie
 
-salvage-from-requires : tie.Need-salvage-from-requires
-salvage-from-requires c κs = search rules
+salvage_from-requires : tie.Need-salvage_from-requires
+salvage_from-requires c κs = search rules
 
-same_length : tie.Need-same-length
-same_length c = search rules
+shape_of-log : tie.Need-shape_of-log
+shape_of-log c = search rules
 
-same-length-2 : tie.Need-same-length-2
-same-length-2 c = search rules
+shape_of-times : tie.Need-shape_of-times
+shape_of-times c = search rules
 
-same-length-3 : tie.Need-same-length-3
-same-length-3 c = search rules
+shape_of-report : tie.Need-shape_of-report
+shape_of-report c = search rules
 
 returns : tie.Need-returns
-returns c = c.before.before.before.before.before.before.salvage-from.ensures
+returns c = c.before.before.before.before.before.before.salvage_from.ensures
 
 pub vin_salvage_spec : {M : Type 1} → statement M
-vin_salvage_spec = tie.close (tie.spec salvage-from-requires same_length same-length-2 same-length-3 returns)
+vin_salvage_spec = tie.close (tie.spec salvage_from-requires shape_of-log shape_of-times shape_of-report returns)

@@ -2,20 +2,20 @@ use borrow.Author.Rules.{rules}
 use Rattle.vinculampe.proofs.streaming.vin_stream_feed.Statement.{statement}
 use Rattle.vinculampe.proofs.streaming.vin_stream_feed.Tie as tie
 
-feed-from-requires : tie.Need-feed-from-requires
-feed-from-requires c κs = search rules
+feed_from-requires : tie.Need-feed_from-requires
+feed_from-requires c κs = search rules
 
-same_length : tie.Need-same-length
-same_length c = search rules
+shape_of-state : tie.Need-shape_of-state
+shape_of-state c = search rules
 
-same-length-2 : tie.Need-same-length-2
-same-length-2 c = search rules
+shape_of-log : tie.Need-shape_of-log
+shape_of-log c = search rules
 
-same-length-3 : tie.Need-same-length-3
-same-length-3 c = search rules
+shape_of-times : tie.Need-shape_of-times
+shape_of-times c = search rules
 
 returns : tie.Need-returns
-returns c = c.before.before.before.before.before.before.feed-from.ensures
+returns c = c.before.before.before.before.before.before.feed_from.ensures
 
 pub vin_stream_feed_spec : {M : Type 1} → statement M
-vin_stream_feed_spec = tie.close (tie.spec feed-from-requires same_length same-length-2 same-length-3 returns)
+vin_stream_feed_spec = tie.close (tie.spec feed_from-requires shape_of-state shape_of-log shape_of-times returns)
