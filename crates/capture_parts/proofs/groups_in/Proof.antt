@@ -19,7 +19,7 @@ quotient-requires c κs =
     (omega (arith, s.requires.1), omega (arith, w.0, some_words _ s.requires.0), omega (arith, w.1))
 
 returns : tie.Need-returns
-returns c = let s = c.before.before in c.quotient.ensures ∙ ap (λ (w : ℕ). s.args.length / (3 * w)) c.before.group_words.ensures.0
+returns c = let s = c.before.before in c.quotient.ensures ∙ ap (λ (w : ℕ). s.args.length / (3 * w)) c.group_words.ensures.0
 
 pub groups_in_spec : {M : Type 1} → statement M
 groups_in_spec = tie.close (tie.spec group_words-requires overflow_mul-group_words quotient-requires returns)

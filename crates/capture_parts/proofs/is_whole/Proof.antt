@@ -22,7 +22,7 @@ remainder-requires c κs =
 returns : tie.Need-returns
 returns c =
     let s = c.before.before in
-    ap (λ (k : ℕ). eqb k 0) (c.remainder.ensures ∙ ap (λ (w : ℕ). s.args.length % (3 * w)) c.before.group_words.ensures.0)
+    ap (λ (k : ℕ). eqb k 0) (c.remainder.ensures ∙ ap (λ (w : ℕ). s.args.length % (3 * w)) c.group_words.ensures.0)
 
 pub is_whole_spec : {M : Type 1} → statement M
 is_whole_spec = tie.close (tie.spec group_words-requires overflow_mul-group_words remainder-requires returns)

@@ -33,10 +33,10 @@ abbrev start : Divided → tie.Start
 start c = c.before.before.before
 
 abbrev slot : Divided → ℕ
-slot c = c.before.lead.result + c.remainder.result
+slot c = c.lead.result + c.remainder.result
 
 slot_is : (c : Divided) → slot c ≡ lead (start c).args.plan + (start c).args.number % (start c).args.count
-slot_is c = ap₂ ◌+◌ c.before.lead.ensures c.remainder.ensures
+slot_is c = ap₂ ◌+◌ c.lead.ensures c.remainder.ensures
 
 in_row : (c : Divided) → slot c < dealt_count (start c).args.plan
 unfolding slots
@@ -46,7 +46,7 @@ remainder-requires : tie.Need-remainder-requires
 remainder-requires c κs = narrow c.before.before
 
 overflow_add-lead : tie.Need-overflow_add-lead
-overflow_add-lead c = let s = start c in omega (arith, slot_is c, inner s, slots_most s.args.plan s.pre.0, lead_few s.args.plan)
+overflow_add-lead c = let s = start c in omega (arith, slot_is c, inner s, slots_most s.args.plan s.requires.0, lead_few s.args.plan)
 
 place_of-place-requires : tie.Need-place_of-place-requires
 place_of-place-requires c κs = ((start c).requires.0, in_row c)
@@ -58,9 +58,9 @@ Placed = tie.After-place_of-place
 abbrev divided : Placed → Divided
 divided c = c.before
 
-groups_is : (c : Placed) → c.before.before.before.quotient-group.result * group_words (start (divided c)).args.plan
+groups_is : (c : Placed) → c.quotient-group.result * group_words (start (divided c)).args.plan
     ≡ (start (divided c)).args.number / (start (divided c)).args.count * group_words (start (divided c)).args.plan
-groups_is c = ap (λ (k : ℕ). k * group_words (start (divided c)).args.plan) c.before.before.before.quotient-group.ensures
+groups_is c = ap (λ (k : ℕ). k * group_words (start (divided c)).args.plan) c.quotient-group.ensures
 
 groups : (s : tie.Start) → s.args.number / s.args.count * group_words s.args.plan ≤ 2 ^ 32 * most_group_words
 groups s =
@@ -68,7 +68,7 @@ groups s =
     mul-le-mul q (group_most s.args.plan s.requires.0)
 
 overflow_mul-result : tie.Need-overflow_mul-result
-overflow_mul-result c = let s = start (divided c.before) in omega (arith, group_most s.args.plan s.pre.0)
+overflow_mul-result c = let s = start (divided c.before) in omega (arith, group_most s.args.plan s.requires.0)
 
 overflow_mul-result-2 : tie.Need-overflow_mul-result-2
 overflow_mul-result-2 c = omega (arith, groups_is c.before, groups (start (divided c.before)))
@@ -76,7 +76,7 @@ overflow_mul-result-2 c = omega (arith, groups_is c.before, groups (start (divid
 overflow_add-result : tie.Need-overflow_add-result
 overflow_add-result c =
     let s = start (divided c.before) in
-    omega (arith, groups_is c.before, groups s, c.before.place_of-place.ensures.1, group_most s.args.plan s.pre.0)
+    omega (arith, groups_is c.before, groups s, c.place_of-place.ensures.1, group_most s.args.plan s.requires.0)
 
 returns : tie.Need-returns
 unfolding stored_at
@@ -85,8 +85,8 @@ returns c =
     let s = start (divided placed) in
     let p = s.args.plan in
     let n = s.args.number in
-    ap₂ ◌+◌ (groups_is placed ∙ ap (λ (k : ℕ). n / k * group_words p) s.pre.1)
-    (placed.place_of-place.ensures.0 ∙ ap (place_of p) (slot_is (divided placed) ∙ ap (λ (k : ℕ). lead p + n % k) s.pre.1))
+    ap₂ ◌+◌ (groups_is placed ∙ ap (λ (k : ℕ). n / k * group_words p) s.requires.1)
+    (placed.place_of-place.ensures.0 ∙ ap (place_of p) (slot_is (divided placed) ∙ ap (λ (k : ℕ). lead p + n % k) s.requires.1))
 
 pub stored_place_spec : {M : Type 1} → statement M
 stored_place_spec =

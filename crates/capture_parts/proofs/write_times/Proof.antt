@@ -33,10 +33,10 @@ abbrev start : AtLoop → tie.Start invariant-loop-g decreases-loop-g
 start c = c.before.before.before.before
 
 abbrev words : AtLoop → ℕ
-words c = c.before.group_words-size.result
+words c = c.group_words-size.result
 
 are_words : (c : AtLoop) → words c ≡ group_words (start c).args.plan
-are_words c = c.before.group_words-size.ensures.0
+are_words c = c.group_words-size.ensures.0
 
 -- in it
 abbrev InLoop : Type 0
@@ -45,9 +45,9 @@ InLoop = tie.In-loop-g invariant-loop-g decreases-loop-g
 abbrev at : InLoop → tie.Start invariant-loop-g decreases-loop-g
 at c = start c.before
 
-fits : (c : InLoop) → c.before.loop-g.g * (3 * words c.before) + 3 * words c.before ≤ length (at c).args.capture.now
+fits : (c : InLoop) → c.loop-g.g * (3 * words c.before) + 3 * words c.before ≤ length (at c).args.capture.now
 fits c =
-    part_fits (at c).args.plan c.before.loop-g.g (words c.before) (are_words c.before) (at c).args.capture.now (at c).args.n (at c).requires.1 c.loop-g-test.true
+    part_fits (at c).args.plan c.loop-g.g (words c.before) (are_words c.before) (at c).args.capture.now (at c).args.n (at c).requires.1 c.loop-g-test.true
 
 -- its time is told
 abbrev Timed : Type 0
@@ -56,14 +56,14 @@ Timed = tie.After-group_time invariant-loop-g decreases-loop-g
 abbrev in_loop : Timed → InLoop
 in_loop c = c.before.before
 
-is_time_lem : (c : Timed) → c.group_time.result ≡ time_at (at (in_loop c)).args.plan (at (in_loop c)).args.capture.now (in_loop c).before.loop-g.g
+is_time_lem : (c : Timed) → c.group_time.result ≡ time_at (at (in_loop c)).args.plan (at (in_loop c)).args.capture.now (in_loop c).loop-g.g
 is_time_lem c =
     let s = at (in_loop c) in
     let l = (in_loop c).before in
     let g = l.loop-g.g in
     c.group_time.ensures
     ∙ sym
-    (part_time_is s.args.plan s.args.capture.now (g * group_words s.args.plan) (g * (3 * words l)) (g * (3 * words l) + 3 * words l - g * (3 * words l)) s.pre.0
+    (part_time_is s.args.plan s.args.capture.now (g * group_words s.args.plan) (g * (3 * words l)) (g * (3 * words l) + 3 * words l - g * (3 * words l)) s.requires.0
     (part_begins s.args.plan g (words l) (are_words l)) (part_sized s.args.plan g (words l) (are_words l)))
 
 -- ---- the needs
@@ -97,13 +97,13 @@ group_time-requires : tie.Need-group_time-requires invariant-loop-g decreases-lo
 group_time-requires c κs =
     let i = c.before in
     let s = at i in
-    (s.pre.0, part_long s.args.plan i.before.loop-g.g (words i.before) (are_words i.before) s.args.capture.now s.args.n s.pre.1 i.loop-g-test.true)
+    (s.requires.0, part_long s.args.plan i.loop-g.g (words i.before) (are_words i.before) s.args.capture.now s.args.n s.requires.1 i.loop-g-test.true)
 
 offset_bounds-times-g : tie.Need-offset_bounds-times-g invariant-loop-g decreases-loop-g
 offset_bounds-times-g c = search rules
 
 bounds-times-g : tie.Need-bounds-times-g invariant-loop-g decreases-loop-g
-bounds-times-g c = omega (arith, front_long (in_loop c).before.loop-g.invariant.1)
+bounds-times-g c = omega (arith, front_long (in_loop c).loop-g.invariant.1)
 
 overflow_add-g : tie.Need-overflow_add-g invariant-loop-g decreases-loop-g
 overflow_add-g c = search rules
@@ -114,16 +114,16 @@ loop-g-smaller c = search rules
 loop-g-preserved : tie.Need-loop-g-preserved invariant-loop-g decreases-loop-g
 loop-g-preserved c =
     let s = at (in_loop c) in
-    let l = (in_loop c).before.loop-g in
-    (omega arith, times_more (time_at s.args.plan s.args.capture.now) l.inv.1 (omega (arith, (in_loop c).loop-g-test.true, s.pre.3)) (is_time_lem c))
+    let l = (in_loop c).loop-g in
+    (omega arith, times_more (time_at s.args.plan s.args.capture.now) l.invariant.1 (omega (arith, (in_loop c).loop-g-test.true, s.requires.3)) (is_time_lem c))
 
 shape_of-times : tie.Need-shape_of-times invariant-loop-g decreases-loop-g
-shape_of-times c = front_long c.before.loop-g.invariant.1
+shape_of-times c = front_long c.loop-g.invariant.1
 
 returns : tie.Need-returns invariant-loop-g decreases-loop-g
 returns c =
-    let e : c.before.loop-g.g ≡ (start c.before).args.n = omega arith in
-    rw (← e) c.before.loop-g.invariant.1.is
+    let e : c.loop-g.g ≡ (start c.before).args.n = omega arith in
+    rw (← e) c.loop-g.invariant.1.is
 
 pub write_times_spec : {M : Type 1} → statement M
 write_times_spec =

@@ -20,7 +20,7 @@ abbrev entry : tie.After-lay → tie.Start
 entry c = c.before.before.before.before.before.before
 
 abbrev count : tie.In-Items-2 → ℕ
-count c = c.words-1.given.0.1.0
+count c = c.in-Items.words
 
 abbrev words : tie.In-Items-2 → List ℕ
 words c = words_from (on_plan (entry (laid c)).args.kinds) (entry (laid c)).args.log.now 0
@@ -32,12 +32,12 @@ counted : (c : tie.In-Items-2) → Counted (entry (laid c)).args.plan (entry (la
 counted c =
     let a = entry (laid c) in
     let g = c.words-1.given in
-    log_counted a.args.plan a.args.kinds a.args.log.now a.pre.0
-    (all_bytes a.args.log.now (λ i. omega (arith, (laid c).before.before.before.before.before.shared_slice_known-1.given i)))
+    log_counted a.args.plan a.args.kinds a.args.log.now a.requires.0
+    (all_bytes a.args.log.now (λ i. omega (arith, (laid c).shared_slice_known-1.given i)))
     g.0.0 (count c) (sym g.1 ∙ (laid c).lay.ensures.0)
 
 begins : (c : tie.In-Items-2) → take (count c) (row c) ≡ words c
-begins c = row_begins (count c) (row c) (words c) (entry (laid c)).args.row-1.now (laid c).lay.ensures.1 (counted c).count
+begins c = row_begins (count c) (row c) (words c) (entry (laid c)).args.row.now (laid c).lay.ensures.1 (counted c).count
 
 lay-requires : tie.Need-lay-requires
 lay-requires c κs = search rules
@@ -77,17 +77,17 @@ returns-in-Items : tie.Need-returns-in-Items
 returns-in-Items c =
     let w = c.before.before.before.before.before.before in
     let a = (entry (laid w)).args in
-    rw ((counted w).is a.times.now (length a.out-1.now)) (rw (begins w) at c.before.before.compose_laid.ensures)
+    rw ((counted w).is a.times.now (length a.out-1.now)) (rw (begins w) at c.compose_laid.ensures)
 
 shape_of-row-in-Fault : tie.Need-shape_of-row-in-Fault
 shape_of-row-in-Fault c = search rules
 
 returns-in-Fault : tie.Need-returns-in-Fault
 returns-in-Fault c =
-    let g = c.before.before.number-1.given in
+    let g = c.number-1.given in
     let l = c.before.before.before.before.before.before in
     let a = entry l in
-    rw (log_faulty a.args.plan a.args.kinds a.args.log.now a.args.times.now (length a.args.out-1.now) a.pre.0
+    rw (log_faulty a.args.plan a.args.kinds a.args.log.now a.args.times.now (length a.args.out.now) a.requires.0
     g.0.0 g.0.1.0 (sym g.1 ∙ l.lay.ensures.0))
     (c.refusal.ensures, refl)
 

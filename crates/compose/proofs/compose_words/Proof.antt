@@ -24,14 +24,14 @@ refusal-requires c κs = search rules
 
 returns-then-times-needed : tie.Need-returns-then-times_needed
 returns-then-times-needed c =
-    let a = c.before.before.before.before.before.before.before.args in
-    let q = c.before.before.before.before.before.before.before.requires in
+    let a = c.args in
+    let q = c.requires in
     let ts = a.times.now in
     let ws = a.words.now in
-    let groups : c.before.before.before.groups_for-groups.result ≡ groups_for a.plan (length ws) = c.before.before.before.groups_for-groups.ensures in
-    let need : c.before.before.times_needed-needed.result ≡ cond a.plan.frame_time (groups_for a.plan (length ws)) 0 =
-    c.before.before.times_needed-needed.ensures ∙ ap (λ (k : ℕ). cond a.plan.frame_time k 0) groups in
-    rw (times_wrong a.plan ts (length a.out-1.now) ws (λ z. c.before.if-times-needed.true (z ∙ sym need)))
+    let groups : c.groups_for-groups.result ≡ groups_for a.plan (length ws) = c.groups_for-groups.ensures in
+    let need : c.times_needed-needed.result ≡ cond a.plan.frame_time (groups_for a.plan (length ws)) 0 =
+    c.times_needed-needed.ensures ∙ ap (λ (k : ℕ). cond a.plan.frame_time k 0) groups in
+    rw (times_wrong a.plan ts (length a.out-1.now) ws (λ z. c.if-times-needed.true (z ∙ sym need)))
     (c.refusal.ensures ∙ ap (λ (q : ℕ). refusal 5 q 0) need, refl)
 
 first_late-late-requires : tie.Need-first_late-late-requires
@@ -42,16 +42,16 @@ refusal-requires-then-late-times c κs = search rules
 
 returns-then-late-times : tie.Need-returns-then-late-times
 returns-then-late-times c =
-    let a = c.before.before.before.before.before.before.before.before.before.args in
-    let q = c.before.before.before.before.before.before.before.before.before.requires in
+    let a = c.args in
+    let q = c.requires in
     let ts = a.times.now in
     let ws = a.words.now in
-    let groups : c.before.before.before.before.before.groups_for-groups.result ≡ groups_for a.plan (length ws) = c.before.before.before.before.before.groups_for-groups.ensures in
-    let need : c.before.before.before.before.times_needed-needed.result ≡ cond a.plan.frame_time (groups_for a.plan (length ws)) 0 =
-    c.before.before.before.before.times_needed-needed.ensures ∙ ap (λ (k : ℕ). cond a.plan.frame_time k 0) groups in
-    let number = c.before.before.before.if-times-needed.false ∙ need in
-    let late = c.before.before.first_late-late.ensures in
-    rw (time-late a.plan ts (length a.out-1.now) ws number (λ z. c.before.if-late-times.true (late ∙ z)))
+    let groups : c.groups_for-groups.result ≡ groups_for a.plan (length ws) = c.groups_for-groups.ensures in
+    let need : c.times_needed-needed.result ≡ cond a.plan.frame_time (groups_for a.plan (length ws)) 0 =
+    c.times_needed-needed.ensures ∙ ap (λ (k : ℕ). cond a.plan.frame_time k 0) groups in
+    let number = c.if-times-needed.false ∙ need in
+    let late = c.first_late-late.ensures in
+    rw (time-late a.plan ts (length a.out-1.now) ws number (λ z. c.if-late-times.true (late ∙ z)))
     (c.refusal-then-late-times.ensures ∙ ap (λ (q : ℕ). refusal 5 q 0) late, refl)
 
 group_words-requires : tie.Need-group_words-requires
@@ -62,12 +62,12 @@ overflow_mul-bytes c = search rules
 
 overflow_mul-bytes-2 : tie.Need-overflow_mul-bytes-2
 overflow_mul-bytes-2 c =
-    let a = c.before.before.before.before.before.before.before.before.before.args in
-    let q = c.before.before.before.before.before.before.before.before.before.requires in
+    let a = c.args in
+    let q = c.requires in
     let ts = a.times.now in
     let ws = a.words.now in
-    let groups : c.before.before.before.before.before.groups_for-groups.result ≡ groups_for a.plan (length ws) = c.before.before.before.before.before.groups_for-groups.ensures in
-    let bytes : c.before.before.before.before.before.groups_for-groups.result * (3 * c.group_words.result) ≡ groups_for a.plan (length ws) * (3 * group_words a.plan) =
+    let groups : c.groups_for-groups.result ≡ groups_for a.plan (length ws) = c.groups_for-groups.ensures in
+    let bytes : c.groups_for-groups.result * (3 * c.group_words.result) ≡ groups_for a.plan (length ws) * (3 * group_words a.plan) =
     ap₂ (λ (g w : ℕ). g * (3 * w)) groups c.group_words.ensures.0 in
     rw bytes (omega (arith, small a.plan q.0 (length ws) q.1))
 
@@ -76,32 +76,32 @@ refusal-requires-then-out-bytes c κs = search rules
 
 returns-then-out-bytes : tie.Need-returns-then-out-bytes
 returns-then-out-bytes c =
-    let a = c.before.before.before.before.before.before.before.before.before.before.before.args in
-    let q = c.before.before.before.before.before.before.before.before.before.before.before.requires in
+    let a = c.args in
+    let q = c.requires in
     let ts = a.times.now in
     let ws = a.words.now in
-    let groups : c.before.before.before.before.before.before.before.groups_for-groups.result ≡ groups_for a.plan (length ws) = c.before.before.before.before.before.before.before.groups_for-groups.ensures in
-    let need : c.before.before.before.before.before.before.times_needed-needed.result ≡ cond a.plan.frame_time (groups_for a.plan (length ws)) 0 =
-    c.before.before.before.before.before.before.times_needed-needed.ensures ∙ ap (λ (k : ℕ). cond a.plan.frame_time k 0) groups in
-    let number = c.before.before.before.before.before.if-times-needed.false ∙ need in
-    let size = sym c.before.before.before.before.first_late-late.ensures ∙ c.before.before.before.if-late-times.false in
-    let bytes : c.before.before.before.before.before.before.before.groups_for-groups.result * (3 * c.before.before.group_words.result) ≡ groups_for a.plan (length ws) * (3 * group_words a.plan) =
-    ap₂ (λ (g w : ℕ). g * (3 * w)) groups c.before.before.group_words.ensures.0 in
-    rw (room-short a.plan ts (length a.out-1.now) ws number size (rw bytes at c.before.if-out-bytes.true))
+    let groups : c.groups_for-groups.result ≡ groups_for a.plan (length ws) = c.groups_for-groups.ensures in
+    let need : c.times_needed-needed.result ≡ cond a.plan.frame_time (groups_for a.plan (length ws)) 0 =
+    c.times_needed-needed.ensures ∙ ap (λ (k : ℕ). cond a.plan.frame_time k 0) groups in
+    let number = c.if-times-needed.false ∙ need in
+    let size = sym c.first_late-late.ensures ∙ c.if-late-times.false in
+    let bytes : c.groups_for-groups.result * (3 * c.group_words.result) ≡ groups_for a.plan (length ws) * (3 * group_words a.plan) =
+    ap₂ (λ (g w : ℕ). g * (3 * w)) groups c.group_words.ensures.0 in
+    rw (room-short a.plan ts (length a.out-1.now) ws number size (rw bytes at c.if-out-bytes.true))
     (c.refusal-then-out-bytes.ensures ∙ ap (λ (q : ℕ). refusal 6 q 0) bytes, refl)
 
 write_groups-requires : tie.Need-write_groups-requires
 write_groups-requires c κs =
-    let a = c.before.before.before.before.before.before.before.before.before.before.before.args in
-    let q = c.before.before.before.before.before.before.before.before.before.before.before.requires in
+    let a = c.args in
+    let q = c.requires in
     let ts = a.times.now in
     let ws = a.words.now in
-    let groups : c.before.before.before.before.before.before.before.groups_for-groups.result ≡ groups_for a.plan (length ws) = c.before.before.before.before.before.before.before.groups_for-groups.ensures in
-    let size = sym c.before.before.before.before.first_late-late.ensures ∙ c.before.before.before.if-late-times.false in
-    let bytes : c.before.before.before.before.before.before.before.groups_for-groups.result * (3 * c.before.before.group_words.result) ≡ groups_for a.plan (length ws) * (3 * group_words a.plan) =
-    ap₂ (λ (g w : ℕ). g * (3 * w)) groups c.before.before.group_words.ensures.0 in (
+    let groups : c.groups_for-groups.result ≡ groups_for a.plan (length ws) = c.groups_for-groups.ensures in
+    let size = sym c.first_late-late.ensures ∙ c.if-late-times.false in
+    let bytes : c.groups_for-groups.result * (3 * c.group_words.result) ≡ groups_for a.plan (length ws) * (3 * group_words a.plan) =
+    ap₂ (λ (g w : ℕ). g * (3 * w)) groups c.group_words.ensures.0 in (
       (q.0, q.1, q.2, timely ts size),
-      (groups, rw groups (rw bytes at c.before.if-out-bytes.false)),
+      (groups, rw groups (rw bytes at c.if-out-bytes.false)),
     )
 
 shape_of-out : tie.Need-shape_of-out
@@ -109,19 +109,19 @@ shape_of-out c = search rules
 
 returns : tie.Need-returns
 returns c =
-    let a = c.before.before.before.before.before.before.before.before.before.before.before.before.before.before.args in
-    let q = c.before.before.before.before.before.before.before.before.before.before.before.before.before.before.requires in
+    let a = c.args in
+    let q = c.requires in
     let ts = a.times.now in
     let ws = a.words.now in
-    let groups : c.before.before.before.before.before.before.before.before.before.before.groups_for-groups.result ≡ groups_for a.plan (length ws) = c.before.before.before.before.before.before.before.before.before.before.groups_for-groups.ensures in
-    let need : c.before.before.before.before.before.before.before.before.before.times_needed-needed.result ≡ cond a.plan.frame_time (groups_for a.plan (length ws)) 0 =
-    c.before.before.before.before.before.before.before.before.before.times_needed-needed.ensures ∙ ap (λ (k : ℕ). cond a.plan.frame_time k 0) groups in
-    let number = c.before.before.before.before.before.before.before.before.if-times-needed.false ∙ need in
-    let size = sym c.before.before.before.before.before.before.before.first_late-late.ensures ∙ c.before.before.before.before.before.before.if-late-times.false in
-    let bytes : c.before.before.before.before.before.before.before.before.before.before.groups_for-groups.result * (3 * c.before.before.before.before.before.group_words.result) ≡ groups_for a.plan (length ws) * (3 * group_words a.plan) =
-    ap₂ (λ (g w : ℕ). g * (3 * w)) groups c.before.before.before.before.before.group_words.ensures.0 in
-    rw (all_made a.plan ts (length a.out-1.now) ws number size (rw bytes at c.before.before.before.before.if-out-bytes.false))
-    (ap (λ (k : ℕ). success k 0) (bytes ∙ sym (capture_length a.plan (omega (arith, q.0.words_least)) q.0.tracks_least ts ws)), c.before.before.write_groups.ensures)
+    let groups : c.groups_for-groups.result ≡ groups_for a.plan (length ws) = c.groups_for-groups.ensures in
+    let need : c.times_needed-needed.result ≡ cond a.plan.frame_time (groups_for a.plan (length ws)) 0 =
+    c.times_needed-needed.ensures ∙ ap (λ (k : ℕ). cond a.plan.frame_time k 0) groups in
+    let number = c.if-times-needed.false ∙ need in
+    let size = sym c.first_late-late.ensures ∙ c.if-late-times.false in
+    let bytes : c.groups_for-groups.result * (3 * c.group_words.result) ≡ groups_for a.plan (length ws) * (3 * group_words a.plan) =
+    ap₂ (λ (g w : ℕ). g * (3 * w)) groups c.group_words.ensures.0 in
+    rw (all_made a.plan ts (length a.out-1.now) ws number size (rw bytes at c.if-out-bytes.false))
+    (ap (λ (k : ℕ). success k 0) (bytes ∙ sym (capture_length a.plan (omega (arith, q.0.words_least)) q.0.tracks_least ts ws)), c.write_groups.ensures)
 
 pub compose_words_spec : {M : Type 1} → statement M
 compose_words_spec =

@@ -24,7 +24,7 @@ bounds-times-index : tie.Need-bounds-times-index invariant-loop-index decreases-
 bounds-times-index c = search rules
 
 returns-then-times-index-ge42949672960000 : tie.Need-returns-then-times-index-ge42949672960000 invariant-loop-index decreases-loop-index
-returns-then-times-index-ge42949672960000 c = sym (c.before.before.before.loop-index.invariant.1 ∙ late_here c.before.before.before.before.args.times.now c.before.before.before.loop-index.index (omega arith) c.if-times-index-ge42949672960000.true)
+returns-then-times-index-ge42949672960000 c = sym (c.loop-index.invariant.1 ∙ late_here c.args.times.now c.loop-index.index (omega arith) c.if-times-index-ge42949672960000.true)
 
 overflow_add-index : tie.Need-overflow_add-index invariant-loop-index decreases-loop-index
 overflow_add-index c = search rules
@@ -33,10 +33,10 @@ loop-index-smaller : tie.Need-loop-index-smaller invariant-loop-index decreases-
 loop-index-smaller c = search rules
 
 loop-index-preserved : tie.Need-loop-index-preserved invariant-loop-index decreases-loop-index
-loop-index-preserved c = (omega arith, c.before.before.before.loop-index.invariant.1 ∙ late_later c.before.before.before.before.args.times.now c.before.before.before.loop-index.index (omega arith) c.if-times-index-ge42949672960000.false)
+loop-index-preserved c = (omega arith, c.loop-index.invariant.1 ∙ late_later c.args.times.now c.loop-index.index (omega arith) c.if-times-index-ge42949672960000.false)
 
 returns : tie.Need-returns invariant-loop-index decreases-loop-index
-returns c = sym (c.before.loop-index.invariant.1 ∙ late_end c.before.before.args.times.now c.before.loop-index.index (omega arith))
+returns c = sym (c.loop-index.invariant.1 ∙ late_end c.args.times.now c.loop-index.index (omega arith))
 
 pub first_late_spec : {M : Type 1} → statement M
 first_late_spec =

@@ -14,7 +14,7 @@ returns-then-group-times : tie.Need-returns-then-group-times
 returns-then-group-times c = search rules
 
 returns-else-group-times : tie.Need-returns-else-group-times
-returns-else-group-times c = sym (get_or-eq_default c.before.args.times.now 0 c.if-group-times.false)
+returns-else-group-times c = sym (get_or-eq_default c.args.times.now 0 c.if-group-times.false)
 
 pub time_of_spec : {M : Type 1} → statement M
 time_of_spec = tie.close (tie.spec offset_bounds-times-group bounds-times-group returns-then-group-times returns-else-group-times)

@@ -30,10 +30,10 @@ abbrev entry : Begun → tie.Start invariant-loop-group decreases-loop-group
 entry c = c.before.before.before
 
 abbrev share : Loop → ℕ
-share c = c.before.before.slots-share.result
+share c = c.slots-share.result
 
 abbrev group_size : Loop → ℕ
-group_size c = 3 * c.before.group_words-size.result
+group_size c = 3 * c.group_words-size.result
 
 -- a turn, and its place where the group's time is known
 abbrev Turn : Type 0
@@ -46,22 +46,22 @@ abbrev turn_of : Timed → Turn
 turn_of c = c.before.before
 
 -- in a turn, the next group's part is within the output, and its words begin within the words
-room : (c : Turn) → c.before.loop-group.group * group_size c.before + group_size c.before ≤ length (entry c.before.before.before.before).args.out-1.now
+room : (c : Turn) → c.loop-group.group * group_size c.before + group_size c.before ≤ length (entry c.before.before.before.before).args.out.now
 room c =
     let s = entry c.before.before.before.before in
-    part_within c.before.loop-group.group s.args.groups _ (length s.args.out-1.now) c.loop-group-test.true (rw c.before.before.group_words-size.ensures.0 s.pre.1.1)
+    part_within c.loop-group.group s.args.groups _ (length s.args.out.now) c.loop-group-test.true (rw c.group_words-size.ensures.0 s.requires.1.1)
 
-begins : (c : Turn) → c.before.loop-group.group * share c.before < length (entry c.before.before.before.before).args.words.now
+begins : (c : Turn) → c.loop-group.group * share c.before < length (entry c.before.before.before.before).args.words.now
 unfolding groups_for
 begins c =
     let s = entry c.before.before.before.before in
-    let k = c.before.before.before.slots-share in
-    share_starts k.result (length s.args.words.now) c.before.loop-group.group (omega (arith, k.ensures.1)) (rw k.ensures.0 (rw s.pre.1.0 at c.loop-group-test.true))
+    let k = c.slots-share in
+    share_starts k.result (length s.args.words.now) c.loop-group.group (omega (arith, k.ensures.1)) (rw k.ensures.0 (rw s.requires.1.0 at c.loop-group-test.true))
 
 -- and end there
 ends : (c : Timed) → let l = (turn_of c).before in
-    (c.before.share_end-to.result ≤ length (entry l.before.before.before).args.words.now) × (l.loop-group.group * share l ≤ c.before.share_end-to.result)
-ends c = (omega (arith, c.before.share_end-to.ensures), omega (arith, begins (turn_of c), c.before.share_end-to.ensures))
+    (c.share_end-to.result ≤ length (entry l.before.before.before).args.words.now) × (l.loop-group.group * share l ≤ c.share_end-to.result)
+ends c = (omega (arith, c.share_end-to.ensures), omega (arith, begins (turn_of c), c.share_end-to.ensures))
 
 slots-share-requires : tie.Need-slots-share-requires invariant-loop-group decreases-loop-group
 slots-share-requires c κs = search rules
@@ -74,7 +74,7 @@ overflow_mul-size c = search rules
 
 loop-group-init : tie.Need-loop-group-init invariant-loop-group decreases-loop-group
 loop-group-init c =
-    let a = c.before.before.before.before.before.args in
+    let a = c.args in
     (omega arith, rw (groups_none a.plan a.times.now a.words.now, zero-mul (group_words a.plan)) (written_none a.out-1.now))
 
 overflow_mul-start : tie.Need-overflow_mul-start invariant-loop-group decreases-loop-group
@@ -87,7 +87,7 @@ overflow_mul-from : tie.Need-overflow_mul-from invariant-loop-group decreases-lo
 overflow_mul-from c = omega (arith, begins c)
 
 share_end-to-requires : tie.Need-share_end-to-requires invariant-loop-group decreases-loop-group
-share_end-to-requires c κs = (omega (arith, begins c, (entry c.before.before.before.before).pre.0.1), c.before.before.before.slots-share.ensures.2)
+share_end-to-requires c κs = (omega (arith, begins c, (entry c.before.before.before.before).requires.0.1), c.slots-share.ensures.2)
 
 time_of-time-requires : tie.Need-time_of-time-requires invariant-loop-group decreases-loop-group
 time_of-time-requires c κs = search rules
@@ -99,10 +99,10 @@ slice_bounds-write_group-start : tie.Need-slice_bounds-write_group-start invaria
 slice_bounds-write_group-start c = search rules
 
 slice_bounds-write_group-end : tie.Need-slice_bounds-write_group-end invariant-loop-group decreases-loop-group
-slice_bounds-write_group-end c = omega (arith, room (turn_of c), written_length (turn_of c).before.loop-group.invariant.1)
+slice_bounds-write_group-end c = omega (arith, room (turn_of c), written_length (turn_of c).loop-group.invariant.1)
 
 offset_bounds-words-from : tie.Need-offset_bounds-words-from invariant-loop-group decreases-loop-group
-offset_bounds-words-from c = omega (arith, begins (turn_of c.before), (entry (turn_of c.before).before.before.before.before).pre.0.1)
+offset_bounds-words-from c = omega (arith, begins (turn_of c.before), (entry (turn_of c.before).before.before.before.before).requires.0.1)
 
 slice_bounds-write_group-count-in-loop-group : tie.Need-slice_bounds-write_group-count-in-loop-group invariant-loop-group decreases-loop-group
 slice_bounds-write_group-count-in-loop-group c = omega (arith, ends c.before)
@@ -117,13 +117,13 @@ write_group-requires : tie.Need-write_group-requires invariant-loop-group decrea
 write_group-requires c κs =
     let t : Timed = c.before.before in
     let l = (turn_of t).before in
-    let q = (entry l.before.before.before).pre in
+    let q = (entry l.before.before.before).requires in
     let o = l.loop-group in
     let from = o.group * share l in
-    let to = t.before.share_end-to in (
+    let to = t.share_end-to in (
       q.0.0,
-      simp (length-take, length-drop) (omega (arith, l.before.group_words-size.ensures.0, room (turn_of t), written_length o.inv.1)),
-      simp (length-take, length-drop) (omega (arith, l.before.before.slots-share.ensures.0, to.ensures)),
+      simp (length-take, length-drop) (omega (arith, l.group_words-size.ensures.0, room (turn_of t), written_length o.invariant.1)),
+      simp (length-take, length-drop) (omega (arith, l.slots-share.ensures.0, to.ensures)),
       all_take (to.result - from) (all_drop from q.0.2),
       rw t.time_of-time.ensures (q.0.3 o.group),
     )
@@ -142,26 +142,26 @@ loop-group-preserved c =
     let a = s.args in
     let g = l.loop-group.group in
     let n = group_words a.plan in
-    let R = l.before.group_words-size.result in
-    let e : R ≡ n = l.before.group_words-size.ensures.0 in
+    let R = l.group_words-size.result in
+    let e : R ≡ n = l.group_words-size.ensures.0 in
     let start : g * (3 * R) ≡ 3 * (g * n) = ap (λ (k : ℕ). g * (3 * k)) e ∙ start_at g n in
-    let taken = share_taken (share l) (g * share l) t.before.share_end-to.result a.words.now t.before.share_end-to.ensures in
-    let wrote = rw (t.time_of-time.ensures, taken, l.before.before.slots-share.ensures.0) at c.before.before.write_group.ensures in (
+    let taken = share_taken (share l) (g * share l) t.share_end-to.result a.words.now t.share_end-to.ensures in
+    let wrote = rw (t.time_of-time.ensures, taken, l.slots-share.ensures.0) at c.write_group.ensures in (
       next_turn (turn_of t).loop-group-test.true,
       rw (groups_more a.plan a.times.now a.words.now g)
-          (written_part (g * (3 * R)) (g * (3 * R) + 3 * R - g * (3 * R)) _ l.loop-group.invariant.1 start (group_count a.plan _ s.pre.0.0) (part_size g R n e)
+          (written_part (g * (3 * R)) (g * (3 * R) + 3 * R - g * (3 * R)) _ l.loop-group.invariant.1 start (group_count a.plan _ s.requires.0.0) (part_size g R n e)
           (part_room g R _ (room (turn_of t))) (part_next g n) wrote),
     )
 
 shape_of-out : tie.Need-shape_of-out invariant-loop-group decreases-loop-group
-shape_of-out c = written_length c.before.loop-group.invariant.1
+shape_of-out c = written_length c.loop-group.invariant.1
 
 returns : tie.Need-returns invariant-loop-group decreases-loop-group
 returns c =
     let s = entry c.before.before.before.before in
-    let o = c.before.loop-group in
+    let o = c.loop-group in
     let e : o.group ≡ s.args.groups = omega arith in
-    written_all _ o.invariant.1 (groups_all s.args.plan s.args.times.now s.args.words.now o.group (e ∙ s.pre.1.0))
+    written_all _ o.invariant.1 (groups_all s.args.plan s.args.times.now s.args.words.now o.group (e ∙ s.requires.1.0))
 
 pub write_groups_spec : {M : Type 1} → statement M
 write_groups_spec =

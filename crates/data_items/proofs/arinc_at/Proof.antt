@@ -82,7 +82,7 @@ abbrev start-put_in3 : tie.After-put_in-bare → tie.Start
 start-put_in3 c = c.before.before.before.before.before.before.before.before.before.before.before.before.before.before.before.before
 
 overflow_add-slot : tie.Need-overflow_add-slot
-overflow_add-slot c = omega (arith, c.before.before.before.requires.0.five)
+overflow_add-slot c = omega (arith, c.requires.0.five)
 
 overflow_mul-awaits : tie.Need-overflow_mul-awaits
 overflow_mul-awaits c = search rules
@@ -91,18 +91,18 @@ overflow_add-awaits : tie.Need-overflow_add-awaits
 overflow_add-awaits c = search rules
 
 overflow_add-low : tie.Need-overflow_add-low
-overflow_add-low c = omega (arith, c.before.before.before.before.before.requires.0.five)
+overflow_add-low c = omega (arith, c.requires.0.five)
 
 offset_bounds-row-from : tie.Need-offset_bounds-row-from
-offset_bounds-row-from c = omega (arith, c.before.before.before.before.before.requires.0.five)
+offset_bounds-row-from c = omega (arith, c.requires.0.five)
 
 bounds-row-from : tie.Need-bounds-row-from
-bounds-row-from c = omega (arith, c.before.before.before.before.before.before.requires.0.five)
+bounds-row-from c = omega (arith, c.requires.0.five)
 
 top_of-requires : tie.Need-top_of-requires
 top_of-requires c κs = (
-  c.before.before.before.before.before.before.requires.0.all,
-  low_at c.before.before.before.before.before.before.requires.0 1
+  c.requires.0.all,
+  low_at c.requires.0 1
       (omega arith),
 )
 
@@ -110,109 +110,109 @@ overflow_add-top_of : tie.Need-overflow_add-top_of
 overflow_add-top_of c = search rules
 
 returns-then-top_of-top : tie.Need-returns-then-top_of-top
-returns-then-top_of-top c = λ ks k. here_none (before-top_of c.before).pre.0
+returns-then-top_of-top c = λ ks k. here_none (before-top_of c.before).requires.0
 
 syllable-high-requires : tie.Need-syllable-high-requires
-syllable-high-requires c κs = (omega (arith, top_low (start-else1 c).pre.0), (start-else1 c).pre.1, omega arith, (start-else1 c).pre.2, omega arith)
+syllable-high-requires c κs = (omega (arith, top_low (start-else1 c).requires.0), (start-else1 c).requires.1, omega arith, (start-else1 c).requires.2, omega arith)
 
 overflow_mul-base : tie.Need-overflow_mul-base
-overflow_mul-base c = omega (arith, arinc-marked (start-syllable c).pre.0 (start-syllable c).pre.1 (start-syllable c).pre.2 c.syllable-high.ensures refl)
+overflow_mul-base c = omega (arith, arinc-marked (start-syllable c).requires.0 (start-syllable c).requires.1 (start-syllable c).requires.2 c.syllable-high.ensures refl)
 
 overflow_cast-base : tie.Need-overflow_cast-base
 overflow_cast-base c = search rules
 
 overflow_add-base : tie.Need-overflow_add-base
-overflow_add-base c = omega (arith, arinc-marked (start-syllable c).pre.0 (start-syllable c).pre.1 (start-syllable c).pre.2 c.syllable-high.ensures refl)
+overflow_add-base c = omega (arith, arinc-marked (start-syllable c).requires.0 (start-syllable c).requires.1 (start-syllable c).requires.2 c.syllable-high.ensures refl)
 
 offset_bounds-row-slot : tie.Need-offset_bounds-row-slot
-offset_bounds-row-slot c = omega (arith, (start-syllable c).pre.0.five)
+offset_bounds-row-slot c = omega (arith, (start-syllable c).requires.0.five)
 
 bounds-row-slot : tie.Need-bounds-row-slot
-bounds-row-slot c = omega (arith, (start-syllable c.before).pre.0.five)
+bounds-row-slot c = omega (arith, (start-syllable c.before).requires.0.five)
 
 top_of-requires-2 : tie.Need-top_of-requires-2
-top_of-requires-2 c κs = ((start-syllable c.before).pre.0.all, low_at (start-syllable c.before).pre.0 2 (omega arith))
+top_of-requires-2 c κs = ((start-syllable c.before).requires.0.all, low_at (start-syllable c.before).requires.0 2 (omega arith))
 
 is_tag-requires : tie.Need-is_tag-requires
-is_tag-requires c κs = ((start-then2 c).pre.0.all, (start-then2 c).pre.0.words, omega (arith, (start-then2 c).pre.0.five))
+is_tag-requires c κs = ((start-then2 c).requires.0.all, (start-then2 c).requires.0.words, omega (arith, (start-then2 c).requires.0.five))
 
 overflow_add-base-then-is_tag : tie.Need-overflow_add-base-then-is_tag
 overflow_add-base-then-is_tag c = omega (
   arith,
-  arinc-marked (start-then3 c.before).pre.0 (start-then3 c.before).pre.1 (start-then3 c.before).pre.2
+  arinc-marked (start-then3 c.before).requires.0 (start-then3 c.before).requires.1 (start-then3 c.before).requires.2
       (before-top_of2 (before-then2 (before-is_tag (before-then3 c.before)))).syllable-high.ensures refl,
 )
 
 put_in-marked-requires : tie.Need-put_in-marked-requires
 put_in-marked-requires c κs = (
-  omega (arith, (start-then3 c.before).pre.0.few),
+  omega (arith, (start-then3 c.before).requires.0.few),
   omega arith,
-  arinc-marked (start-then3 c.before).pre.0
-      (start-then3 c.before).pre.1 (start-then3 c.before).pre.2 (before-top_of2
+  arinc-marked (start-then3 c.before).requires.0
+      (start-then3 c.before).requires.1 (start-then3 c.before).requires.2 (before-top_of2
       (before-then2 (before-is_tag (before-then3 c.before)))).syllable-high.ensures refl,
-  omega (arith, (start-then3 c.before).pre.0.room),
+  omega (arith, (start-then3 c.before).requires.0.room),
 )
 
 tag_of-requires : tie.Need-tag_of-requires
-tag_of-requires c κs = omega (arith, (start-put_in c.before.before.before).pre.0.five)
+tag_of-requires c κs = omega (arith, (start-put_in c.before.before.before).requires.0.five)
 
 put_in-tagged-requires : tie.Need-put_in-tagged-requires
-put_in-tagged-requires c κs = let r = room_behind (start-tag_of c).args.from.pen-1 (start-tag_of c).args.out-1.now (omega arith)
-    (arinc-marked (start-tag_of c).pre.0 (start-tag_of c).pre.1 (start-tag_of c).pre.2
+put_in-tagged-requires c κs = let r = room_behind (start-tag_of c).args.from.pen-1 (start-tag_of c).args.out.now (omega arith)
+    (arinc-marked (start-tag_of c).requires.0 (start-tag_of c).requires.1 (start-tag_of c).requires.2
     (before-top_of2 (before-then2 (before-is_tag (before-then3 (before-put_in (before-tag_of c)))))).syllable-high.ensures refl) (before-tag_of c).put_in-marked.ensures
-    (start-tag_of c).pre.0.few (start-tag_of c).pre.0.room in (r.0, omega arith, rw c.tag_of.ensures (tag_fits _ _ _), r.1)
+    (start-tag_of c).requires.0.few (start-tag_of c).requires.0.room in (r.0, omega arith, rw c.tag_of.ensures (tag_fits _ _ _), r.1)
 
 overflow_add-behind : tie.Need-overflow_add-behind
-overflow_add-behind c = omega (arith, (start-put_in2 c.before.before).pre.0.five, (start-put_in2 c.before.before).pre.0.short)
+overflow_add-behind c = omega (arith, (start-put_in2 c.before.before).requires.0.five, (start-put_in2 c.before.before).requires.0.short)
 
 shape_of-out-then-is_tag : tie.Need-shape_of-out-then-is_tag
 shape_of-out-then-is_tag c = search rules
 
 returns-then-is_tag : tie.Need-returns-then-is_tag
-returns-then-is_tag c = λ ks k. arinc_tagged (start-put_in2 c.before.before).pre.0 (start-put_in2 c.before.before).pre.1
-    (start-put_in2 c.before.before).pre.2 (before-top_of2 (before-then2
+returns-then-is_tag c = λ ks k. arinc_tagged (start-put_in2 c.before.before).requires.0 (start-put_in2 c.before.before).requires.1
+    (start-put_in2 c.before.before).requires.2 (before-top_of2 (before-then2
     (before-is_tag (before-then3 (before-put_in (before-tag_of (before-put_in2 c.before.before))))))).syllable-high.ensures ks k refl
     (before-else1 (before-syllable (before-top_of2 (before-then2 (before-is_tag
     (before-then3 (before-put_in (before-tag_of (before-put_in2 c.before.before))))))))).top_of.ensures.0
-    (before-syllable (before-top_of2 (before-then2 (before-is_tag (before-then3 (before-put_in (before-tag_of (before-put_in2 c.before.before)))))))).if-top_of-top.left
+    (before-syllable (before-top_of2 (before-then2 (before-is_tag (before-then3 (before-put_in (before-tag_of (before-put_in2 c.before.before)))))))).if-top_of-top.false
     (before-then2 (before-is_tag (before-then3 (before-put_in (before-tag_of (before-put_in2 c.before.before)))))).top_of-2.ensures.0
-    (before-is_tag (before-then3 (before-put_in (before-tag_of (before-put_in2 c.before.before))))).if-top_of-awaits.taken
+    (before-is_tag (before-then3 (before-put_in (before-tag_of (before-put_in2 c.before.before))))).if-top_of-awaits.true
     (before-then3 (before-put_in (before-tag_of (before-put_in2 c.before.before)))).is_tag.ensures
-    (before-put_in (before-tag_of (before-put_in2 c.before.before))).if-is_tag.taken (before-put_in2 c.before.before).tag_of.ensures
-    (before-tag_of (before-put_in2 c.before.before)).put_in-marked.ensures c.before.before.put_in-tagged.ensures
+    (before-put_in (before-tag_of (before-put_in2 c.before.before))).if-is_tag.true (before-put_in2 c.before.before).tag_of.ensures
+    (before-tag_of (before-put_in2 c.before.before)).put_in-marked.ensures c.put_in-tagged.ensures
 
 returns-then-top_of-awaits : tie.Need-returns-then-top_of-awaits
-returns-then-top_of-awaits c = λ ks k. here_none (start-is_tag c.before).pre.0
+returns-then-top_of-awaits c = λ ks k. here_none (start-is_tag c.before).requires.0
 
 is_fill-requires : tie.Need-is_fill-requires
 is_fill-requires c κs = search rules
 
 returns-then-is_fill : tie.Need-returns-then-is_fill
-returns-then-is_fill c = λ ks k. here_none (start-is_fill c.before).pre.0
+returns-then-is_fill c = λ ks k. here_none (start-is_fill c.before).requires.0
 
 put_in-bare-requires : tie.Need-put_in-bare-requires
 put_in-bare-requires c κs = (
-  omega (arith, (start-else4 c.before).pre.0.few),
+  omega (arith, (start-else4 c.before).requires.0.few),
   omega arith,
-  (arinc-says (start-else4 c.before).pre.0
-      (start-else4 c.before).pre.1 (start-else4 c.before).pre.2 (before-top_of2
+  (arinc-says (start-else4 c.before).requires.0
+      (start-else4 c.before).requires.1 (start-else4 c.before).requires.2 (before-top_of2
       (before-else2 (before-is_fill (before-else4 c.before)))).syllable-high.ensures refl).fits,
-  omega (arith, (start-else4 c.before).pre.0.room),
+  omega (arith, (start-else4 c.before).requires.0.room),
 )
 
 shape_of-out : tie.Need-shape_of-out
 shape_of-out c = search rules
 
 returns : tie.Need-returns
-returns c = λ ks k. arinc-bare (start-put_in3 c.before.before).pre.0 (start-put_in3 c.before.before).pre.1
-    (start-put_in3 c.before.before).pre.2 (before-top_of2 (before-else2
+returns c = λ ks k. arinc-bare (start-put_in3 c.before.before).requires.0 (start-put_in3 c.before.before).requires.1
+    (start-put_in3 c.before.before).requires.2 (before-top_of2 (before-else2
     (before-is_fill (before-else4 (before-put_in3 c.before.before))))).syllable-high.ensures ks k refl
     (before-else1 (before-syllable (before-top_of2 (before-else2 (before-is_fill (before-else4 (before-put_in3 c.before.before))))))).top_of.ensures.0
-    (before-syllable (before-top_of2 (before-else2 (before-is_fill (before-else4 (before-put_in3 c.before.before)))))).if-top_of-top.left
+    (before-syllable (before-top_of2 (before-else2 (before-is_fill (before-else4 (before-put_in3 c.before.before)))))).if-top_of-top.false
     (before-else2 (before-is_fill (before-else4 (before-put_in3 c.before.before)))).top_of-2.ensures.0
-    (before-is_fill (before-else4 (before-put_in3 c.before.before))).if-top_of-awaits.left
-    (sym (before-else4 (before-put_in3 c.before.before)).is_fill.ensures ∙ (before-put_in3 c.before.before).if-is_fill.left)
-    c.before.before.put_in-bare.ensures
+    (before-is_fill (before-else4 (before-put_in3 c.before.before))).if-top_of-awaits.false
+    (sym (before-else4 (before-put_in3 c.before.before)).is_fill.ensures ∙ (before-put_in3 c.before.before).if-is_fill.false)
+    c.put_in-bare.ensures
 
 pub arinc_at_spec : {M : Type 1} → statement M
 arinc_at_spec =

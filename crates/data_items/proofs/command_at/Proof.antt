@@ -70,7 +70,7 @@ abbrev start-put_in3 : tie.After-put_in-bare → tie.Start
 start-put_in3 c = c.before.before.before.before.before.before.before.before.before.before.before.before
 
 overflow_add-slot : tie.Need-overflow_add-slot
-overflow_add-slot c = omega (arith, c.before.before.before.requires.0.five)
+overflow_add-slot c = omega (arith, c.requires.0.five)
 
 overflow_mul-awaits : tie.Need-overflow_mul-awaits
 overflow_mul-awaits c = search rules
@@ -80,96 +80,96 @@ overflow_add-awaits c = search rules
 
 command-base-requires : tie.Need-command-base-requires
 command-base-requires c κs = (
-  omega (arith, top_low c.before.before.before.before.requires.0),
-  c.before.before.before.before.requires.1,
+  omega (arith, top_low c.requires.0),
+  c.requires.1,
   omega arith,
-  c.before.before.before.before.requires.2,
+  c.requires.2,
   omega arith,
 )
 
 offset_bounds-row-slot : tie.Need-offset_bounds-row-slot
-offset_bounds-row-slot c = omega (arith, (before-command c).pre.0.five)
+offset_bounds-row-slot c = omega (arith, (before-command c).requires.0.five)
 
 bounds-row-slot : tie.Need-bounds-row-slot
-bounds-row-slot c = omega (arith, (before-command c.before).pre.0.five)
+bounds-row-slot c = omega (arith, (before-command c.before).requires.0.five)
 
 top_of-requires : tie.Need-top_of-requires
-top_of-requires c κs = ((before-command c.before).pre.0.all, low_at (before-command c.before).pre.0 1 (omega arith))
+top_of-requires c κs = ((before-command c.before).requires.0.all, low_at (before-command c.before).requires.0 1 (omega arith))
 
 is_tag-requires : tie.Need-is_tag-requires
-is_tag-requires c κs = ((start-then1 c).pre.0.all, (start-then1 c).pre.0.words, omega (arith, (start-then1 c).pre.0.five))
+is_tag-requires c κs = ((start-then1 c).requires.0.all, (start-then1 c).requires.0.words, omega (arith, (start-then1 c).requires.0.five))
 
 overflow_add-base : tie.Need-overflow_add-base
 overflow_add-base c = omega (
   arith,
-  command-marked (start-then2 c.before).pre.0 (start-then2 c.before).pre.1 (start-then2 c.before).pre.2
+  command-marked (start-then2 c.before).requires.0 (start-then2 c.before).requires.1 (start-then2 c.before).requires.2
       (before-top_of (before-then1 (before-is_tag (before-then2 c.before)))).command-base.ensures,
 )
 
 put_in-marked-requires : tie.Need-put_in-marked-requires
 put_in-marked-requires c κs = (
-  omega (arith, (start-then2 c.before).pre.0.few),
+  omega (arith, (start-then2 c.before).requires.0.few),
   omega arith,
-  command-marked (start-then2 c.before).pre.0
-      (start-then2 c.before).pre.1 (start-then2 c.before).pre.2 (before-top_of
+  command-marked (start-then2 c.before).requires.0
+      (start-then2 c.before).requires.1 (start-then2 c.before).requires.2 (before-top_of
       (before-then1 (before-is_tag (before-then2 c.before)))).command-base.ensures,
-  omega (arith, (start-then2 c.before).pre.0.room),
+  omega (arith, (start-then2 c.before).requires.0.room),
 )
 
 tag_of-requires : tie.Need-tag_of-requires
-tag_of-requires c κs = omega (arith, (start-put_in c.before.before.before).pre.0.five)
+tag_of-requires c κs = omega (arith, (start-put_in c.before.before.before).requires.0.five)
 
 put_in-tagged-requires : tie.Need-put_in-tagged-requires
-put_in-tagged-requires c κs = let r = room_behind (start-tag_of c).args.from.pen-1 (start-tag_of c).args.out-1.now (omega arith)
-    (command-marked (start-tag_of c).pre.0 (start-tag_of c).pre.1 (start-tag_of c).pre.2
+put_in-tagged-requires c κs = let r = room_behind (start-tag_of c).args.from.pen-1 (start-tag_of c).args.out.now (omega arith)
+    (command-marked (start-tag_of c).requires.0 (start-tag_of c).requires.1 (start-tag_of c).requires.2
     (before-top_of (before-then1 (before-is_tag (before-then2 (before-put_in (before-tag_of c)))))).command-base.ensures) (before-tag_of c).put_in-marked.ensures
-    (start-tag_of c).pre.0.few (start-tag_of c).pre.0.room in (r.0, omega arith, rw c.tag_of.ensures (tag_fits _ _ _), r.1)
+    (start-tag_of c).requires.0.few (start-tag_of c).requires.0.room in (r.0, omega arith, rw c.tag_of.ensures (tag_fits _ _ _), r.1)
 
 overflow_add-behind : tie.Need-overflow_add-behind
-overflow_add-behind c = omega (arith, (start-put_in2 c.before.before).pre.0.five, (start-put_in2 c.before.before).pre.0.short)
+overflow_add-behind c = omega (arith, (start-put_in2 c.before.before).requires.0.five, (start-put_in2 c.before.before).requires.0.short)
 
 shape_of-out-then-is_tag : tie.Need-shape_of-out-then-is_tag
 shape_of-out-then-is_tag c = search rules
 
 returns-then-is_tag : tie.Need-returns-then-is_tag
-returns-then-is_tag c = λ ks k. command-tagged (start-put_in2 c.before.before).pre.0 (start-put_in2 c.before.before).pre.1
-    (start-put_in2 c.before.before).pre.2 (before-top_of (before-then1
+returns-then-is_tag c = λ ks k. command-tagged (start-put_in2 c.before.before).requires.0 (start-put_in2 c.before.before).requires.1
+    (start-put_in2 c.before.before).requires.2 (before-top_of (before-then1
     (before-is_tag (before-then2 (before-put_in (before-tag_of (before-put_in2 c.before.before))))))).command-base.ensures ks k
     (before-then1 (before-is_tag (before-then2 (before-put_in (before-tag_of (before-put_in2 c.before.before)))))).top_of.ensures.0
-    (before-is_tag (before-then2 (before-put_in (before-tag_of (before-put_in2 c.before.before))))).if-top_of-awaits.taken
+    (before-is_tag (before-then2 (before-put_in (before-tag_of (before-put_in2 c.before.before))))).if-top_of-awaits.true
     (before-then2 (before-put_in (before-tag_of (before-put_in2 c.before.before)))).is_tag.ensures
-    (before-put_in (before-tag_of (before-put_in2 c.before.before))).if-is_tag.taken (before-put_in2 c.before.before).tag_of.ensures
-    (before-tag_of (before-put_in2 c.before.before)).put_in-marked.ensures c.before.before.put_in-tagged.ensures
+    (before-put_in (before-tag_of (before-put_in2 c.before.before))).if-is_tag.true (before-put_in2 c.before.before).tag_of.ensures
+    (before-tag_of (before-put_in2 c.before.before)).put_in-marked.ensures c.put_in-tagged.ensures
 
 returns-then-top_of-awaits : tie.Need-returns-then-top_of-awaits
-returns-then-top_of-awaits c = λ ks k. here_none (start-is_tag c.before).pre.0
+returns-then-top_of-awaits c = λ ks k. here_none (start-is_tag c.before).requires.0
 
 is_fill-requires : tie.Need-is_fill-requires
 is_fill-requires c κs = search rules
 
 returns-then-is_fill : tie.Need-returns-then-is_fill
-returns-then-is_fill c = λ ks k. here_none (start-is_fill c.before).pre.0
+returns-then-is_fill c = λ ks k. here_none (start-is_fill c.before).requires.0
 
 put_in-bare-requires : tie.Need-put_in-bare-requires
 put_in-bare-requires c κs = (
-  omega (arith, (start-else3 c.before).pre.0.few),
+  omega (arith, (start-else3 c.before).requires.0.few),
   omega arith,
-  (command-says (start-else3 c.before).pre.0
-      (start-else3 c.before).pre.1 (start-else3 c.before).pre.2 (before-top_of
+  (command-says (start-else3 c.before).requires.0
+      (start-else3 c.before).requires.1 (start-else3 c.before).requires.2 (before-top_of
       (before-else1 (before-is_fill (before-else3 c.before)))).command-base.ensures).fits,
-  omega (arith, (start-else3 c.before).pre.0.room),
+  omega (arith, (start-else3 c.before).requires.0.room),
 )
 
 shape_of-out : tie.Need-shape_of-out
 shape_of-out c = search rules
 
 returns : tie.Need-returns
-returns c = λ ks k. command-bare (start-put_in3 c.before.before).pre.0 (start-put_in3 c.before.before).pre.1
-    (start-put_in3 c.before.before).pre.2 (before-top_of (before-else1 (before-is_fill (before-else3 (before-put_in3 c.before.before))))).command-base.ensures
+returns c = λ ks k. command-bare (start-put_in3 c.before.before).requires.0 (start-put_in3 c.before.before).requires.1
+    (start-put_in3 c.before.before).requires.2 (before-top_of (before-else1 (before-is_fill (before-else3 (before-put_in3 c.before.before))))).command-base.ensures
     ks k (before-else1 (before-is_fill (before-else3 (before-put_in3 c.before.before)))).top_of.ensures.0
-    (before-is_fill (before-else3 (before-put_in3 c.before.before))).if-top_of-awaits.left
-    (sym (before-else3 (before-put_in3 c.before.before)).is_fill.ensures ∙ (before-put_in3 c.before.before).if-is_fill.left)
-    c.before.before.put_in-bare.ensures
+    (before-is_fill (before-else3 (before-put_in3 c.before.before))).if-top_of-awaits.false
+    (sym (before-else3 (before-put_in3 c.before.before)).is_fill.ensures ∙ (before-put_in3 c.before.before).if-is_fill.false)
+    c.put_in-bare.ensures
 
 pub command_at_spec : {M : Type 1} → statement M
 command_at_spec =

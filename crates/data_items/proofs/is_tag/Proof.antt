@@ -24,14 +24,14 @@ bounds-row-slot : tie.Need-bounds-row-slot
 bounds-row-slot c = search rules
 
 top_of-requires : tie.Need-top_of-requires
-top_of-requires c κs = (c.before.before.requires.0, c.before.before.requires.1 _ (omega (arith, c.before.before.requires.2)))
+top_of-requires c κs = (c.requires.0, c.requires.1 _ (omega (arith, c.requires.2)))
 
 overflow_add-top_of : tie.Need-overflow_add-top_of
 overflow_add-top_of c = search rules
 
 returns-then-top_of-awaits : tie.Need-returns-then-top_of-awaits
 returns-then-top_of-awaits c = tag_first (parity_of (before-top_of c.before).args.tops) (before-top_of c.before).args.row.now (before-top_of c.before).args.slot
-    (before-top_of c.before).args.awaits c.before.top_of.ensures.0 c.if-top_of-awaits.true
+    (before-top_of c.before).args.awaits c.top_of.ensures.0 c.if-top_of-awaits.true
 
 overflow_add-slot-2 : tie.Need-overflow_add-slot-2
 overflow_add-slot-2 c = search rules
@@ -44,9 +44,9 @@ bounds-row-slot-2 c = search rules
 
 top_of-requires-2 : tie.Need-top_of-requires-2
 top_of-requires-2 c κs = (
-  (before-top_of c.before.before).pre.0,
-  (before-top_of c.before.before).pre.1 _
-      (omega (arith, (before-top_of c.before.before).pre.2)),
+  (before-top_of c.before.before).requires.0,
+  (before-top_of c.before.before).requires.1 _
+      (omega (arith, (before-top_of c.before.before).requires.2)),
 )
 
 overflow_add-top_of-2 : tie.Need-overflow_add-top_of-2
@@ -54,8 +54,8 @@ overflow_add-top_of-2 c = search rules
 
 returns-then-top_of-awaits-2 : tie.Need-returns-then-top_of-awaits-2
 returns-then-top_of-awaits-2 c = tag-second (parity_of (start-top_of2 c.before).args.tops) (start-top_of2 c.before).args.row.now (start-top_of2 c.before).args.slot
-    (start-top_of2 c.before).args.awaits (before-top_of2 c.before).top_of.ensures.0 c.before.before.before.if-top_of-awaits.false
-    c.before.top_of-2.ensures.0 c.if-top_of-awaits-2.true
+    (start-top_of2 c.before).args.awaits (before-top_of2 c.before).top_of.ensures.0 c.if-top_of-awaits.false
+    c.top_of-2.ensures.0 c.if-top_of-awaits-2.true
 
 overflow_add-result : tie.Need-overflow_add-result
 overflow_add-result c = search rules
@@ -69,7 +69,7 @@ bounds-row-slot-3 c = search rules
 returns : tie.Need-returns
 returns c = tag-third (parity_of (start-top_of2 c.before.before).args.tops) (start-top_of2 c.before.before).args.row.now
     (start-top_of2 c.before.before).args.slot (start-top_of2 c.before.before).args.awaits (before-top_of2 c.before.before).top_of.ensures.0
-    c.before.before.before.before.if-top_of-awaits.false c.before.before.top_of-2.ensures.0 c.before.if-top_of-awaits-2.false
+    c.if-top_of-awaits.false c.top_of-2.ensures.0 c.if-top_of-awaits-2.false
 
 pub is_tag_spec : {M : Type 1} → statement M
 is_tag_spec =

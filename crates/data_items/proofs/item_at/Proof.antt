@@ -40,57 +40,57 @@ abbrev start-notice_at : tie.After-notice_at → tie.Start
 start-notice_at c = c.before.before.before.before.before.before.before.before
 
 arinc_at-requires : tie.Need-arinc_at-requires
-arinc_at-requires c κs = let s = (opened_says (before-then1 c.before).pre.0 (before-then1 c.before).pre.1).syllable c.before.if-opening-eq2.true in
-    ((before-then1 c.before).pre.0, s.1, s.2)
+arinc_at-requires c κs = let s = (opened_says (before-then1 c.before).requires.0 (before-then1 c.before).requires.1).syllable c.if-opening-eq2.true in
+    ((before-then1 c.before).requires.0, s.1, s.2)
 
 shape_of-out-then-opening-eq2 : tie.Need-shape_of-out-then-opening-eq2
 shape_of-out-then-opening-eq2 c = search rules
 
 returns-then-opening-eq2 : tie.Need-returns-then-opening-eq2
-returns-then-opening-eq2 c = λ ks k. c.before.before.arinc_at.ensures ks ((kind_says (start-arinc_at c.before.before).pre.0 ks k).syllable
-    (before-arinc_at c.before.before).if-opening-eq2.taken).0
+returns-then-opening-eq2 c = λ ks k. c.arinc_at.ensures ks ((kind_says (start-arinc_at c.before.before).requires.0 ks k).syllable
+    (before-arinc_at c.before.before).if-opening-eq2.true).0
 
 command_at-requires : tie.Need-command_at-requires
-command_at-requires c κs = let s = (opened_says (before-then2 c.before).pre.0 (before-then2 c.before).pre.1).command c.before.if-opening-eq1.true in
-    ((before-then2 c.before).pre.0, s.1, s.2)
+command_at-requires c κs = let s = (opened_says (before-then2 c.before).requires.0 (before-then2 c.before).requires.1).command c.if-opening-eq1.true in
+    ((before-then2 c.before).requires.0, s.1, s.2)
 
 shape_of-out-then-opening-eq1 : tie.Need-shape_of-out-then-opening-eq1
 shape_of-out-then-opening-eq1 c = search rules
 
 returns-then-opening-eq1 : tie.Need-returns-then-opening-eq1
-returns-then-opening-eq1 c = λ ks k. c.before.before.command_at.ensures ks ((kind_says (start-command_at c.before.before).pre.0 ks k).command
-    (before-command_at c.before.before).if-opening-eq1.taken).0
+returns-then-opening-eq1 c = λ ks k. c.command_at.ensures ks ((kind_says (start-command_at c.before.before).requires.0 ks k).command
+    (before-command_at c.before.before).if-opening-eq1.true).0
 
 status_at-requires : tie.Need-status_at-requires
 status_at-requires c κs = (
-  (before-then3 c.before).pre.0,
-  ((opened_says (before-then3 c.before).pre.0 (before-then3 c.before).pre.1).response
-      c.before.if-opening-eq3.true).1,
+  (before-then3 c.before).requires.0,
+  ((opened_says (before-then3 c.before).requires.0 (before-then3 c.before).requires.1).response
+      c.if-opening-eq3.true).1,
 )
 
 shape_of-out-then-opening-eq3 : tie.Need-shape_of-out-then-opening-eq3
 shape_of-out-then-opening-eq3 c = search rules
 
 returns-then-opening-eq3 : tie.Need-returns-then-opening-eq3
-returns-then-opening-eq3 c = λ ks k. c.before.before.status_at.ensures ks ((kind_says (start-status_at c.before.before).pre.0 ks k).response
-    (before-status_at c.before.before).if-opening-eq3.taken).0
+returns-then-opening-eq3 c = λ ks k. c.status_at.ensures ks ((kind_says (start-status_at c.before.before).requires.0 ks k).response
+    (before-status_at c.before.before).if-opening-eq3.true).0
 
 notice_at-requires : tie.Need-notice_at-requires
 notice_at-requires c κs = (
-  (before-then4 c.before).pre.0,
-  ((opened_says (before-then4 c.before).pre.0 (before-then4 c.before).pre.1).notice
-      c.before.if-opening-eq4.true).1,
+  (before-then4 c.before).requires.0,
+  ((opened_says (before-then4 c.before).requires.0 (before-then4 c.before).requires.1).notice
+      c.if-opening-eq4.true).1,
 )
 
 shape_of-out-then-opening-eq4 : tie.Need-shape_of-out-then-opening-eq4
 shape_of-out-then-opening-eq4 c = search rules
 
 returns-then-opening-eq4 : tie.Need-returns-then-opening-eq4
-returns-then-opening-eq4 c = λ ks k. c.before.before.notice_at.ensures ks ((kind_says (start-notice_at c.before.before).pre.0 ks k).notice
-    (before-notice_at c.before.before).if-opening-eq4.taken).0
+returns-then-opening-eq4 c = λ ks k. c.notice_at.ensures ks ((kind_says (start-notice_at c.before.before).requires.0 ks k).notice
+    (before-notice_at c.before.before).if-opening-eq4.true).0
 
 returns : tie.Need-returns
-returns c = λ ks k. here_none c.before.before.before.before.before.before.requires.0
+returns c = λ ks k. here_none c.requires.0
 
 pub item_at_spec : {M : Type 1} → statement M
 item_at_spec =

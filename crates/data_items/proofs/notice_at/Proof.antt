@@ -30,32 +30,32 @@ is_pair-requires : tie.Need-is_pair-requires
 is_pair-requires c κs = search rules
 
 notice-item-requires : tie.Need-notice-item-requires
-notice-item-requires c κs = (omega (arith, top_low (start-then1 c).pre.0), omega arith, sym (before-then1 c).is_pair.ensures ∙ c.if-is_pair.true)
+notice-item-requires c κs = (omega (arith, top_low (start-then1 c).requires.0), omega arith, sym (before-then1 c).is_pair.ensures ∙ c.if-is_pair.true)
 
 put_in-put-requires : tie.Need-put_in-put-requires
 put_in-put-requires c κs = (
-  omega (arith, (start-notice c.before).pre.0.few),
+  omega (arith, (start-notice c.before).requires.0.few),
   omega arith,
-  notice-fits (start-notice c.before).pre.0
-      (start-notice c.before).pre.1 (sym (before-then1 (before-notice c.before)).is_pair.ensures ∙ (before-notice c.before).if-is_pair.taken)
-      c.before.notice-item.ensures,
-  omega (arith, (start-notice c.before).pre.0.room),
+  notice-fits (start-notice c.before).requires.0
+      (start-notice c.before).requires.1 (sym (before-then1 (before-notice c.before)).is_pair.ensures ∙ (before-notice c.before).if-is_pair.true)
+      c.notice-item.ensures,
+  omega (arith, (start-notice c.before).requires.0.room),
 )
 
 overflow_add-behind : tie.Need-overflow_add-behind
-overflow_add-behind c = omega (arith, (start-put_in c.before.before.before).pre.0.five, (start-put_in c.before.before.before).pre.0.short)
+overflow_add-behind c = omega (arith, (start-put_in c.before.before.before).requires.0.five, (start-put_in c.before.before.before).requires.0.short)
 
 shape_of-out-then-is_pair : tie.Need-shape_of-out-then-is_pair
 shape_of-out-then-is_pair c = search rules
 
 returns-then-is_pair : tie.Need-returns-then-is_pair
-returns-then-is_pair c = λ ks k. notice-taken (start-put_in c.before.before.before).pre.0 (start-put_in c.before.before.before).pre.1
+returns-then-is_pair c = λ ks k. notice-taken (start-put_in c.before.before.before).requires.0 (start-put_in c.before.before.before).requires.1
     (sym (before-then1 (before-notice (before-put_in c.before.before.before))).is_pair.ensures ∙
-    (before-notice (before-put_in c.before.before.before)).if-is_pair.taken) (before-put_in c.before.before.before).notice-item.ensures ks k
-    c.before.before.before.put_in-put.ensures
+    (before-notice (before-put_in c.before.before.before)).if-is_pair.true) (before-put_in c.before.before.before).notice-item.ensures ks k
+    c.put_in-put.ensures
 
 returns : tie.Need-returns
-returns c = λ ks k. here_none (before-is_pair c.before).pre.0
+returns c = λ ks k. here_none (before-is_pair c.before).requires.0
 
 pub notice_at_spec : {M : Type 1} → statement M
 notice_at_spec =

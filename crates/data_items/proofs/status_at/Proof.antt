@@ -38,28 +38,28 @@ abbrev start-put_in : tie.After-put_in-put → tie.Start
 start-put_in c = c.before.before.before.before.before.before.before.before.before.before.before.before
 
 returns-then-response-ge10000 : tie.Need-returns-then-response-ge10000
-returns-then-response-ge10000 c = λ ks k. here_none c.before.before.before.before.requires.0
+returns-then-response-ge10000 c = λ ks k. here_none c.requires.0
 
 overflow_add-status : tie.Need-overflow_add-status
-overflow_add-status c = omega (arith, (before-else1 c.before).pre.0.five)
+overflow_add-status c = omega (arith, (before-else1 c.before).requires.0.five)
 
 offset_bounds-row-from : tie.Need-offset_bounds-row-from
-offset_bounds-row-from c = omega (arith, (before-else1 c.before).pre.0.five)
+offset_bounds-row-from c = omega (arith, (before-else1 c.before).requires.0.five)
 
 bounds-row-from : tie.Need-bounds-row-from
-bounds-row-from c = omega (arith, (before-else1 c.before.before).pre.0.five)
+bounds-row-from c = omega (arith, (before-else1 c.before.before).requires.0.five)
 
 top_of-then-requires : tie.Need-top_of-then-requires
-top_of-then-requires c κs = ((before-else1 c.before.before).pre.0.all, low_at (before-else1 c.before.before).pre.0 1 (omega arith))
+top_of-then-requires c κs = ((before-else1 c.before.before).requires.0.all, low_at (before-else1 c.before.before).requires.0 1 (omega arith))
 
 returns-then-then-top : tie.Need-returns-then-then-top
-returns-then-then-top c = λ ks k. here_none (start-top_of c.before).pre.0
+returns-then-then-top c = λ ks k. here_none (start-top_of c.before).requires.0
 
 returns-then-then-lt8 : tie.Need-returns-then-then-lt8
-returns-then-then-lt8 c = λ ks k. here_none (start-else2 c.before).pre.0
+returns-then-then-lt8 c = λ ks k. here_none (start-else2 c.before).requires.0
 
 returns-then-then-ne2 : tie.Need-returns-then-then-ne2
-returns-then-then-ne2 c = λ ks k. here_none (start-else3 c.before).pre.0
+returns-then-then-ne2 c = λ ks k. here_none (start-else3 c.before).requires.0
 
 overflow_add-bits : tie.Need-overflow_add-bits
 overflow_add-bits c = search rules
@@ -96,27 +96,27 @@ overflow_add-bits-5 c = search rules
 
 put_in-put-requires : tie.Need-put_in-put-requires
 put_in-put-requires c κs = (
-  omega (arith, (start-else4 c.before).pre.0.few),
+  omega (arith, (start-else4 c.before).requires.0.few),
   omega arith,
-  (status-says (start-else4 c.before).pre.0
-      (start-else4 c.before).pre.1 (omega (arith, (before-top_of (before-else2 (before-else3 (before-else4 c.before)))).if-response-ge10000.left))
-      (before-else2 (before-else3 (before-else4 c.before))).top_of-then.ensures.0 (before-else3 (before-else4 c.before)).if-then-top.left
-      (before-else4 c.before).if-then-lt8.left c.before.if-then-ne2.false).fits,
-  omega (arith, (start-else4 c.before).pre.0.room),
+  (status-says (start-else4 c.before).requires.0
+      (start-else4 c.before).requires.1 (omega (arith, (before-top_of (before-else2 (before-else3 (before-else4 c.before)))).if-response-ge10000.false))
+      (before-else2 (before-else3 (before-else4 c.before))).top_of-then.ensures.0 (before-else3 (before-else4 c.before)).if-then-top.false
+      (before-else4 c.before).if-then-lt8.false c.if-then-ne2.false).fits,
+  omega (arith, (start-else4 c.before).requires.0.room),
 )
 
 overflow_add-behind : tie.Need-overflow_add-behind
-overflow_add-behind c = omega (arith, (start-put_in c.before.before.before).pre.0.five)
+overflow_add-behind c = omega (arith, (start-put_in c.before.before.before).requires.0.five)
 
 shape_of-out : tie.Need-shape_of-out
 shape_of-out c = search rules
 
 returns : tie.Need-returns
-returns c = λ ks k. status-taken (start-put_in c.before.before.before).pre.0 (start-put_in c.before.before.before).pre.1
-    (omega (arith, (before-top_of (before-else2 (before-else3 (before-else4 (before-put_in c.before.before.before))))).if-response-ge10000.left))
+returns c = λ ks k. status-taken (start-put_in c.before.before.before).requires.0 (start-put_in c.before.before.before).requires.1
+    (omega (arith, (before-top_of (before-else2 (before-else3 (before-else4 (before-put_in c.before.before.before))))).if-response-ge10000.false))
     (before-else2 (before-else3 (before-else4 (before-put_in c.before.before.before)))).top_of-then.ensures.0
-    (before-else3 (before-else4 (before-put_in c.before.before.before))).if-then-top.left (before-else4 (before-put_in c.before.before.before)).if-then-lt8.left
-    (before-put_in c.before.before.before).if-then-ne2.left ks k c.before.before.before.put_in-put.ensures
+    (before-else3 (before-else4 (before-put_in c.before.before.before))).if-then-top.false (before-else4 (before-put_in c.before.before.before)).if-then-lt8.false
+    (before-put_in c.before.before.before).if-then-ne2.false ks k c.put_in-put.ensures
 
 pub status_at_spec : {M : Type 1} → statement M
 status_at_spec =

@@ -112,8 +112,8 @@ spot : (c : tie.After-top_of-top invariant-loop-slot decreases-loop-slot)
     → Spot (entry (before-top_of c)).args.parity (entry (before-top_of c)).args.row.now (before-in (before-top_of c)).loop-slot.slot
     (get_or (entry (before-top_of c)).args.row.now (before-in (before-top_of c)).loop-slot.slot 0) c.top_of-top.result
 spot c = record {
-  within = (before-top_of c).loop-slot-test.taken;
-  low = (entry (before-top_of c)).pre.0 _ (before-top_of c).loop-slot-test.taken;
+  within = (before-top_of c).loop-slot-test.true;
+  low = (entry (before-top_of c)).requires.0 _ (before-top_of c).loop-slot-test.true;
   is = refl;
   says = rw (parity_back (entry (before-top_of c)).args.parity (before-openings (before_at (before-in (before-top_of c)))).tops_of-tops.ensures) at
       c.top_of-top.ensures.0;
@@ -124,8 +124,8 @@ spot_then : (c : tie.After-top_of-top_then invariant-loop-slot decreases-loop-sl
     → Spot (entry (turn-top_of2 c)).args.parity (entry (turn-top_of2 c)).args.row.now ((before-in (turn-top_of2 c)).loop-slot.slot + 1)
     (get_or (entry (turn-top_of2 c)).args.row.now ((before-in (turn-top_of2 c)).loop-slot.slot + 1) 0) c.top_of-top_then.result
 spot_then c = record {
-  within = (before-top_of2 c).if-slot-count.taken;
-  low = (entry (turn-top_of2 c)).pre.0 _ (before-top_of2 c).if-slot-count.taken;
+  within = (before-top_of2 c).if-slot-count.true;
+  low = (entry (turn-top_of2 c)).requires.0 _ (before-top_of2 c).if-slot-count.true;
   is = refl;
   says = rw (parity_back (entry (turn-top_of2 c)).args.parity (before-openings
       (before_at (before-in (before-top_of (before-opening (before-then1 (before-single (before-then2 (before-top_of2 c))))))))).tops_of-tops.ensures) at
@@ -136,18 +136,18 @@ spot_then c = record {
 room : (c : tie.In-loop-slot invariant-loop-slot decreases-loop-slot)
     → ((before-in c).loop-slot.pen-1.bits < 2 ^ 60) × ((before-in c).loop-slot.pen-1.bits + 32 * (length (entry c).args.row.now - (before-in c).loop-slot.slot) + 64 ≤ 8 *
     length (before-in c).loop-slot.out-1)
-room c = took_roomy (before-in c).loop-slot.inv (entry c).pre.1 c.loop-slot-test.true
+room c = took_roomy (before-in c).loop-slot.invariant (entry c).requires.1 c.loop-slot-test.true
 
 -- what was taken at once
 more : (c : tie.After-item_at-next invariant-loop-slot decreases-loop-slot)
-    → Took (entry (turn-item_at c)).args.t1 (entry (turn-item_at c)).args.parity (entry (turn-item_at c)).args.row.now
+    → Took (entry (turn-item_at c)).args.kinds (entry (turn-item_at c)).args.parity (entry (turn-item_at c)).args.row.now
     (record { slot = (before-in (turn-item_at c)).loop-slot.slot; pen = (before-in (turn-item_at c)).loop-slot.pen-1 }) (before-in (turn-item_at c)).loop-slot.out-1
     c.item_at-next.result c.item_at-next.new.1.1.1.1.1.1.0
 more c =
     rw (parity_back (entry (turn-item_at c)).args.parity (before-openings
     (before_at (before-in (before-top_of (before-opening (before-else1 (before-else4 (before-item_at c)))))))).tops_of-tops.ensures) at
-    (c.item_at-next.ensures (entry (turn-item_at c)).args.t1 (opens_here _ _ (before-opening (before-else1 (before-else4 (before-item_at c)))).top_of-top.ensures.0
-    (entry (turn-item_at c)).args.t1 (before-else1 (before-else4 (before-item_at c))).opening-opening.ensures))
+    (c.item_at-next.ensures (entry (turn-item_at c)).args.kinds (opens_here _ _ (before-opening (before-else1 (before-else4 (before-item_at c)))).top_of-top.ensures.0
+    (entry (turn-item_at c)).args.kinds (before-else1 (before-else4 (before-item_at c))).opening-opening.ensures))
 
 tops_of-tops-requires : tie.Need-tops_of-tops-requires invariant-loop-slot decreases-loop-slot
 tops_of-tops-requires c κs = search rules
@@ -156,7 +156,7 @@ openings-openings-requires : tie.Need-openings-openings-requires invariant-loop-
 openings-openings-requires c κs = search rules
 
 loop-slot-init : tie.Need-loop-slot-init invariant-loop-slot decreases-loop-slot
-loop-slot-init c = took_none _ _ (start-openings c.before).pre.1.within
+loop-slot-init c = took_none _ _ (start-openings c.before).requires.1.within
 
 offset_bounds-row-slot : tie.Need-offset_bounds-row-slot invariant-loop-slot decreases-loop-slot
 offset_bounds-row-slot c = search rules
@@ -167,7 +167,7 @@ bounds-row-slot c = search rules
 top_of-top-requires : tie.Need-top_of-top-requires invariant-loop-slot decreases-loop-slot
 top_of-top-requires c κs = (
   tops_all (entry c.before).args.parity (before-openings (before_at (before-in c.before))).tops_of-tops.ensures,
-  (entry c.before).pre.0 _ c.before.loop-slot-test.true,
+  (entry c.before).requires.0 _ c.loop-slot-test.true,
 )
 
 overflow_cast-top : tie.Need-overflow_cast-top invariant-loop-slot decreases-loop-slot
@@ -188,22 +188,22 @@ single-one-requires c κs = (
 )
 
 overflow_add-slot : tie.Need-overflow_add-slot invariant-loop-slot decreases-loop-slot
-overflow_add-slot c = omega (arith, (turn-single c).loop-slot-test.taken, (entry (turn-single c)).pre.1.short)
+overflow_add-slot c = omega (arith, (turn-single c).loop-slot-test.true, (entry (turn-single c)).requires.1.short)
 
 overflow_add-then : tie.Need-overflow_add-then invariant-loop-slot decreases-loop-slot
-overflow_add-then c = omega (arith, (turn-then2 c).loop-slot-test.taken, (entry (turn-then2 c)).pre.1.short)
+overflow_add-then c = omega (arith, (turn-then2 c).loop-slot-test.true, (entry (turn-then2 c)).requires.1.short)
 
 offset_bounds-row-slot-then-slot-count : tie.Need-offset_bounds-row-slot-then-slot-count invariant-loop-slot decreases-loop-slot
-offset_bounds-row-slot-then-slot-count c = omega (arith, (turn-then2 c).loop-slot-test.taken, (entry (turn-then2 c)).pre.1.short)
+offset_bounds-row-slot-then-slot-count c = omega (arith, (turn-then2 c).loop-slot-test.true, (entry (turn-then2 c)).requires.1.short)
 
 bounds-row-slot-then-slot-count : tie.Need-bounds-row-slot-then-slot-count invariant-loop-slot decreases-loop-slot
-bounds-row-slot-then-slot-count c = c.before.if-slot-count.true
+bounds-row-slot-then-slot-count c = c.if-slot-count.true
 
 top_of-top_then-requires : tie.Need-top_of-top_then-requires invariant-loop-slot decreases-loop-slot
 top_of-top_then-requires c κs = (
   tops_all (entry (turn-then2 c.before)).args.parity
       (before-openings (before_at (before-in (before-top_of (before-opening (before-then1 (before-single (before-then2 c.before)))))))).tops_of-tops.ensures,
-  (entry (turn-then2 c.before)).pre.0 _ c.before.if-slot-count.true,
+  (entry (turn-then2 c.before)).requires.0 _ c.if-slot-count.true,
 )
 
 overflow_cast-top_then : tie.Need-overflow_cast-top_then invariant-loop-slot decreases-loop-slot
@@ -231,56 +231,56 @@ put_two-pen-requires c κs = let r = room (turn-single2 c.before) in (
   r.0,
   single-second
       (spot (before-opening (before-then1 (before-single (before-then2 (before-top_of2 (before-opening2 (before-then3 (before-single2 c.before)))))))))
-      (entry (turn-single2 c.before)).args.t1 (before-then1 (before-single
+      (entry (turn-single2 c.before)).args.kinds (before-then1 (before-single
       (before-then2 (before-top_of2 (before-opening2 (before-then3 (before-single2 c.before))))))).opening-opening.ensures
-      (before-single (before-then2 (before-top_of2 (before-opening2 (before-then3 (before-single2 c.before)))))).if-opening-ge8.taken
+      (before-single (before-then2 (before-top_of2 (before-opening2 (before-then3 (before-single2 c.before)))))).if-opening-ge8.true
       (before-then2 (before-top_of2 (before-opening2 (before-then3 (before-single2 c.before))))).single-one.ensures,
   single-second
-      (spot_then (before-opening2 (before-then3 (before-single2 c.before)))) (entry (turn-single2 c.before)).args.t1
-      (before-then3 (before-single2 c.before)).opening-opening_then.ensures (before-single2 c.before).if-opening_then-ge8.taken c.before.single-two.ensures,
+      (spot_then (before-opening2 (before-then3 (before-single2 c.before)))) (entry (turn-single2 c.before)).args.kinds
+      (before-then3 (before-single2 c.before)).opening-opening_then.ensures (before-single2 c.before).if-opening_then-ge8.true c.single-two.ensures,
   omega
-      (arith, r.1, (turn-single2 c.before).loop-slot-test.taken),
+      (arith, r.1, (turn-single2 c.before).loop-slot-test.true),
 )
 
 overflow_add-slot-then-opening_then-ge8 : tie.Need-overflow_add-slot-then-opening_then-ge8 invariant-loop-slot decreases-loop-slot
-overflow_add-slot-then-opening_then-ge8 c = omega (arith, (turn-put_two c.before.before).loop-slot-test.taken, (entry (turn-put_two c.before.before)).pre.1.short)
+overflow_add-slot-then-opening_then-ge8 c = omega (arith, (turn-put_two c.before.before).loop-slot-test.true, (entry (turn-put_two c.before.before)).requires.1.short)
 
 loop-slot-smaller-then-opening_then-ge8 : tie.Need-loop-slot-smaller-then-opening_then-ge8 invariant-loop-slot decreases-loop-slot
-loop-slot-smaller-then-opening_then-ge8 c = omega (arith, (before-top_of2 (before-opening2 (before-then3 (before-single2 (before-put_two c.before.before))))).if-slot-count.taken)
+loop-slot-smaller-then-opening_then-ge8 c = omega (arith, (before-top_of2 (before-opening2 (before-then3 (before-single2 (before-put_two c.before.before))))).if-slot-count.true)
 
 loop-slot-preserved-then-opening_then-ge8 : tie.Need-loop-slot-preserved-then-opening_then-ge8 invariant-loop-slot decreases-loop-slot
-loop-slot-preserved-then-opening_then-ge8 c = took_then (before-in (turn-put_two c.before.before)).loop-slot.inv
+loop-slot-preserved-then-opening_then-ge8 c = took_then (before-in (turn-put_two c.before.before)).loop-slot.invariant
     (two_taken (spot (before-opening (before-then1 (before-single (before-then2
     (before-top_of2 (before-opening2 (before-then3 (before-single2 (before-put_two c.before.before))))))))))
-    (spot_then (before-opening2 (before-then3 (before-single2 (before-put_two c.before.before))))) (entry (turn-put_two c.before.before)).args.t1
+    (spot_then (before-opening2 (before-then3 (before-single2 (before-put_two c.before.before))))) (entry (turn-put_two c.before.before)).args.kinds
     (before-then1 (before-single (before-then2 (before-top_of2 (before-opening2
     (before-then3 (before-single2 (before-put_two c.before.before)))))))).opening-opening.ensures
     (before-then3 (before-single2 (before-put_two c.before.before))).opening-opening_then.ensures
-    (before-single (before-then2 (before-top_of2 (before-opening2 (before-then3 (before-single2 (before-put_two c.before.before))))))).if-opening-ge8.taken
-    (before-single2 (before-put_two c.before.before)).if-opening_then-ge8.taken (before-then2
+    (before-single (before-then2 (before-top_of2 (before-opening2 (before-then3 (before-single2 (before-put_two c.before.before))))))).if-opening-ge8.true
+    (before-single2 (before-put_two c.before.before)).if-opening_then-ge8.true (before-then2
     (before-top_of2 (before-opening2 (before-then3 (before-single2 (before-put_two c.before.before)))))).single-one.ensures
-    (before-put_two c.before.before).single-two.ensures c.before.before.put_two-pen.ensures) (omega arith)
+    (before-put_two c.before.before).single-two.ensures c.put_two-pen.ensures) (omega arith)
 
 put_in-pen-requires : tie.Need-put_in-pen-requires invariant-loop-slot decreases-loop-slot
 put_in-pen-requires c κs = let r = room (turn-single c.before.before) in let s = single-second (spot (before-opening (before-then1 (before-single c.before.before))))
-    (entry (turn-single c.before.before)).args.t1 (before-then1 (before-single c.before.before)).opening-opening.ensures
-    (before-single c.before.before).if-opening-ge8.taken c.before.before.single-one.ensures in
-    (omega (arith, r.0), omega (arith, s.short), s.fits, omega (arith, r.1, (turn-single c.before.before).loop-slot-test.taken))
+    (entry (turn-single c.before.before)).args.kinds (before-then1 (before-single c.before.before)).opening-opening.ensures
+    (before-single c.before.before).if-opening-ge8.true c.single-one.ensures in
+    (omega (arith, r.0), omega (arith, s.short), s.fits, omega (arith, r.1, (turn-single c.before.before).loop-slot-test.true))
 
 overflow_add-slot-then-opening-ge8 : tie.Need-overflow_add-slot-then-opening-ge8 invariant-loop-slot decreases-loop-slot
-overflow_add-slot-then-opening-ge8 c = omega (arith, (turn-put_in c.before.before).loop-slot-test.taken, (entry (turn-put_in c.before.before)).pre.1.short)
+overflow_add-slot-then-opening-ge8 c = omega (arith, (turn-put_in c.before.before).loop-slot-test.true, (entry (turn-put_in c.before.before)).requires.1.short)
 
 loop-slot-smaller-then-opening-ge8 : tie.Need-loop-slot-smaller-then-opening-ge8 invariant-loop-slot decreases-loop-slot
-loop-slot-smaller-then-opening-ge8 c = omega (arith, (turn-put_in c.before.before).loop-slot-test.taken)
+loop-slot-smaller-then-opening-ge8 c = omega (arith, (turn-put_in c.before.before).loop-slot-test.true)
 
 loop-slot-preserved-then-opening-ge8 : tie.Need-loop-slot-preserved-then-opening-ge8 invariant-loop-slot decreases-loop-slot
-loop-slot-preserved-then-opening-ge8 c = took_then (before-in (turn-put_in c.before.before)).loop-slot.inv
-    (single-taken (spot (before-opening (before-then1 (before-single (before-put_in c.before.before))))) (entry (turn-put_in c.before.before)).args.t1
-    (before-then1 (before-single (before-put_in c.before.before))).opening-opening.ensures (before-single (before-put_in c.before.before)).if-opening-ge8.taken
-    (before-put_in c.before.before).single-one.ensures c.before.before.put_in-pen.ensures) (omega arith)
+loop-slot-preserved-then-opening-ge8 c = took_then (before-in (turn-put_in c.before.before)).loop-slot.invariant
+    (single-taken (spot (before-opening (before-then1 (before-single (before-put_in c.before.before))))) (entry (turn-put_in c.before.before)).args.kinds
+    (before-then1 (before-single (before-put_in c.before.before))).opening-opening.ensures (before-single (before-put_in c.before.before)).if-opening-ge8.true
+    (before-put_in c.before.before).single-one.ensures c.put_in-pen.ensures) (omega arith)
 
 overflow_add-slot-in-loop-slot : tie.Need-overflow_add-slot-in-loop-slot invariant-loop-slot decreases-loop-slot
-overflow_add-slot-in-loop-slot c = omega (arith, (turn-else1 c).loop-slot-test.taken, (entry (turn-else1 c)).pre.1.short)
+overflow_add-slot-in-loop-slot c = omega (arith, (turn-else1 c).loop-slot-test.true, (entry (turn-else1 c)).requires.1.short)
 
 item_at-next-requires : tie.Need-item_at-next-requires invariant-loop-slot decreases-loop-slot
 item_at-next-requires c κs = let r = room (turn-else4 c.before) in (
@@ -288,43 +288,43 @@ item_at-next-requires c κs = let r = room (turn-else4 c.before) in (
     all = tops_all (entry (turn-else4 c.before)).args.parity
         (before-openings (before_at (before-in (before-top_of (before-opening (before-else1 (before-else4 c.before))))))).tops_of-tops.ensures;
     words =
-        (entry (turn-else4 c.before)).pre.0;
-    five = omega (arith, c.before.if-count-slot.false);
-    short = (entry (turn-else4 c.before)).pre.1.short;
+        (entry (turn-else4 c.before)).requires.0;
+    five = omega (arith, c.if-count-slot.false);
+    short = (entry (turn-else4 c.before)).requires.1.short;
     is = refl;
     says =
         (before-opening (before-else1 (before-else4 c.before))).top_of-top.ensures.0;
     few = r.0;
-    room = omega (arith, r.1, c.before.if-count-slot.false);
+    room = omega (arith, r.1, c.if-count-slot.false);
   },
   record
       { kind = _; is = (before-else1 (before-else4 c.before)).opening-opening.ensures },
 )
 
 loop-slot-smaller : tie.Need-loop-slot-smaller invariant-loop-slot decreases-loop-slot
-loop-slot-smaller c = let m = more (before-else5 c.before) in omega (arith, m.onward, m.room, c.before.if-next-slot.false, (turn-else5 c.before).loop-slot-test.taken)
+loop-slot-smaller c = let m = more (before-else5 c.before) in omega (arith, m.onward, m.room, c.if-next-slot.false, (turn-else5 c.before).loop-slot-test.true)
 
 loop-slot-preserved : tie.Need-loop-slot-preserved invariant-loop-slot decreases-loop-slot
-loop-slot-preserved c = let m = more (before-else5 c.before) in took_then (before-in (turn-else5 c.before)).loop-slot.inv m
-    (less_or_same m.onward c.before.if-next-slot.false)
+loop-slot-preserved c = let m = more (before-else5 c.before) in took_then (before-in (turn-else5 c.before)).loop-slot.invariant m
+    (less_or_same m.onward c.if-next-slot.false)
 
 shape_of-out-after-loop-slot : tie.Need-shape_of-out-after-loop-slot invariant-loop-slot decreases-loop-slot
-shape_of-out-after-loop-slot c = c.before.loop-slot.invariant.long
+shape_of-out-after-loop-slot c = c.loop-slot.invariant.long
 
 returns-after-loop-slot : tie.Need-returns-after-loop-slot invariant-loop-slot decreases-loop-slot
-returns-after-loop-slot c = c.before.loop-slot.invariant
+returns-after-loop-slot c = c.loop-slot.invariant
 
 shape_of-out-then-count-slot : tie.Need-shape_of-out-then-count-slot invariant-loop-slot decreases-loop-slot
-shape_of-out-then-count-slot c = (before-in (turn-else1 c.before)).loop-slot.inv.long
+shape_of-out-then-count-slot c = (before-in (turn-else1 c.before)).loop-slot.invariant.long
 
 returns-then-count-slot : tie.Need-returns-then-count-slot invariant-loop-slot decreases-loop-slot
-returns-then-count-slot c = (before-in (turn-else1 c.before)).loop-slot.inv
+returns-then-count-slot c = (before-in (turn-else1 c.before)).loop-slot.invariant
 
 shape_of-out-then-next-slot : tie.Need-shape_of-out-then-next-slot invariant-loop-slot decreases-loop-slot
-shape_of-out-then-next-slot c = (more c.before.before.before.before).long ∙ (before-in (turn-item_at c.before.before.before.before)).loop-slot.inv.long
+shape_of-out-then-next-slot c = (more c.before.before.before.before).long ∙ (before-in (turn-item_at c.before.before.before.before)).loop-slot.invariant.long
 
 returns-then-next-slot : tie.Need-returns-then-next-slot invariant-loop-slot decreases-loop-slot
-returns-then-next-slot c = took_still (before-in (turn-item_at c.before.before.before.before)).loop-slot.inv (more c.before.before.before.before) c.if-next-slot.true
+returns-then-next-slot c = took_still (before-in (turn-item_at c.before.before.before.before)).loop-slot.invariant (more c.before.before.before.before) c.if-next-slot.true
 
 pub take_spec : {M : Type 1} → statement M
 take_spec =

@@ -11,11 +11,11 @@ put-half-requires c κs = search rules
 
 put-requires : tie.Need-put-requires
 unfolding pen_put
-put-requires c κs = let s = c.before.before.before.before.before.before.requires.1 in (
+put-requires c κs = let s = c.requires.1 in (
   omega (
     arith,
-    ap (λ (x : Pen). x.bits) c.before.before.before.put-half.ensures.0,
-    c.before.before.before.before.before.before.requires.0,
+    ap (λ (x : Pen). x.bits) c.put-half.ensures.0,
+    c.requires.0,
     s.first_short,
     s.second_short,
   ),
@@ -28,10 +28,10 @@ shape_of-out c = search rules
 
 returns : tie.Need-returns
 returns c = (
-  rw (← c.before.before.before.before.before.before.put-half.ensures.0) c.before.before.put.ensures.0,
+  rw (← c.put-half.ensures.0) c.put.ensures.0,
   rw
-      (← c.before.before.before.before.before.before.put-half.ensures.0, ← c.before.before.before.before.before.before.put-half.ensures.1)
-      c.before.before.put.ensures.1,
+      (← c.put-half.ensures.0, ← c.put-half.ensures.1)
+      c.put.ensures.1,
 )
 
 pub put_step_spec : {M : Type 1} → statement M

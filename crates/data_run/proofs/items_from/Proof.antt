@@ -30,7 +30,7 @@ words_in-requires : tie.Need-words_in-requires
 words_in-requires c κs = search rules
 
 overflow_add-i : tie.Need-overflow_add-i
-overflow_add-i c = omega (arith, c.words_in.ensures, (start-words_in c).pre.1, (start-words_in c).pre.2)
+overflow_add-i c = omega (arith, c.words_in.ensures, (start-words_in c).requires.1, (start-words_in c).requires.2)
 
 least-end-requires : tie.Need-least-end-requires
 least-end-requires c κs = search rules
@@ -38,17 +38,17 @@ least-end-requires c κs = search rules
 slice_bounds-take-end : tie.Need-slice_bounds-take-end
 slice_bounds-take-end c = sym (length-take-le _ (start-least c.before).args.row.now
     (least_le (length (start-least c.before).args.row.now) ((start-least c.before).args.i + (before-least c.before).words_in.result)
-    c.before.least-end.ensures))
+    c.least-end.ensures))
 
 take-requires : tie.Need-take-requires
 take-requires c κs = (
   words_front (start-least c.before.before).args.row.now _
       (least_le (length (start-least c.before.before).args.row.now) ((start-least c.before.before).args.i +
-      (before-least c.before.before).words_in.result) c.before.before.least-end.ensures) (start-least c.before.before).pre.0,
+      (before-least c.before.before).words_in.result) c.least-end.ensures) (start-least c.before.before).requires.0,
   front_roomy
       (start-least c.before.before).args.row.now (start-least c.before.before).args.pass (start-least c.before.before).args.i
-      (start-least c.before.before).args.out-1.now (start-least c.before.before).pre.1 (start-least c.before.before).pre.2
-      (start-least c.before.before).pre.3 c.before.before.least-end.ensures (before-least c.before.before).words_in.ensures,
+      (start-least c.before.before).args.out.now (start-least c.before.before).requires.1 (start-least c.before.before).requires.2
+      (start-least c.before.before).requires.3 c.least-end.ensures (before-least c.before.before).words_in.ensures,
 )
 
 shape_of-out-then-held-eq0 : tie.Need-shape_of-out-then-held-eq0
@@ -58,10 +58,10 @@ returns-then-held-eq0 : tie.Need-returns-then-held-eq0
 returns-then-held-eq0 c = from_front _ _ (start-take c.before.before).args.row.now (start-take c.before.before).args.pass (start-take c.before.before).args.i
     (least_le (length (start-take c.before.before).args.row.now) ((start-take c.before.before).args.i +
     (before-least (before-take c.before.before)).words_in.result) (before-take c.before.before).least-end.ensures)
-    (before-words_in (before-least (before-take c.before.before))).if-held-eq0.taken c.before.before.take.ensures
+    (before-words_in (before-least (before-take c.before.before))).if-held-eq0.true c.take.ensures
 
 returns : tie.Need-returns
-returns c = from_none c.before.before.before.before.before.before.requires.1
+returns c = from_none c.requires.1
 
 pub items_from_spec : {M : Type 1} → statement M
 items_from_spec =

@@ -5,10 +5,10 @@ use Rattle.data_run.proofs.on_items.Statement.{statement}
 use Rattle.data_run.proofs.on_items.Tie as tie
 
 overflow_add-since : tie.Need-overflow_add-since
-overflow_add-since c = omega (arith, c.before.before.requires.1)
+overflow_add-since c = omega (arith, c.requires.1)
 
 overflow_sub-since : tie.Need-overflow_sub-since
-overflow_sub-since c = omega (arith, c.before.before.requires.0)
+overflow_sub-since c = omega (arith, c.requires.0)
 
 on_data-requires : tie.Need-on_data-requires
 on_data-requires c κs = search rules

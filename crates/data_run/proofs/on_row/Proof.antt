@@ -70,10 +70,10 @@ abbrev turn-else3 : tie.Else-pass-ne0 invariant-loop-i decreases-loop-i → tie.
 turn-else3 c = c.before.before.before.before.before.before.before.before.before.before.before.before.before.before.before
 
 loop-i-init : tie.Need-loop-i-init invariant-loop-i decreases-loop-i
-loop-i-init c = (omega arith, passed_none _ _ _ _ _ _ _ c.before.before.requires.0)
+loop-i-init c = (omega arith, passed_none _ _ _ _ _ _ _ c.requires.0)
 
 past_fill-past-requires : tie.Need-past_fill-past-requires invariant-loop-i decreases-loop-i
-past_fill-past-requires c κs = ((before-in c).loop-i.inv.0, omega (arith, (entry c).pre.3), (entry c).pre.4)
+past_fill-past-requires c κs = ((before-in c).loop-i.invariant.0, omega (arith, (entry c).requires.3), (entry c).requires.4)
 
 loop-i-smaller-then-i-past : tie.Need-loop-i-smaller-then-i-past invariant-loop-i decreases-loop-i
 loop-i-smaller-then-i-past c = omega (arith, c.if-i-past.true, (before-then1 c).past_fill-past.ensures.room)
@@ -81,99 +81,99 @@ loop-i-smaller-then-i-past c = omega (arith, c.if-i-past.true, (before-then1 c).
 loop-i-preserved-then-i-past : tie.Need-loop-i-preserved-then-i-past invariant-loop-i decreases-loop-i
 loop-i-preserved-then-i-past c = (
   (before-then1 c).past_fill-past.ensures.room,
-  passed-fill _ _ _ (entry (turn-then1 c)).pre.4 _ _ _ _ (entry (turn-then1 c)).pre.1 (before-in (turn-then1 c)).loop-i.i _ (before-in (turn-then1 c)).loop-i.inv.1
+  passed-fill _ _ _ (entry (turn-then1 c)).requires.4 _ _ _ _ (entry (turn-then1 c)).requires.1 (before-in (turn-then1 c)).loop-i.i _ (before-in (turn-then1 c)).loop-i.invariant.1
       (before-then1 c).past_fill-past.ensures,
 )
 
 items_from-taken-requires : tie.Need-items_from-taken-requires invariant-loop-i decreases-loop-i
 items_from-taken-requires c κs = (
-  (entry (before-past_fill c.before.before)).pre.1,
-  (before-in (before-past_fill c.before.before)).loop-i.inv.0,
+  (entry (before-past_fill c.before.before)).requires.1,
+  (before-in (before-past_fill c.before.before)).loop-i.invariant.0,
   omega
-      (arith, (entry (before-past_fill c.before.before)).pre.3),
+      (arith, (entry (before-past_fill c.before.before)).requires.3),
   omega (
     arith,
-    (before-in (before-past_fill c.before.before)).loop-i.inv.1.few,
-    (entry (before-past_fill c.before.before)).pre.2,
-    (entry (before-past_fill c.before.before)).pre.3,
-    (before-in (before-past_fill c.before.before)).loop-i.inv.0,
+    (before-in (before-past_fill c.before.before)).loop-i.invariant.1.few,
+    (entry (before-past_fill c.before.before)).requires.2,
+    (entry (before-past_fill c.before.before)).requires.3,
+    (before-in (before-past_fill c.before.before)).loop-i.invariant.0,
   ),
 )
 
 on_items-pass-requires : tie.Need-on_items-pass-requires invariant-loop-i decreases-loop-i
-on_items-pass-requires c κs = (omega (arith, c.if-i-taken.true), omega (arith, (before-out (before-then2 c)).items_from-taken.ensures.room, (entry (turn-then2 c)).pre.3))
+on_items-pass-requires c κs = (omega (arith, c.if-i-taken.true), omega (arith, (before-out (before-then2 c)).items_from-taken.ensures.room, (entry (turn-then2 c)).requires.3))
 
 loop-i-smaller-then-i-taken : tie.Need-loop-i-smaller-then-i-taken invariant-loop-i decreases-loop-i
-loop-i-smaller-then-i-taken c = omega (arith, (before-on_items c).if-i-taken.taken, (before-out (before-then2 (before-on_items c))).items_from-taken.ensures.room)
+loop-i-smaller-then-i-taken c = omega (arith, (before-on_items c).if-i-taken.true, (before-out (before-then2 (before-on_items c))).items_from-taken.ensures.room)
 
 loop-i-preserved-then-i-taken : tie.Need-loop-i-preserved-then-i-taken invariant-loop-i decreases-loop-i
-loop-i-preserved-then-i-taken c = let f = (before-out (before-then2 (before-on_items c))).items_from-taken.ensures.some (before-on_items c).if-i-taken.taken in (
+loop-i-preserved-then-i-taken c = let f = (before-out (before-then2 (before-on_items c))).items_from-taken.ensures.some (before-on_items c).if-i-taken.true in (
   (before-out (before-then2 (before-on_items c))).items_from-taken.ensures.room,
   rw c.on_items-pass.ensures
-      (passed_items _ _ _ _ _ _ _ (before-in (turn-on_items c)).loop-i.i (before-in (turn-on_items c)).loop-i.inv.1 (before-on_items c).if-i-taken.taken f.0 f.1),
+      (passed_items _ _ _ _ _ _ _ (before-in (turn-on_items c)).loop-i.i (before-in (turn-on_items c)).loop-i.invariant.1 (before-on_items c).if-i-taken.true f.0 f.1),
 )
 
 overflow_add-from : tie.Need-overflow_add-from invariant-loop-i decreases-loop-i
-overflow_add-from c = omega (arith, (turn-else2 c).loop-i-test.taken, (entry (turn-else2 c)).pre.3)
+overflow_add-from c = omega (arith, (turn-else2 c).loop-i-test.true, (entry (turn-else2 c)).requires.3)
 
 offset_bounds-row-i : tie.Need-offset_bounds-row-i invariant-loop-i decreases-loop-i
-offset_bounds-row-i c = omega (arith, (turn-else2 c).loop-i-test.taken, (entry (turn-else2 c)).pre.3)
+offset_bounds-row-i c = omega (arith, (turn-else2 c).loop-i-test.true, (entry (turn-else2 c)).requires.3)
 
 bounds-row-i : tie.Need-bounds-row-i invariant-loop-i decreases-loop-i
-bounds-row-i c = (turn-else2 c.before).loop-i-test.taken
+bounds-row-i c = (turn-else2 c.before).loop-i-test.true
 
 on_word-pass-requires : tie.Need-on_word-pass-requires invariant-loop-i decreases-loop-i
 on_word-pass-requires c κs = (
-  (before-in (turn-else2 c.before.before)).loop-i.inv.1.brought.sound,
+  (before-in (turn-else2 c.before.before)).loop-i.invariant.1.brought.sound,
   omega (
     arith,
-    (before-in (turn-else2 c.before.before)).loop-i.inv.1.few,
-    (entry (turn-else2 c.before.before)).pre.2,
-    (entry (turn-else2 c.before.before)).pre.3,
-    (before-in (turn-else2 c.before.before)).loop-i.inv.0,
+    (before-in (turn-else2 c.before.before)).loop-i.invariant.1.few,
+    (entry (turn-else2 c.before.before)).requires.2,
+    (entry (turn-else2 c.before.before)).requires.3,
+    (before-in (turn-else2 c.before.before)).loop-i.invariant.0,
   ),
   omega
-      (arith, (turn-else2 c.before.before).loop-i-test.taken, (entry (turn-else2 c.before.before)).pre.3),
-  (entry (turn-else2 c.before.before)).pre.1 _
-      (turn-else2 c.before.before).loop-i-test.taken,
+      (arith, (turn-else2 c.before.before).loop-i-test.true, (entry (turn-else2 c.before.before)).requires.3),
+  (entry (turn-else2 c.before.before)).requires.1 _
+      (turn-else2 c.before.before).loop-i-test.true,
 )
 
 shape_of-out-then-pass-ne0 : tie.Need-shape_of-out-then-pass-ne0 invariant-loop-i decreases-loop-i
 shape_of-out-then-pass-ne0 c = (before-then3 c).out-in-loop-i-1.given ∙ (before-else2 (before-on_word (before-out2 (before-then3 c)))).out-1.given ∙
-    (before-in (turn-then3 c)).loop-i.inv.1.brought.long
+    (before-in (turn-then3 c)).loop-i.invariant.1.brought.long
 
 returns-then-pass-ne0 : tie.Need-returns-then-pass-ne0 invariant-loop-i decreases-loop-i
 returns-then-pass-ne0 c = (
-  passed_bad _ _ _ _ _ _ _ (before-in (turn-then3 c)).loop-i.i _ _ (turn-then3 c).loop-i-test.taken
-      ((entry (turn-then3 c)).pre.1 _ (turn-then3 c).loop-i-test.taken) (passed_still _ _ _ _ _ _ _ (before-in (turn-then3 c)).loop-i.i
-      ((before-out (before-else2 (before-on_word (before-out2 (before-then3 c))))).items_from-taken.ensures.none (before-on_word (before-out2 (before-then3 c))).if-i-taken.left)
-      (before-in (turn-then3 c)).loop-i.inv.1) (before-out2 (before-then3 c)).on_word-pass.ensures.0 c.if-pass-ne0.true,
+  passed_bad _ _ _ _ _ _ _ (before-in (turn-then3 c)).loop-i.i _ _ (turn-then3 c).loop-i-test.true
+      ((entry (turn-then3 c)).requires.1 _ (turn-then3 c).loop-i-test.true) (passed_still _ _ _ _ _ _ _ (before-in (turn-then3 c)).loop-i.i
+      ((before-out (before-else2 (before-on_word (before-out2 (before-then3 c))))).items_from-taken.ensures.none (before-on_word (before-out2 (before-then3 c))).if-i-taken.false)
+      (before-in (turn-then3 c)).loop-i.invariant.1) (before-out2 (before-then3 c)).on_word-pass.ensures.0 c.if-pass-ne0.true,
   λ z. absurd (c.if-pass-ne0.true z),
 )
 
 overflow_add-i : tie.Need-overflow_add-i invariant-loop-i decreases-loop-i
-overflow_add-i c = omega (arith, (turn-else3 c).loop-i-test.taken, (entry (turn-else3 c)).pre.3)
+overflow_add-i c = omega (arith, (turn-else3 c).loop-i-test.true, (entry (turn-else3 c)).requires.3)
 
 loop-i-smaller : tie.Need-loop-i-smaller invariant-loop-i decreases-loop-i
-loop-i-smaller c = omega (arith, (turn-else3 c).loop-i-test.taken)
+loop-i-smaller c = omega (arith, (turn-else3 c).loop-i-test.true)
 
 loop-i-preserved : tie.Need-loop-i-preserved invariant-loop-i decreases-loop-i
 loop-i-preserved c = (
-  omega (arith, (turn-else3 c).loop-i-test.taken),
-  passed_more _ _ _ _ _ _ _ (before-in (turn-else3 c)).loop-i.i (turn-else3 c).loop-i-test.taken
-      ((entry (turn-else3 c)).pre.1 _ (turn-else3 c).loop-i-test.taken) (passed_still _ _ _ _ _ _ _ (before-in (turn-else3 c)).loop-i.i
-      ((before-out (before-else2 (before-on_word (before-out2 (before-else3 c))))).items_from-taken.ensures.none (before-on_word (before-out2 (before-else3 c))).if-i-taken.left)
-      (before-in (turn-else3 c)).loop-i.inv.1) (before-out2 (before-else3 c)).on_word-pass.ensures c.if-pass-ne0.false,
+  omega (arith, (turn-else3 c).loop-i-test.true),
+  passed_more _ _ _ _ _ _ _ (before-in (turn-else3 c)).loop-i.i (turn-else3 c).loop-i-test.true
+      ((entry (turn-else3 c)).requires.1 _ (turn-else3 c).loop-i-test.true) (passed_still _ _ _ _ _ _ _ (before-in (turn-else3 c)).loop-i.i
+      ((before-out (before-else2 (before-on_word (before-out2 (before-else3 c))))).items_from-taken.ensures.none (before-on_word (before-out2 (before-else3 c))).if-i-taken.false)
+      (before-in (turn-else3 c)).loop-i.invariant.1) (before-out2 (before-else3 c)).on_word-pass.ensures c.if-pass-ne0.false,
 )
 
 shape_of-out : tie.Need-shape_of-out invariant-loop-i decreases-loop-i
-shape_of-out c = c.before.loop-i.invariant.1.brought.long
+shape_of-out c = c.loop-i.invariant.1.brought.long
 
 returns : tie.Need-returns invariant-loop-i decreases-loop-i
 returns c = (
-  passed_all _ _ _ _ _ _ _ c.before.loop-i.i c.loop-i-test.false c.before.loop-i.invariant.1,
+  passed_all _ _ _ _ _ _ _ c.loop-i.i c.loop-i-test.false c.loop-i.invariant.1,
   λ z. omega
-      (arith, c.before.loop-i.invariant.1.few, (before_at c.before).pre.2, c.before.loop-i.invariant.0),
+      (arith, c.loop-i.invariant.1.few, (before_at c.before).requires.2, c.loop-i.invariant.0),
 )
 
 pub on_row_spec : {M : Type 1} → statement M

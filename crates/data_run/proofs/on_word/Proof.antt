@@ -59,7 +59,7 @@ is_odd_fill-requires : tie.Need-is_odd_fill-requires
 is_odd_fill-requires c κs = search rules
 
 on_fill-fills-requires : tie.Need-on_fill-fills-requires
-on_fill-fills-requires c κs = (start-is_odd_fill c).pre.2
+on_fill-fills-requires c κs = (start-is_odd_fill c).requires.2
 
 returns-then-is_fill : tie.Need-returns-then-is_fill
 unfolding word_out
@@ -68,7 +68,7 @@ returns-then-is_fill c =
     let o = before-on_fill c in
     let t = before-is_odd_fill o in
     let f = before-then1 t in
-    let e = sym f.is_fill.ensures ∙ t.if-is_fill.taken in (
+    let e = sym f.is_fill.ensures ∙ t.if-is_fill.true in (
       word_fill s.args.kinds s.args.parity s.args.code s.args.i s.args.number s.args.word s.args.pass e
           (before-is_fill f).bus_of-bus.ensures o.is_odd_fill.ensures c.on_fill-fills.ensures,
       rw e refl,
@@ -84,23 +84,23 @@ feed-step-requires : tie.Need-feed-step-requires
 feed-step-requires c κs = (
   (
     rw (before-is_fill (before-else1 (before-label_of (before-information_of c)))).bus_of-bus.ensures
-        (bus_low _ _ (start-information_of c).pre.3),
+        (bus_low _ _ (start-information_of c).requires.3),
     rw (before-information_of c).label_of.ensures (label_low _),
     rw c.information_of.ensures (info_low _),
   ),
-  (start-information_of c).pre.0.sane,
+  (start-information_of c).requires.0.sane,
 )
 
 on_step-requires : tie.Need-on_step-requires
 on_step-requires c κs = (
-  (start-feed c.before).pre.0,
-  omega (arith, (start-feed c.before).pre.1),
-  (start-feed c.before).pre.2,
-  word_fits _ _ _ (start-feed c.before).args.pass (start-feed c.before).pre.3
-      (start-feed c.before).pre.0.sane (word_step_lem (start-feed c.before).args.kinds (start-feed c.before).args.parity
+  (start-feed c.before).requires.0,
+  omega (arith, (start-feed c.before).requires.1),
+  (start-feed c.before).requires.2,
+  word_fits _ _ _ (start-feed c.before).args.pass (start-feed c.before).requires.3
+      (start-feed c.before).requires.0.sane (word_step_lem (start-feed c.before).args.kinds (start-feed c.before).args.parity
       (start-feed c.before).args.word (start-feed c.before).args.pass
       (before-is_fill (before-else1 (before-label_of (before-information_of (before-feed c.before))))).bus_of-bus.ensures
-      (before-information_of (before-feed c.before)).label_of.ensures (before-feed c.before).information_of.ensures c.before.feed-step.ensures),
+      (before-information_of (before-feed c.before)).label_of.ensures (before-feed c.before).information_of.ensures c.feed-step.ensures),
 )
 
 shape_of-out : tie.Need-shape_of-out
@@ -109,13 +109,13 @@ shape_of-out c = search rules
 returns : tie.Need-returns
 unfolding word_pass word_out
 returns c = let e = sym (before-else1 (before-label_of (before-information_of (before-feed (before-on_step c.before.before))))).is_fill.ensures ∙
-    (before-label_of (before-information_of (before-feed (before-on_step c.before.before)))).if-is_fill.left in let s = word_step_lem
+    (before-label_of (before-information_of (before-feed (before-on_step c.before.before)))).if-is_fill.false in let s = word_step_lem
     (start-on_step c.before.before).args.kinds (start-on_step c.before.before).args.parity (start-on_step c.before.before).args.word
     (start-on_step c.before.before).args.pass (before-is_fill (before-else1
     (before-label_of (before-information_of (before-feed (before-on_step c.before.before)))))).bus_of-bus.ensures
     (before-information_of (before-feed (before-on_step c.before.before))).label_of.ensures
     (before-feed (before-on_step c.before.before)).information_of.ensures (before-on_step c.before.before).feed-step.ensures in
-    (rw (e, ← s) c.before.before.on_step.ensures.0, rw (e, ← s) c.before.before.on_step.ensures.1)
+    (rw (e, ← s) c.on_step.ensures.0, rw (e, ← s) c.on_step.ensures.1)
 
 pub on_word_spec : {M : Type 1} → statement M
 on_word_spec =

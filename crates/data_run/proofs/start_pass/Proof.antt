@@ -14,7 +14,7 @@ start-requires : tie.Need-start-requires
 start-requires c κs = search rules
 
 returns : tie.Need-returns
-returns c = rw (c.before.nothing.ensures, c.start.ensures) refl
+returns c = rw (c.nothing.ensures, c.start.ensures) refl
 
 pub start_pass_spec : {M : Type 1} → statement M
 start_pass_spec = tie.close (tie.spec nothing-requires start-requires returns)

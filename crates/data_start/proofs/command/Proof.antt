@@ -36,7 +36,7 @@ holds-requires : tie.Need-holds-requires
 holds-requires c κs = search rules
 
 returns : tie.Need-returns
-returns c = λ held. c.holds.ensures ∙ command_is_held held _ _ _ _ _ c.before.requires.1 (omega arith) c.before.requires.3
+returns c = λ held. c.holds.ensures ∙ command_is_held held _ _ _ _ _ c.requires.1 (omega arith) c.requires.3
 
 pub command_spec : {M : Type 1} → statement M
 command_spec =

@@ -31,7 +31,7 @@ ends-requires : tie.Need-ends-requires
 ends-requires c κs = search rules
 
 returns : tie.Need-returns
-returns c = λ held. c.ends.ensures ∙ notice_ends held _ _ _ _ (omega arith) c.before.requires.2
+returns c = λ held. c.ends.ensures ∙ notice_ends held _ _ _ _ (omega arith) c.requires.2
 
 pub notice_spec : {M : Type 1} → statement M
 notice_spec =

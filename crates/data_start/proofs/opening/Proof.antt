@@ -8,19 +8,19 @@ row_of-requires : tie.Need-row_of-requires
 row_of-requires c κs = search rules
 
 offset_bounds-table-row_of : tie.Need-offset_bounds-table-row_of
-offset_bounds-table-row_of c = omega (arith, row_low c.before.args.kind, c.row_of.ensures)
+offset_bounds-table-row_of c = omega (arith, row_low c.args.kind, c.row_of.ensures)
 
 offset_bounds-table-label : tie.Need-offset_bounds-table-label
 offset_bounds-table-label c = search rules
 
 bounds-table-row_of : tie.Need-bounds-table-row_of
-bounds-table-row_of c = omega (arith, row_low c.before.args.kind, c.row_of.ensures)
+bounds-table-row_of c = omega (arith, row_low c.args.kind, c.row_of.ensures)
 
 bounds-table-label : tie.Need-bounds-table-label
 bounds-table-label c = search rules
 
 returns : tie.Need-returns
-returns c = rw (c.before.before.requires.0, c.before.row_of.ensures) (row_at c.before.before.args.kind c.before.before.args.label)
+returns c = rw (c.requires.0, c.row_of.ensures) (row_at c.args.kind c.args.label)
 
 pub opening_spec : {M : Type 1} → statement M
 opening_spec =

@@ -15,7 +15,7 @@ row-requires-3 c κs = search rules
 
 returns : tie.Need-returns
 unfolding openings
-returns c = rw (c.before.before.row.ensures, c.before.row-2.ensures, c.row-3.ensures) refl
+returns c = rw (c.row.ensures, c.row-2.ensures, c.row-3.ensures) refl
 
 pub openings_spec : {M : Type 1} → statement M
 openings_spec = tie.close (tie.spec row-requires row-requires-2 row-requires-3 returns)

@@ -19,13 +19,13 @@ opens_on_429-requires : tie.Need-opens_on_429-requires
 opens_on_429-requires c κs = search rules
 
 returns-in-Unused : tie.Need-returns-in-Unused
-returns-in-Unused c = none_on_unused _ c.before.before.requires c.enum_told-1.given.1
+returns-in-Unused c = none_on_unused _ c.requires c.in-Unused.is
 
 returns-in-Mil1553 : tie.Need-returns-in-Mil1553
-returns-in-Mil1553 c = rw c.before.enum_told-in-Mil1553-1.given.1 c.opens_on_1553.ensures
+returns-in-Mil1553 c = rw c.in-Mil1553.is c.opens_on_1553.ensures
 
 returns-in-Arinc429 : tie.Need-returns-in-Arinc429
-returns-in-Arinc429 c = rw c.before.enum_told-in-Arinc429-1.given.1 c.opens_on_429.ensures
+returns-in-Arinc429 c = rw c.in-Arinc429.is c.opens_on_429.ensures
 
 pub opens_spec : {M : Type 1} → statement M
 opens_spec =

@@ -32,13 +32,13 @@ one_word-requires-in_default : tie.Need-one_word-requires-in_default
 one_word-requires-in_default c κs = search rules
 
 returns-in-0 : tie.Need-returns-in-0
-returns-in-0 c = on_1553_command _ (omega (arith, c.before.if-label-lt8.false)) c.before.before.requires c.in_default.keys1
+returns-in-0 c = on_1553_command _ (omega (arith, c.if-label-lt8.false)) c.requires c.in-0.is
 
 returns-in-1 : tie.Need-returns-in-1
-returns-in-1 c = c.one_word.ensures ∙ on_1553_status _ (omega (arith, c.before.before.if-label-lt8.false)) c.before.before.before.requires c.before.in_default.keys2
+returns-in-1 c = c.one_word.ensures ∙ on_1553_status _ (omega (arith, c.if-label-lt8.false)) c.requires c.in-1.is
 
 returns-in_default : tie.Need-returns-in_default
-returns-in_default c = c.one_word-in_default.ensures ∙ on_1553_word _ (omega (arith, c.before.before.if-label-lt8.false)) c.before.before.before.requires c.before.in_default.rest.0.1 c.before.in_default.rest.1
+returns-in_default c = c.one_word-in_default.ensures ∙ on_1553_word _ (omega (arith, c.if-label-lt8.false)) c.requires c.in_default.in_default-own.rest.0.1 c.in_default.in_default-own.rest.1
 
 pub opens_on_1553_spec : {M : Type 1} → statement M
 opens_on_1553_spec =

@@ -20,7 +20,7 @@ overflow_mul-result : tie.Need-overflow_mul-result
 overflow_mul-result c = search rules
 
 returns : tie.Need-returns
-returns c = on_429_syllable _ (omega (arith, c.if-label-lt8.false)) c.before.requires
+returns c = on_429_syllable _ (omega (arith, c.if-label-lt8.false)) c.requires
 
 pub opens_on_429_spec : {M : Type 1} → statement M
 opens_on_429_spec =

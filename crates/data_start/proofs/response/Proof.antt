@@ -14,7 +14,7 @@ holds-requires : tie.Need-holds-requires
 holds-requires c κs = search rules
 
 returns : tie.Need-returns
-returns c = λ held. c.holds.ensures ∙ response_is_held held _ _ _ _ c.before.requires.1
+returns c = λ held. c.holds.ensures ∙ response_is_held held _ _ _ _ c.requires.1
 
 pub response_spec : {M : Type 1} → statement M
 response_spec = tie.close (tie.spec overflow_mul-bus overflow_add-bus holds-requires returns)

@@ -54,24 +54,24 @@ opens-requires-16 c κs = search rules
 returns : tie.Need-returns
 returns c =
     rw (
-      c.before.before.before.before.before.before.before.before.before.before.before.before.before.before.before.opens.ensures,
-      c.before.before.before.before.before.before.before.before.before.before.before.before.before.before.opens-2.ensures,
-      c.before.before.before.before.before.before.before.before.before.before.before.before.before.opens-3.ensures,
-      c.before.before.before.before.before.before.before.before.before.before.before.before.opens-4.ensures,
-      c.before.before.before.before.before.before.before.before.before.before.before.opens-5.ensures,
-      c.before.before.before.before.before.before.before.before.before.before.opens-6.ensures,
-      c.before.before.before.before.before.before.before.before.before.opens-7.ensures,
-      c.before.before.before.before.before.before.before.before.opens-8.ensures,
-      c.before.before.before.before.before.before.before.opens-9.ensures,
-      c.before.before.before.before.before.before.opens-10.ensures,
-      c.before.before.before.before.before.opens-11.ensures,
-      c.before.before.before.before.opens-12.ensures,
-      c.before.before.before.opens-13.ensures,
-      c.before.before.opens-14.ensures,
-      c.before.opens-15.ensures,
+      c.opens.ensures,
+      c.opens-2.ensures,
+      c.opens-3.ensures,
+      c.opens-4.ensures,
+      c.opens-5.ensures,
+      c.opens-6.ensures,
+      c.opens-7.ensures,
+      c.opens-8.ensures,
+      c.opens-9.ensures,
+      c.opens-10.ensures,
+      c.opens-11.ensures,
+      c.opens-12.ensures,
+      c.opens-13.ensures,
+      c.opens-14.ensures,
+      c.opens-15.ensures,
       c.opens-16.ensures,
     )
-    (row_is c.before.before.before.before.before.before.before.before.before.before.before.before.before.before.before.before.args.kind)
+    (row_is c.args.kind)
 
 pub row_spec : {M : Type 1} → statement M
 row_spec =

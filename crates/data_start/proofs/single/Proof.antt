@@ -30,8 +30,8 @@ ends-requires c κs = search rules
 
 returns : tie.Need-returns
 returns c =
-    let a = c.before.args in
-    let m = moved a.bus (a.opening % 4) (omega (arith, c.before.requires.1)) (omega arith) in
+    let a = c.args in
+    let m = moved a.bus (a.opening % 4) (omega (arith, c.requires.1)) (omega arith) in
     c.ends.ensures ∙ ap (λ (x : ℕ). ended 0 0 ((a.opening / 4 + x) * 65536 + a.information) (24 + a.opening % 4)) m.0
 
 pub single_spec : {M : Type 1} → statement M

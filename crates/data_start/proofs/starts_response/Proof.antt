@@ -8,7 +8,7 @@ refused-requires : tie.Need-refused-requires
 refused-requires c κs = search rules
 
 returns-then-information-ge10000 : tie.Need-returns-then-information-ge10000
-returns-then-information-ge10000 c = c.refused.ensures ∙ late_response_starts_nothing _ _ _ _ _ c.before.if-information-ge10000.true
+returns-then-information-ge10000 c = c.refused.ensures ∙ late_response_starts_nothing _ _ _ _ _ c.if-information-ge10000.true
 
 response-requires : tie.Need-response-requires
 response-requires c κs = search rules

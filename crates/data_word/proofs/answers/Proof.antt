@@ -15,19 +15,19 @@ refused-requires : tie.Need-refused-requires
 refused-requires c κs = search rules
 
 returns-then-awaits-bus : tie.Need-returns-then-awaits-bus
-returns-then-awaits-bus c = λ kinds. c.refused.ensures ∙ unawaited_word_is_bad kinds _ _ _ (omega arith) (omega arith) _ c.before.before.requires.1.0 c.before.if-awaits-bus.true c.before.before.requires.1.1 c.before.before.requires.1.2 c.before.before.requires.1.3
+returns-then-awaits-bus c = λ kinds. c.refused.ensures ∙ unawaited_word_is_bad kinds _ _ _ (omega arith) (omega arith) _ c.requires.1.0 c.if-awaits-bus.true c.requires.1.1 c.requires.1.2 c.requires.1.3
 
 refused-requires-then-label-lt8 : tie.Need-refused-requires-then-label-lt8
 refused-requires-then-label-lt8 c κs = search rules
 
 returns-then-label-lt8 : tie.Need-returns-then-label-lt8
-returns-then-label-lt8 c = λ kinds. c.refused-then-label-lt8.ensures ∙ another_label_is_no_answer kinds _ _ _ (omega arith) (omega arith) _ c.before.before.before.requires.1.0 c.before.before.if-awaits-bus.false (below_eight_is_no_status _ c.before.if-label-lt8.true)
+returns-then-label-lt8 c = λ kinds. c.refused-then-label-lt8.ensures ∙ another_label_is_no_answer kinds _ _ _ (omega arith) (omega arith) _ c.requires.1.0 c.if-awaits-bus.false (below_eight_is_no_status _ c.if-label-lt8.true)
 
 refused-requires-then-label-ne2 : tie.Need-refused-requires-then-label-ne2
 refused-requires-then-label-ne2 c κs = search rules
 
 returns-then-label-ne2 : tie.Need-returns-then-label-ne2
-returns-then-label-ne2 c = λ kinds. c.refused-then-label-ne2.ensures ∙ another_label_is_no_answer kinds _ _ _ (omega arith) (omega arith) _ c.before.before.before.before.requires.1.0 c.before.before.before.if-awaits-bus.false (other_label_is_no_status _ c.before.before.if-label-lt8.false (omega arith) c.before.if-label-ne2.true)
+returns-then-label-ne2 c = λ kinds. c.refused-then-label-ne2.ensures ∙ another_label_is_no_answer kinds _ _ _ (omega arith) (omega arith) _ c.requires.1.0 c.if-awaits-bus.false (other_label_is_no_status _ c.if-label-lt8.false (omega arith) c.if-label-ne2.true)
 
 overflow_add-bits : tie.Need-overflow_add-bits
 overflow_add-bits c = search rules
@@ -60,7 +60,7 @@ ends-requires : tie.Need-ends-requires
 ends-requires c κs = search rules
 
 returns : tie.Need-returns
-returns c = λ kinds. c.ends.ensures ∙ status_answers kinds _ _ _ (omega arith) (omega arith) _ c.before.before.before.before.requires.1.0 c.before.before.before.if-awaits-bus.false c.before.before.if-label-lt8.false c.before.if-label-ne2.false
+returns c = λ kinds. c.ends.ensures ∙ status_answers kinds _ _ _ (omega arith) (omega arith) _ c.requires.1.0 c.if-awaits-bus.false c.if-label-lt8.false c.if-label-ne2.false
 
 pub answers_spec : {M : Type 1} → statement M
 answers_spec =

@@ -8,7 +8,7 @@ ends-requires : tie.Need-ends-requires
 ends-requires c κs = search rules
 
 returns-then-awaits-eq0 : tie.Need-returns-then-awaits-eq0
-returns-then-awaits-eq0 c = λ place. c.ends.ensures ∙ nothing_is_left place _ c.before.before.requires c.before.if-awaits-eq0.true
+returns-then-awaits-eq0 c = λ place. c.ends.ensures ∙ nothing_is_left place _ c.requires c.if-awaits-eq0.true
 
 base_width-requires : tie.Need-base_width-requires
 base_width-requires c κs = search rules
@@ -17,13 +17,13 @@ ends-requires-then-awaits-eq7 : tie.Need-ends-requires-then-awaits-eq7
 ends-requires-then-awaits-eq7 c κs = search rules
 
 returns-then-awaits-eq7 : tie.Need-returns-then-awaits-eq7
-returns-then-awaits-eq7 c = λ place. c.ends-then-awaits-eq7.ensures ∙ rw c.before.base_width.ensures (untagged_is_finished place _ c.before.before.before.before.requires c.before.before.if-awaits-eq7.true)
+returns-then-awaits-eq7 c = λ place. c.ends-then-awaits-eq7.ensures ∙ rw c.base_width.ensures (untagged_is_finished place _ c.requires c.if-awaits-eq7.true)
 
 refused-requires : tie.Need-refused-requires
 refused-requires c κs = search rules
 
 returns : tie.Need-returns
-returns c = λ place. c.refused.ensures ∙ unfinished_is_cut place _ c.before.before.before.requires c.before.before.if-awaits-eq0.false c.before.if-awaits-eq7.false
+returns c = λ place. c.refused.ensures ∙ unfinished_is_cut place _ c.requires c.if-awaits-eq0.false c.if-awaits-eq7.false
 
 pub finish_spec : {M : Type 1} → statement M
 finish_spec =

@@ -30,7 +30,7 @@ returns-then-label-eq7 : tie.Need-returns-then-label-eq7
 returns-then-label-eq7 c =
     λ kinds.
     c.holds.ensures
-    ∙ tag_begins kinds _ _ _ (omega arith) (omega arith) _ c.before.before.before.requires.1.0 c.before.if-label-eq7.true c.before.before.before.requires.1.1
+    ∙ tag_begins kinds _ _ _ (omega arith) (omega arith) _ c.requires.1.0 c.if-label-eq7.true c.requires.1.1
 
 overflow_mul-time : tie.Need-overflow_mul-time
 overflow_mul-time c = let h = time_small _ (start c.before).requires.1.0 (omega arith) in omega arith
@@ -51,7 +51,7 @@ returns-then-label-eq6 : tie.Need-returns-then-label-eq6
 returns-then-label-eq6 c =
     λ kinds.
     c.holds-then-label-eq6.ensures
-    ∙ tag_goes_on kinds _ _ _ (omega arith) (omega arith) _ (start c.before.before).requires.1.0 c.before.if-label-eq6.true (start c.before.before).requires.1.1
+    ∙ tag_goes_on kinds _ _ _ (omega arith) (omega arith) _ (start c.before.before).requires.1.0 c.if-label-eq6.true (start c.before.before).requires.1.1
 
 overflow_cast-tag : tie.Need-overflow_cast-tag
 overflow_cast-tag c = search rules
@@ -76,8 +76,8 @@ returns-then-base-lt4294967296 c =
     let s = start d in
     λ kinds.
     c.ends.ensures
-    ∙ rw (lt-ltb _ _ c.before.if-base-lt4294967296.true) at (tag_ends kinds _ _ _ (omega arith) (omega arith) _ s.pre.1.0
-    d.before.if-label-ge8.false d.if-label-eq7.false e.if-label-eq6.false t.if-information-lt10000.true s.pre.1.2 s.pre.1.1)
+    ∙ rw (lt-ltb _ _ c.if-base-lt4294967296.true) at (tag_ends kinds _ _ _ (omega arith) (omega arith) _ s.requires.1.0
+    d.if-label-ge8.false d.if-label-eq7.false e.if-label-eq6.false t.if-information-lt10000.true s.requires.1.2 s.requires.1.1)
 
 overflow_add-base-then-information-lt10000 : tie.Need-overflow_add-base-then-information-lt10000
 overflow_add-base-then-information-lt10000 c = omega (arith, base_small _ (start c.before.before.before).requires.1.0)
@@ -93,8 +93,8 @@ returns-then-information-lt10000 c =
     let s = start d in
     λ kinds.
     c.ends-then-information-lt10000.ensures
-    ∙ rw (le-ltb _ _ c.before.if-base-lt4294967296.false) at (tag_ends kinds _ _ _ (omega arith) (omega arith) _ s.pre.1.0
-    d.before.if-label-ge8.false d.if-label-eq7.false e.if-label-eq6.false t.if-information-lt10000.true s.pre.1.2 s.pre.1.1)
+    ∙ rw (le-ltb _ _ c.if-base-lt4294967296.false) at (tag_ends kinds _ _ _ (omega arith) (omega arith) _ s.requires.1.0
+    d.if-label-ge8.false d.if-label-eq7.false e.if-label-eq6.false t.if-information-lt10000.true s.requires.1.2 s.requires.1.1)
 
 refused-requires : tie.Need-refused-requires
 refused-requires c κs = search rules
@@ -107,8 +107,8 @@ returns c =
     let s = start d in
     λ kinds.
     c.refused.ensures
-    ∙ late_micro_is_bad kinds _ _ _ (omega arith) (omega arith) _ s.pre.1.0
-    d.before.if-label-ge8.false d.if-label-eq7.false e.if-label-eq6.false t.if-information-lt10000.false s.pre.1.2 s.pre.1.1
+    ∙ late_micro_is_bad kinds _ _ _ (omega arith) (omega arith) _ s.requires.1.0
+    d.if-label-ge8.false d.if-label-eq7.false e.if-label-eq6.false t.if-information-lt10000.false s.requires.1.2 s.requires.1.1
 
 pub goes_on_spec : {M : Type 1} → statement M
 goes_on_spec =

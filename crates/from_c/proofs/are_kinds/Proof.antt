@@ -33,13 +33,13 @@ loop-bus-smaller c = search rules
 loop-bus-preserved : tie.Need-loop-bus-preserved invariant-loop-bus decreases-loop-bus
 loop-bus-preserved c =
     let i = c.before.before in
-    let o = i.before.loop-bus in
-    (omega (arith, i.loop-bus-test.true), kinds_so_far i.before.before.before.args.kinds.now o.bus o.good i.loop-bus-test.true o.invariant.1 c.both-good.ensures)
+    let o = i.loop-bus in
+    (omega (arith, i.loop-bus-test.true), kinds_so_far i.args.kinds.now o.bus o.good i.loop-bus-test.true o.invariant.1 c.both-good.ensures)
 
 returns : tie.Need-returns invariant-loop-bus decreases-loop-bus
 returns c =
-    let o = c.before.loop-bus in
-    kinds_all c.before.before.before.args.kinds.now o.bus o.good c.loop-bus-test.false o.invariant.1
+    let o = c.loop-bus in
+    kinds_all c.args.kinds.now o.bus o.good c.loop-bus-test.false o.invariant.1
 
 pub are_kinds_spec : {M : Type 1} → statement M
 are_kinds_spec = tie.close (tie.spec invariant-loop-bus decreases-loop-bus loop-bus-init bounds-kinds-bus both-good-requires overflow_add-bus loop-bus-smaller loop-bus-preserved returns)

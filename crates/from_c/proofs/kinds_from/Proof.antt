@@ -36,8 +36,8 @@ loop-bus-smaller c = search rules
 
 loop-bus-preserved : tie.Need-loop-bus-preserved invariant-loop-bus decreases-loop-bus
 loop-bus-preserved c =
-    let o = c.before.before.before.loop-bus in
-    let s = c.before.before.before.before.before.args.numbers.now in (
+    let o = c.loop-bus in
+    let s = c.args.numbers.now in (
       search rules,
       simp length-set o.invariant.1,
       rw (add-one o.bus, take-suc s o.bus 0 (omega arith), take-suc-set o.kinds o.bus c.kind_of.result (omega arith), map-append kind_of (take o.bus s), ← o.invariant.2, ← c.kind_of.ensures),
@@ -45,9 +45,9 @@ loop-bus-preserved c =
 
 returns : tie.Need-returns invariant-loop-bus decreases-loop-bus
 returns c =
-    let o = c.before.loop-bus in
+    let o = c.loop-bus in
     let e : o.bus ≡ 16 = omega arith in
-    let s = c.before.before.before.args.numbers.now in
+    let s = c.args.numbers.now in
     sym (take_all o.bus o.kinds (omega arith)) ∙ o.invariant.2 ∙ ap (map kind_of) (take_all o.bus s (omega arith))
 
 pub kinds_from_spec : {M : Type 1} → statement M

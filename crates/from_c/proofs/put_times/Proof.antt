@@ -20,7 +20,7 @@ decreases-loop-index row number bytes₀ index₀ bytes index = number - index
 
 loop-index-init : tie.Need-loop-index-init invariant-loop-index decreases-loop-index
 unfolding flat_map
-loop-index-init c = (omega arith, c.before.before.requires.0, c.before.before.requires.1, front_none _)
+loop-index-init c = (omega arith, c.requires.0, c.requires.1, front_none _)
 
 overflow_mul-start : tie.Need-overflow_mul-start invariant-loop-index decreases-loop-index
 overflow_mul-start c = search rules
@@ -41,13 +41,13 @@ slice_bounds-put_time-start : tie.Need-slice_bounds-put_time-start invariant-loo
 slice_bounds-put_time-start c = search rules
 
 slice_bounds-put_time-end : tie.Need-slice_bounds-put_time-end invariant-loop-index decreases-loop-index
-slice_bounds-put_time-end c = omega (arith, front_long c.before.before.loop-index.invariant.3)
+slice_bounds-put_time-end c = omega (arith, front_long c.loop-index.invariant.3)
 
 put_time-requires : tie.Need-put_time-requires invariant-loop-index decreases-loop-index
 put_time-requires c κs =
-    let o = c.before.before.before.loop-index in
+    let o = c.loop-index in
     let e : 8 * o.index + 8 - 8 * o.index ≡ 8 = omega arith in
-    rw e (length-take-le 8 (drop (8 * o.index) o.bytes-1) (simp length-drop (omega (arith, front_long o.invariant.3))))
+    rw e (length-take-le 8 (drop (8 * o.index) o.bytes) (simp length-drop (omega (arith, front_long o.invariant.3))))
 
 overflow_add-index : tie.Need-overflow_add-index invariant-loop-index decreases-loop-index
 overflow_add-index c = search rules
@@ -57,19 +57,19 @@ loop-index-smaller c = search rules
 
 loop-index-preserved : tie.Need-loop-index-preserved invariant-loop-index decreases-loop-index
 loop-index-preserved c =
-    let o = c.before.before.before.before.before.before.loop-index in
-    let a = c.before.before.before.before.before.before.before.before.before.args in
-    (search rules, o.invariant.1, o.invariant.2, times_more a.row.now o.index (8 * o.index + 8 - 8 * o.index) o.invariant.3 (omega arith) (omega arith) (omega arith) c.before.before.put_time.ensures)
+    let o = c.loop-index in
+    let a = c.args in
+    (search rules, o.invariant.1, o.invariant.2, times_more a.row.now o.index (8 * o.index + 8 - 8 * o.index) o.invariant.3 (omega arith) (omega arith) (omega arith) c.put_time.ensures)
 
 shape_of-bytes : tie.Need-shape_of-bytes invariant-loop-index decreases-loop-index
-shape_of-bytes c = front_long c.before.loop-index.invariant.3
+shape_of-bytes c = front_long c.loop-index.invariant.3
 
 returns : tie.Need-returns invariant-loop-index decreases-loop-index
 returns c =
-    let o = c.before.loop-index in
-    let a = c.before.before.before.before.args in
+    let o = c.loop-index in
+    let a = c.args in
     let e : o.index ≡ a.number = omega arith in
-    front_over o.invariant.3 ∙ ap (λ (k : ℕ). over (flat_map time_bytes (take k a.row.now)) a.bytes-1.now) e
+    front_over o.invariant.3 ∙ ap (λ (k : ℕ). over (flat_map time_bytes (take k a.row.now)) a.bytes.now) e
 
 pub put_times_spec : {M : Type 1} → statement M
 put_times_spec =

@@ -26,7 +26,7 @@ overflow_add-result c = search rules
 
 returns : tie.Need-returns
 unfolding time_at
-returns c = rw (c.before.half_at.ensures, c.half_at-2.ensures)
+returns c = rw (c.half_at.ensures, c.half_at-2.ensures)
 
 pub time_at_spec : {M : Type 1} → statement M
 time_at_spec =

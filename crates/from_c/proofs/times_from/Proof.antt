@@ -20,7 +20,7 @@ decreases-loop-index bytes row₀ number index₀ row index = number - index
 
 loop-index-init : tie.Need-loop-index-init invariant-loop-index decreases-loop-index
 unfolding list
-loop-index-init c = (omega arith, refl, c.before.before.requires, front_none _)
+loop-index-init c = (omega arith, refl, c.requires, front_none _)
 
 overflow_mul-index : tie.Need-overflow_mul-index invariant-loop-index decreases-loop-index
 overflow_mul-index c = search rules
@@ -32,7 +32,7 @@ offset_bounds-row-index : tie.Need-offset_bounds-row-index invariant-loop-index 
 offset_bounds-row-index c = search rules
 
 bounds-row-index : tie.Need-bounds-row-index invariant-loop-index decreases-loop-index
-bounds-row-index c = omega (arith, front_long c.before.before.loop-index.invariant.3)
+bounds-row-index c = omega (arith, front_long c.loop-index.invariant.3)
 
 overflow_add-index : tie.Need-overflow_add-index invariant-loop-index decreases-loop-index
 overflow_add-index c = search rules
@@ -41,15 +41,15 @@ loop-index-smaller : tie.Need-loop-index-smaller invariant-loop-index decreases-
 loop-index-smaller c = search rules
 
 loop-index-preserved : tie.Need-loop-index-preserved invariant-loop-index decreases-loop-index
-loop-index-preserved c = let o = c.before.before.loop-index in (omega arith, o.invariant.1, o.invariant.2, rw (list_more (λ k. time_at c.before.before.before.before.before.args.bytes.now (8 * k)) o.index, c.time_at.ensures) (front_more _ o.invariant.3 (omega arith)))
+loop-index-preserved c = let o = c.loop-index in (omega arith, o.invariant.1, o.invariant.2, rw (list_more (λ k. time_at c.args.bytes.now (8 * k)) o.index, c.time_at.ensures) (front_more _ o.invariant.3 (omega arith)))
 
 shape_of-row : tie.Need-shape_of-row invariant-loop-index decreases-loop-index
-shape_of-row c = front_long c.before.loop-index.invariant.3
+shape_of-row c = front_long c.loop-index.invariant.3
 
 returns : tie.Need-returns invariant-loop-index decreases-loop-index
 returns c =
-    let o = c.before.loop-index in
-    let a = c.before.before.before.before.args in
+    let o = c.loop-index in
+    let a = c.args in
     let e : o.index ≡ length a.bytes.now / 8 = omega arith in
     front_over o.invariant.3 ∙ ap (λ (k : ℕ). over (list (λ j. time_at a.bytes.now (8 * j)) 0 k) a.row.now) e
 

@@ -10,10 +10,10 @@ is_odd-requires-then-is_odd : tie.Need-is_odd-requires-then-is_odd
 is_odd-requires-then-is_odd c κs = search rules
 
 returns-then-is_odd : tie.Need-returns-then-is_odd
-returns-then-is_odd c = rw (c.before.before.before.if-parity.true, ← c.before.before.is_odd.ensures, c.before.if-is_odd.true) c.is_odd-then-is_odd.ensures
+returns-then-is_odd c = rw (c.if-parity.true, ← c.is_odd.ensures, c.if-is_odd.true) c.is_odd-then-is_odd.ensures
 
 returns-else-is_odd : tie.Need-returns-else-is_odd
-returns-else-is_odd c = rw (c.before.before.if-parity.true, ← c.before.is_odd.ensures, c.if-is_odd.false) refl
+returns-else-is_odd c = rw (c.if-parity.true, ← c.is_odd.ensures, c.if-is_odd.false) refl
 
 returns-else-parity : tie.Need-returns-else-parity
 returns-else-parity c = rw c.if-parity.false refl

@@ -8,13 +8,13 @@ join-requires : tie.Need-join-requires
 join-requires c κs = search rules
 
 sent-requires : tie.Need-sent-requires
-sent-requires c κs = rw c.join.ensures (check_word_low c.before.args.label c.before.args.check c.before.requires.0 c.before.requires.1)
+sent-requires c κs = rw c.join.ensures (check_word_low c.args.label c.args.check c.requires.0 c.requires.1)
 
 returns-then-word-sent : tie.Need-returns-then-word-sent
-returns-then-word-sent c = rw (← c.before.before.join.ensures, ← c.before.sent.ensures, eq-eqb _ _ c.if-word-sent.true)
+returns-then-word-sent c = rw (← c.join.ensures, ← c.sent.ensures, eq-eqb _ _ c.if-word-sent.true)
 
 returns-else-word-sent : tie.Need-returns-else-word-sent
-returns-else-word-sent c = rw (← c.before.before.join.ensures, ← c.before.sent.ensures, ne_eqb _ _ c.if-word-sent.false)
+returns-else-word-sent c = rw (← c.join.ensures, ← c.sent.ensures, ne_eqb _ _ c.if-word-sent.false)
 
 pub check_number_spec : {M : Type 1} → statement M
 check_number_spec = tie.close (tie.spec join-requires sent-requires returns-then-word-sent returns-else-word-sent)

@@ -59,14 +59,14 @@ shape c = (start c).requires.0
 abbrev InScan : Type 0
 InScan = tie.Else-track-tracks invariant-loop-position decreases-loop-position invariant-scan decreases-scan
 
-track_in : (c : InScan) → c.before.scan.track < (plan c.before).tracks
-track_in c = omega (arith, c.before.scan.invariant.0, c.if-track-tracks.false)
+track_in : (c : InScan) → c.scan.track < (plan c.before).tracks
+track_in c = omega (arith, c.scan.invariant.0, c.if-track-tracks.false)
 
 some_words : (c : AtScan) → 0 < (plan c).words
 some_words c = omega (arith, (shape c).words_least)
 
-room : (c : InScan) (j : ℕ) → j < (plan c.before).words → 3 * (c.before.scan.track * (plan c.before).words + j + 1) ≤ length (group c.before)
-room c j h = word_room (plan c.before) (shape c.before) c.before.scan.track j (length (group c.before)) (start c.before).pre.1 (track_in c) h
+room : (c : InScan) (j : ℕ) → j < (plan c.before).words → 3 * (c.scan.track * (plan c.before).words + j + 1) ≤ length (group c.before)
+room c j h = word_room (plan c.before) (shape c.before) c.scan.track j (length (group c.before)) (start c.before).requires.1 (track_in c) h
 
 size : (c : AtScan) → length (group c) ≤ 3 * most_group_words
 size c = omega (arith, (start c).requires.1, group_most (plan c) (shape c))
@@ -83,32 +83,32 @@ scan c = (in_track c).before
 
 -- the row at a loop, by the row at the call
 dealing : (c : AtLoop) → Dealing (plan (scan c)) (group (scan c)) (old (scan c)) c.loop-position.row (scan c).scan.track c.loop-position.position
-dealing c = c.loop-position.invariant.2 (old (scan c)) (start (scan c)).pre.2 (scan c).scan.invariant.2
+dealing c = c.loop-position.invariant.2 (old (scan c)) (start (scan c)).requires.2 (scan c).scan.invariant.2
 
 row_in : (c : AtLoop) → dealt_count (plan (scan c)) ≤ length c.loop-position.row
-row_in c = omega (arith, (dealing c).long, (start (scan c)).pre.2)
+row_in c = omega (arith, (dealing c).long, (start (scan c)).requires.2)
 
 few : (c : AtLoop) → dealt_count (plan (scan c)) ≤ most_dealt
 few c = dealt_most (plan (scan c)) (shape (scan c))
 
-rows_are : (c : AtLoop) → (scan c).before.dealt_rows-rows.result ≡ rows (plan (scan c))
-rows_are c = (scan c).before.dealt_rows-rows.ensures
+rows_are : (c : AtLoop) → (scan c).dealt_rows-rows.result ≡ rows (plan (scan c))
+rows_are c = (scan c).dealt_rows-rows.ensures
 
 -- in the loop: two words more
 abbrev InLoop : Type 0
 InLoop = tie.In-loop-position invariant-loop-position decreases-loop-position invariant-scan decreases-scan
 
-two_rows : (c : InLoop) → c.before.loop-position.position < rows (plan (scan c.before))
+two_rows : (c : InLoop) → c.loop-position.position < rows (plan (scan c.before))
 two_rows c = omega (arith, c.loop-position-test.true, rows_are c.before)
 
-two_in : (c : InLoop) → 3 * ((scan c.before).scan.track * (plan (scan c.before)).words + (c.before.loop-position.position + 1) + 1) ≤ length (group (scan c.before))
+two_in : (c : InLoop) → 3 * ((scan c.before).scan.track * (plan (scan c.before)).words + (c.loop-position.position + 1) + 1) ≤ length (group (scan c.before))
 two_in c =
     let s = scan c.before in
-    room (in_track c.before) (c.before.loop-position.position + 1) (omega (arith, two_rows c, rows_under (plan s) (shape s)))
+    room (in_track c.before) (c.loop-position.position + 1) (omega (arith, two_rows c, rows_under (plan s) (shape s)))
 
-slot_in : (c : InLoop) → c.before.loop-position.slot + (plan (scan c.before)).tracks < dealt_count (plan (scan c.before))
+slot_in : (c : InLoop) → c.loop-position.slot + (plan (scan c.before)).tracks < dealt_count (plan (scan c.before))
 slot_in c =
-    let l = c.before.loop-position in
+    let l = c.loop-position in
     let p = plan (scan c.before) in
     let a = l.invariant.0 in
     slot_below p (scan c.before).scan.track (l.position + 1) (l.slot + p.tracks) a.track (omega arith) (omega (arith, two_rows c))
@@ -122,7 +122,7 @@ abbrev in_loop : Loaded → InLoop
 in_loop c = c.before.before
 
 abbrev one : Loaded → ℕ
-one c = c.before.stored_word-one.result
+one c = c.stored_word-one.result
 
 abbrev two : Loaded → ℕ
 two c = c.stored_word-two.result
@@ -145,7 +145,7 @@ abbrev one_at : AtOne → AtLoop
 one_at c = c.before.before
 
 in_rows : (c : AtOne) → (one_at c).loop-position.position ≡ rows (plan (scan (one_at c)))
-in_rows c = omega (arith, c.if-position-rows.true, c.before.loop-position-test.false, rows_are (one_at c))
+in_rows c = omega (arith, c.if-position-rows.true, c.loop-position-test.false, rows_are (one_at c))
 
 one_in : (c : AtOne) → 3 * ((scan (one_at c)).scan.track * (plan (scan (one_at c))).words + (one_at c).loop-position.position + 1) ≤ length (group (scan (one_at c)))
 one_in c =
@@ -155,7 +155,7 @@ one_in c =
 one_slot : (c : AtOne) → (one_at c).loop-position.slot < dealt_count (plan (scan (one_at c)))
 one_slot c =
     let l = (one_at c).loop-position in
-    let a = l.inv.0 in
+    let a = l.invariant.0 in
     slot_below (plan (scan (one_at c))) (scan (one_at c)).scan.track l.position l.slot a.track a.past (omega (arith, in_rows c)) a.slot_is
 
 -- the dealt words of the track are over
@@ -178,11 +178,11 @@ over c =
     let here : AtOne = record { before = c.before; if4 = w.0 } in
     let k : l.position ≤ rows p = omega (arith, in_rows here) in
     over_at p g (old s) (omega (arith, in_rows here))
-    (inside_one p g (shape s) l.inv.0 w.1.result k w.1.ensures.0 w.2.ensures w.3.left w.4.ensures)
-    (deal_more p g (old s) l.row s.scan.track l.position l.slot w.1.result (dealing (last_of c)) l.inv.0.track l.inv.0.past k
-    (start s).pre.2 l.inv.0.slot_is w.1.ensures.0)
+    (inside_one p g (shape s) l.invariant.0 w.1.result k w.1.ensures.0 w.2.ensures w.3.false w.4.ensures)
+    (deal_more p g (old s) l.row s.scan.track l.position l.slot w.1.result (dealing (last_of c)) l.invariant.0.track l.invariant.0.past k
+    (start s).requires.2 l.invariant.0.slot_is w.1.ensures.0)
     w.5 w.6)
-    (λ w. over_at p g (old s) (omega (arith, w.0.left, l.inv.0.within, n)) l.inv.0 (dealing (last_of c)) w.1 w.2)
+    (λ w. over_at p g (old s) (omega (arith, w.0.false, l.invariant.0.within, n)) l.invariant.0 (dealing (last_of c)) w.1 w.2)
     c.if-position-rows.branch
 
 last_in : (c : AtLast) → 3 * ((scan (last_of c)).scan.track * (plan (scan (last_of c))).words + ((plan (scan (last_of c))).words - 1) + 1) ≤ length (group (scan (last_of c)))
@@ -197,7 +197,7 @@ scan-init : tie.Need-scan-init invariant-loop-position decreases-loop-position i
 scan-init c = (omega arith, rest_starts _ _ _, deal_start _ _ _)
 
 time_fault-fault-requires : tie.Need-time_fault-fault-requires invariant-loop-position decreases-loop-position invariant-scan decreases-scan
-time_fault-fault-requires c κs = let s = start c.before in (s.pre.0, s.pre.1)
+time_fault-fault-requires c κs = let s = start c.before in (s.requires.0, s.requires.1)
 
 overflow_mul-first : tie.Need-overflow_mul-first invariant-loop-position decreases-loop-position invariant-scan decreases-scan
 overflow_mul-first c = omega (arith, room c 0 (some_words c.before), size c.before)
@@ -212,15 +212,15 @@ start-requires : tie.Need-start-requires invariant-loop-position decreases-loop-
 start-requires c κs = search rules
 
 with_one-sum-requires : tie.Need-with_one-sum-requires invariant-loop-position decreases-loop-position invariant-scan decreases-scan
-with_one-sum-requires c κs = (c.start.ensures.small, c.before.before.before.stored_word-sync.ensures.1)
+with_one-sum-requires c κs = (c.start.ensures.small, c.stored_word-sync.ensures.1)
 
 loop-position-init : tie.Need-loop-position-init invariant-loop-position decreases-loop-position invariant-scan decreases-scan
 loop-position-init c =
     let synced = c.before.before in
     let stored = synced.before.before in
     let s = stored.before.before in (
-      inside-sync (plan s) (group s) s.scan.track (shape s) (track_in stored.before) stored.stored_word-sync.ensures.0 synced.before.sync.ensures
-          s.scan.invariant.1 synced.if-sync.false c.before.start.ensures c.with_one-sum.ensures,
+      inside-sync (plan s) (group s) s.scan.track (shape s) (track_in stored.before) stored.stored_word-sync.ensures.0 synced.sync.ensures
+          s.scan.invariant.1 synced.if-sync.false c.start.ensures c.with_one-sum.ensures,
       refl,
       λ old n d. d,
     )
@@ -238,13 +238,13 @@ stored_word-two-requires : tie.Need-stored_word-two-requires invariant-loop-posi
 stored_word-two-requires c κs = omega (arith, two_in c.before)
 
 are_odd-requires : tie.Need-are_odd-requires invariant-loop-position decreases-loop-position invariant-scan decreases-scan
-are_odd-requires c κs = (c.before.stored_word-one.ensures.1, c.stored_word-two.ensures.1)
+are_odd-requires c κs = (c.stored_word-one.ensures.1, c.stored_word-two.ensures.1)
 
 even_place-requires : tie.Need-even_place-requires invariant-loop-position decreases-loop-position invariant-scan decreases-scan
-even_place-requires c κs = let l = c.before.before in (l.before.stored_word-one.ensures.1, omega (arith, two_in (in_loop l), size (scan (in_loop l).before)))
+even_place-requires c κs = let l = c.before.before in (l.stored_word-one.ensures.1, omega (arith, two_in (in_loop l), size (scan (in_loop l).before)))
 
 with_two-sum-requires : tie.Need-with_two-sum-requires invariant-loop-position decreases-loop-position invariant-scan decreases-scan
-with_two-sum-requires c κs = let l = c.before.before in ((in_loop l).before.loop-position.invariant.0.small, l.before.stored_word-one.ensures.1, l.stored_word-two.ensures.1)
+with_two-sum-requires c κs = let l = c.before.before in ((in_loop l).loop-position.invariant.0.small, l.stored_word-one.ensures.1, l.stored_word-two.ensures.1)
 
 offset_bounds-row-slot : tie.Need-offset_bounds-row-slot invariant-loop-position decreases-loop-position invariant-scan decreases-scan
 offset_bounds-row-slot c = omega (arith, slot_in (two_of c), few (two_of c).before)
@@ -281,14 +281,14 @@ loop-position-preserved c =
     let at = (two_of c).before in
     let l = at.loop-position in
     let s = scan at in
-    let e = w.before.stored_word-one.ensures.0 in
+    let e = w.stored_word-one.ensures.0 in
     let f = w.stored_word-two.ensures.0 in
-    let o = sym c.before.before.are_odd.ensures ∙ not_left c.before.before.are_odd.result c.before.if-not-are_odd.false in
-    let a = l.inv.0 in (
+    let o = sym c.are_odd.ensures ∙ not_left c.are_odd.result c.if-not-are_odd.false in
+    let a = l.invariant.0 in (
       inside-two (plan s) (group s) (shape s) a (one w) (two w) (two_rows (two_of c)) e f o c.with_two-sum.ensures,
-      length-set (set l.row l.slot (one w)) (l.slot + (plan s).tracks) (two w) ∙ length-set l.row l.slot (one w) ∙ l.inv.1,
+      length-set (set l.row l.slot (one w)) (l.slot + (plan s).tracks) (two w) ∙ length-set l.row l.slot (one w) ∙ l.invariant.1,
       λ old n d.
-          deal_two (plan s) (group s) old l.row s.scan.track l.position l.slot (one w) (two w) (l.inv.2 old n d) a.track a.past (two_rows (two_of c)) n
+          deal_two (plan s) (group s) old l.row s.scan.track l.position l.slot (one w) (two w) (l.invariant.2 old n d) a.track a.past (two_rows (two_of c)) n
           a.slot_is e f,
     )
 
@@ -305,7 +305,7 @@ overflow_add-fault : tie.Need-overflow_add-fault invariant-loop-position decreas
 overflow_add-fault c = let o = c.before.before.before in omega (arith, one_in o, size (scan (one_at o)))
 
 with_one-sum-requires-then-position-rows : tie.Need-with_one-sum-requires-then-position-rows invariant-loop-position decreases-loop-position invariant-scan decreases-scan
-with_one-sum-requires-then-position-rows c κs = let w = c.before.before in ((one_at w.before).loop-position.inv.0.small, w.stored_word-word.ensures.1)
+with_one-sum-requires-then-position-rows c κs = let w = c.before.before in ((one_at w.before).loop-position.invariant.0.small, w.stored_word-word.ensures.1)
 
 offset_bounds-row-slot-then-position-rows : tie.Need-offset_bounds-row-slot-then-position-rows invariant-loop-position decreases-loop-position invariant-scan decreases-scan
 offset_bounds-row-slot-then-position-rows c = let o = c.before.before.before.before in omega (arith, one_slot o, few (one_at o))
@@ -335,18 +335,18 @@ scan-preserved c =
     let t = s.scan.track in
     let o = over j in (
       omega (arith, track_in (in_track (last_of j))),
-      frame_good (plan s) (group s) (shape s) o.inside refl c.before.last_number-number.ensures c.if-number-ne0-2.false,
+      frame_good (plan s) (group s) (shape s) o.inside refl c.last_number-number.ensures c.if-number-ne0-2.false,
       deal_track (plan s) (group s) (old s) j.if-position-rows.row t (rows (plan s) + 1) o.dealt (omega arith),
     )
 
 shape_of-row-then-track-tracks : tie.Need-shape_of-row-then-track-tracks invariant-loop-position decreases-loop-position invariant-scan decreases-scan
-shape_of-row-then-track-tracks c = c.before.before.scan.invariant.2.long
+shape_of-row-then-track-tracks c = c.scan.invariant.2.long
 
 returns-then-track-tracks : tie.Need-returns-then-track-tracks invariant-loop-position decreases-loop-position invariant-scan decreases-scan
 returns-then-track-tracks c =
     let s = c.before.before in
     let d = s.scan.invariant.2 in
-    let e : (plan s).tracks ≤ s.scan.track = omega (arith, c.before.if-track-tracks.true) in
+    let e : (plan s).tracks ≤ s.scan.track = omega (arith, c.if-track-tracks.true) in
     record {
       fault = c.time_fault-fault.ensures ∙ sym (ap fault_of (s.scan.invariant.1 ∙ rest_ends (plan s) (group s) 0 s.scan.track e));
       long = d.long;
@@ -355,7 +355,7 @@ returns-then-track-tracks c =
     }
 
 shape_of-row-then-sync : tie.Need-shape_of-row-then-sync invariant-loop-position decreases-loop-position invariant-scan decreases-scan
-shape_of-row-then-sync c = c.before.before.before.before.scan.invariant.2.long
+shape_of-row-then-sync c = c.scan.invariant.2.long
 
 returns-then-sync : tie.Need-returns-then-sync invariant-loop-position decreases-loop-position invariant-scan decreases-scan
 returns-then-sync c =
@@ -365,7 +365,7 @@ returns-then-sync c =
       fault = sym
           (ap fault_of
           (s.scan.invariant.1
-          ∙ sync-bad (plan s) (group s) s.scan.track (shape s) (track_in stored.before) stored.stored_word-sync.ensures.0 c.before.sync.ensures c.if-sync.true));
+          ∙ sync-bad (plan s) (group s) s.scan.track (shape s) (track_in stored.before) stored.stored_word-sync.ensures.0 c.sync.ensures c.if-sync.true));
       long = s.scan.invariant.2.long;
       behind = deal-behind (plan s) (group s) (old s) s.scan.row s.scan.track 1 s.scan.invariant.2;
       words = λ z. absurd (omega arith);
@@ -380,11 +380,11 @@ returns-then-not-are_odd c =
     let at = (in_loop w).before in
     let s = scan at in
     let l = at.loop-position in
-    let o = sym c.before.before.are_odd.ensures ∙ not_taken c.before.before.are_odd.result c.before.if-not-are_odd.true in
+    let o = sym c.are_odd.ensures ∙ not_taken c.are_odd.result c.if-not-are_odd.true in
     record {
       fault = sym
           (ap fault_of
-          (inside-even (plan s) (group s) (shape s) l.inv.0 (one w) (two w) (two_rows (in_loop w)) w.before.stored_word-one.ensures.0 w.stored_word-two.ensures.0 o
+          (inside-even (plan s) (group s) (shape s) l.invariant.0 (one w) (two w) (two_rows (in_loop w)) w.stored_word-one.ensures.0 w.stored_word-two.ensures.0 o
           c.even_place.ensures));
       long = (dealing at).long;
       behind = deal-behind (plan s) (group s) (old s) l.row s.scan.track l.position (dealing at);
@@ -403,8 +403,8 @@ returns-then-number-ne0 c =
     record {
       fault = sym
           (ap fault_of
-          (inside-bad (plan s) (group s) (shape s) l.inv.0 w.stored_word-word.result (omega (arith, in_rows w.before)) w.stored_word-word.ensures.0
-          c.before.parity_number-number.ensures c.if-number-ne0.true));
+          (inside-bad (plan s) (group s) (shape s) l.invariant.0 w.stored_word-word.result (omega (arith, in_rows w.before)) w.stored_word-word.ensures.0
+          c.parity_number-number.ensures c.if-number-ne0.true));
       long = (dealing at).long;
       behind = deal-behind (plan s) (group s) (old s) l.row s.scan.track l.position (dealing at);
       words = λ z. absurd (c.if-number-ne0.true z);
@@ -419,7 +419,7 @@ returns-then-number-ne0-2 c =
     let s = scan (last_of j) in
     let o = over j in
     record {
-      fault = sym (ap fault_of (frame_bad (plan s) (group s) (shape s) o.inside refl c.before.last_number-number.ensures c.if-number-ne0-2.true));
+      fault = sym (ap fault_of (frame_bad (plan s) (group s) (shape s) o.inside refl c.last_number-number.ensures c.if-number-ne0-2.true));
       long = o.dealt.long;
       behind = deal-behind (plan s) (group s) (old s) j.if-position-rows.row s.scan.track (rows (plan s) + 1) o.dealt;
       words = λ z. absurd (c.if-number-ne0-2.true z);

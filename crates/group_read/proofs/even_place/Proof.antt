@@ -11,10 +11,10 @@ overflow_add-result : tie.Need-overflow_add-result
 overflow_add-result c = search rules
 
 returns-then-parity_number-eq0 : tie.Need-returns-then-parity_number-eq0
-returns-then-parity_number-eq0 c = is_odd_lem c.before.before.args.parity c.before.before.args.one c.before.before.args.place (sym c.before.parity_number.ensures ∙ c.if-parity_number-eq0.true)
+returns-then-parity_number-eq0 c = is_odd_lem c.args.parity c.args.one c.args.place (sym c.parity_number.ensures ∙ c.if-parity_number-eq0.true)
 
 returns-else-parity_number-eq0 : tie.Need-returns-else-parity_number-eq0
-returns-else-parity_number-eq0 c = is_even c.before.before.args.parity c.before.before.args.one c.before.before.args.place (λ z. c.if-parity_number-eq0.false (c.before.parity_number.ensures ∙ z))
+returns-else-parity_number-eq0 c = is_even c.args.parity c.args.one c.args.place (λ z. c.if-parity_number-eq0.false (c.parity_number.ensures ∙ z))
 
 pub even_place_spec : {M : Type 1} → statement M
 even_place_spec = tie.close (tie.spec parity_number-requires overflow_add-result returns-then-parity_number-eq0 returns-else-parity_number-eq0)

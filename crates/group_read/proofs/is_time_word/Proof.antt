@@ -9,21 +9,21 @@ bus_of-requires c κs = search rules
 
 returns-then-bus_of-ne0 : tie.Need-returns-then-bus_of-ne0
 unfolding is_time_word
-returns-then-bus_of-ne0 c = rw (← c.before.bus_of.ensures, ne_eqb _ _ c.if-bus_of-ne0.true)
+returns-then-bus_of-ne0 c = rw (← c.bus_of.ensures, ne_eqb _ _ c.if-bus_of-ne0.true)
 
 label_of-requires : tie.Need-label_of-requires
 label_of-requires c κs = search rules
 
 returns-then-label_of-label : tie.Need-returns-then-label_of-label
 unfolding is_time_word
-returns-then-label_of-label c = rw (← c.before.before.before.bus_of.ensures, eq-eqb _ _ c.before.before.if-bus_of-ne0.false, ← c.before.label_of.ensures, ne_eqb _ _ c.if-label_of-label.true)
+returns-then-label_of-label c = rw (← c.bus_of.ensures, eq-eqb _ _ c.if-bus_of-ne0.false, ← c.label_of.ensures, ne_eqb _ _ c.if-label_of-label.true)
 
 information_of-requires : tie.Need-information_of-requires
 information_of-requires c κs = search rules
 
 returns : tie.Need-returns
 unfolding is_time_word
-returns c = rw (← c.before.before.before.before.bus_of.ensures, eq-eqb _ _ c.before.before.before.if-bus_of-ne0.false, ← c.before.before.label_of.ensures, eq-eqb _ _ c.before.if-label_of-label.false, ← c.information_of.ensures)
+returns c = rw (← c.bus_of.ensures, eq-eqb _ _ c.if-bus_of-ne0.false, ← c.label_of.ensures, eq-eqb _ _ c.if-label_of-label.false, ← c.information_of.ensures)
 
 pub is_time_word_spec : {M : Type 1} → statement M
 is_time_word_spec =

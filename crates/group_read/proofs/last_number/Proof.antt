@@ -26,7 +26,7 @@ returns-then-plan c =
     let summed = checked.before in
     let even = summed.before in
     let stored = even.before in
-    rw (stored.before.if-plan.true, ← stored.stored_word-word.ensures.0, ← summed.check.ensures.0, ← even.parity_number-even.ensures, ← checked.check_number-check.ensures)
+    rw (stored.if-plan.true, ← stored.stored_word-word.ensures.0, ← summed.check.ensures.0, ← even.parity_number-even.ensures, ← checked.check_number-check.ensures)
     c.earlier_number.ensures
 
 returns : tie.Need-returns

@@ -6,10 +6,10 @@ is_odd-requires : tie.Need-is_odd-requires
 is_odd-requires c κs = search rules
 
 returns-then-is_odd : tie.Need-returns-then-is_odd
-returns-then-is_odd c = rw (c.before.before.if-parity.true, ← c.before.is_odd.ensures, c.if-is_odd.true)
+returns-then-is_odd c = rw (c.if-parity.true, ← c.is_odd.ensures, c.if-is_odd.true)
 
 returns-else-is_odd : tie.Need-returns-else-is_odd
-returns-else-is_odd c = rw (c.before.before.if-parity.true, ← c.before.is_odd.ensures, c.if-is_odd.false)
+returns-else-is_odd c = rw (c.if-parity.true, ← c.is_odd.ensures, c.if-is_odd.false)
 
 returns-else-parity : tie.Need-returns-else-parity
 returns-else-parity c = rw c.if-parity.false

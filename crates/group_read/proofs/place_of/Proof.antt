@@ -23,8 +23,8 @@ remainder-requires : tie.Need-remainder-requires
 remainder-requires c κs = narrow c
 
 -- the words of the tracks before it
-before : (c : tie.After-remainder) → c.remainder.result * c.before.args.plan.words ≡ c.before.args.dealt % c.before.args.plan.tracks * c.before.args.plan.words
-before c = ap (λ (k : ℕ). k * c.before.args.plan.words) c.remainder.ensures
+before : (c : tie.After-remainder) → c.remainder.result * c.args.plan.words ≡ c.args.dealt % c.args.plan.tracks * c.args.plan.words
+before c = ap (λ (k : ℕ). k * c.args.plan.words) c.remainder.ensures
 
 overflow_mul-result : tie.Need-overflow_mul-result
 overflow_mul-result c = let s = c.before.before in omega (arith, before c.before, low s, group_most s.args.plan s.requires.0)
@@ -32,7 +32,7 @@ overflow_mul-result c = let s = c.before.before in omega (arith, before c.before
 quotient-requires : tie.Need-quotient-requires
 quotient-requires c κs = narrow c.before.before
 
-is_place : (c : tie.After-quotient) → c.before.before.remainder.result * c.before.before.before.args.plan.words + c.quotient.result + 1 ≡ place c.before.before.before
+is_place : (c : tie.After-quotient) → c.remainder.result * c.args.plan.words + c.quotient.result + 1 ≡ place c.before.before.before
 is_place c = ap₂ (λ (a b : ℕ). a + b + 1) (before c.before.before) c.quotient.ensures
 
 overflow_add-result : tie.Need-overflow_add-result

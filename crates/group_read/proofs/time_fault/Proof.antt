@@ -25,22 +25,22 @@ abbrev third : tie.After-place_of-then-plan-2 → tie.Then-plan
 third c = second c.before.before
 
 place_of-requires : tie.Need-place_of-requires
-place_of-requires c κs = let s = entry c in (s.pre.0, omega (arith, room s.args.plan s.pre.0))
+place_of-requires c κs = let s = entry c in (s.requires.0, omega (arith, room s.args.plan s.requires.0))
 
 time_word_fault-high-requires : tie.Need-time_word_fault-high-requires
-time_word_fault-high-requires c κs = let s = entry c.before in place_room s.args.plan s.pre.0 _ s.pre.1 c.place_of.ensures.1
+time_word_fault-high-requires c κs = let s = entry c.before in place_room s.args.plan s.requires.0 _ s.requires.1 c.place_of.ensures.1
 
 place_of-requires-then-plan : tie.Need-place_of-requires-then-plan
-place_of-requires-then-plan c κs = let s = entry c.before.before in (s.pre.0, omega (arith, room s.args.plan s.pre.0))
+place_of-requires-then-plan c κs = let s = entry c.before.before in (s.requires.0, omega (arith, room s.args.plan s.requires.0))
 
 time_word_fault-low-requires : tie.Need-time_word_fault-low-requires
-time_word_fault-low-requires c κs = let s = entry (second c) in place_room s.args.plan s.pre.0 _ s.pre.1 c.place_of-then-plan.ensures.1
+time_word_fault-low-requires c κs = let s = entry (second c) in place_room s.args.plan s.requires.0 _ s.requires.1 c.place_of-then-plan.ensures.1
 
 place_of-requires-then-plan-2 : tie.Need-place_of-requires-then-plan-2
-place_of-requires-then-plan-2 c κs = let s = entry (second c.before) in (s.pre.0, omega (arith, room s.args.plan s.pre.0))
+place_of-requires-then-plan-2 c κs = let s = entry (second c.before) in (s.requires.0, omega (arith, room s.args.plan s.requires.0))
 
 time_word_fault-micro-requires : tie.Need-time_word_fault-micro-requires
-time_word_fault-micro-requires c κs = let s = entry (third c) in place_room s.args.plan s.pre.0 _ s.pre.1 c.place_of-then-plan-2.ensures.1
+time_word_fault-micro-requires c κs = let s = entry (third c) in place_room s.args.plan s.requires.0 _ s.requires.1 c.place_of-then-plan-2.ensures.1
 
 earlier-requires : tie.Need-earlier-requires
 earlier-requires c κs = search rules
@@ -57,17 +57,17 @@ returns-then-plan c =
     let p = (entry then).args.plan in
     let g = (entry then).args.group.now in
     c.earlier-then-plan.ensures
-    ∙ ap₂ earlier_fault (time_word_at_lem p g 0 0 7 65536 _ high.time_word_fault-high.ensures (at_0 p 0 high.before.place_of.ensures.0))
-    (c.before.earlier.ensures
-    ∙ ap₂ earlier_fault (time_word_at_lem p g 0 1 6 65536 _ low.time_word_fault-low.ensures (at_0 p 1 low.before.place_of-then-plan.ensures.0))
-    (time_word_at_lem p g 0 2 5 10000 _ micro.time_word_fault-micro.ensures (at_0 p 2 micro.before.place_of-then-plan-2.ensures.0)))
+    ∙ ap₂ earlier_fault (time_word_at_lem p g 0 0 7 65536 _ high.time_word_fault-high.ensures (at_0 p 0 high.place_of.ensures.0))
+    (c.earlier.ensures
+    ∙ ap₂ earlier_fault (time_word_at_lem p g 0 1 6 65536 _ low.time_word_fault-low.ensures (at_0 p 1 low.place_of-then-plan.ensures.0))
+    (time_word_at_lem p g 0 2 5 10000 _ micro.time_word_fault-micro.ensures (at_0 p 2 micro.place_of-then-plan-2.ensures.0)))
     ∙ time_faults p g 0 then.if-plan.true
 
 no_fault-requires : tie.Need-no_fault-requires
 no_fault-requires c κs = search rules
 
 returns : tie.Need-returns
-returns c = c.no_fault.ensures ∙ sym (ap fault_of (no_time_fault _ _ _ c.before.if-plan.false))
+returns c = c.no_fault.ensures ∙ sym (ap fault_of (no_time_fault _ _ _ c.if-plan.false))
 
 pub time_fault_spec : {M : Type 1} → statement M
 time_fault_spec =

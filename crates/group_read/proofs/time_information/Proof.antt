@@ -20,14 +20,14 @@ information_of-requires : tie.Need-information_of-requires
 information_of-requires c κs = search rules
 
 overflow_cast-result : tie.Need-overflow_cast-result
-overflow_cast-result c = omega (arith, c.information_of.ensures, info_low c.before.stored_word.result)
+overflow_cast-result c = omega (arith, c.information_of.ensures, info_low c.stored_word.result)
 
 returns : tie.Need-returns
 returns c =
     let placed = c.before.before in
     let s = placed.before.before in
     let e : placed.place_of.result ≡ 0 + place_of s.args.plan s.args.dealt = omega (arith, placed.place_of.ensures.0) in
-    c.information_of.ensures ∙ ap info_of (c.before.stored_word.ensures.0 ∙ ap (word_at s.args.group.now) e)
+    c.information_of.ensures ∙ ap info_of (c.stored_word.ensures.0 ∙ ap (word_at s.args.group.now) e)
 
 pub time_information_spec : {M : Type 1} → statement M
 time_information_spec =

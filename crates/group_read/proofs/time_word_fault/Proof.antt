@@ -13,10 +13,10 @@ no_fault-requires : tie.Need-no_fault-requires
 no_fault-requires c κs = search rules
 
 returns-then-is_time_word : tie.Need-returns-then-is_time_word
-returns-then-is_time_word c = c.no_fault.ensures ∙ rw (← c.before.before.before.stored_word.ensures.0, ← c.before.before.is_time_word.ensures, c.before.if-is_time_word.true)
+returns-then-is_time_word c = c.no_fault.ensures ∙ rw (← c.stored_word.ensures.0, ← c.is_time_word.ensures, c.if-is_time_word.true)
 
 returns : tie.Need-returns
-returns c = rw (← c.before.before.stored_word.ensures.0, ← c.before.is_time_word.ensures, c.if-is_time_word.false)
+returns c = rw (← c.stored_word.ensures.0, ← c.is_time_word.ensures, c.if-is_time_word.false)
 
 pub time_word_fault_spec : {M : Type 1} → statement M
 time_word_fault_spec =

@@ -12,11 +12,11 @@ overflow_sub-result-else-plan c = search rules
 
 returns-then-plan : tie.Need-returns-then-plan
 unfolding rows
-returns-then-plan c = rw c.before.if-plan.true (omega arith)
+returns-then-plan c = rw c.if-plan.true (omega arith)
 
 returns-else-plan : tie.Need-returns-else-plan
 unfolding rows
-returns-else-plan c = rw c.before.if-plan.false (omega arith)
+returns-else-plan c = rw c.if-plan.false (omega arith)
 
 pub dealt_rows_spec : {M : Type 1} → statement M
 dealt_rows_spec = tie.close (tie.spec overflow_sub-result overflow_sub-result-else-plan returns-then-plan returns-else-plan)

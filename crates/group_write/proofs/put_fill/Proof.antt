@@ -16,10 +16,10 @@ start-else c = c.before.before.before.before.before.before.before
 
 -- the rows of fill on bus 0 are written there
 blanked : (c : tie.Else-plan-eq0)
-    → let s = start-else c in Written (same_rows 0x01AAAA s.args.rows) s.args.rows s.args.out-1.now c.before.before.before.before.fill_rows.new.0
+    → let s = start-else c in Written (same_rows 0x01AAAA s.args.rows) s.args.rows s.args.out.now c.fill_rows.new.0
 blanked c =
     let s = start-else c in
-    record { is = c.before.before.before.before.fill_rows.ensures; count = length_list (λ r. 0x01AAAA) 0 s.args.rows; fits = s.pre.1 }
+    record { is = c.fill_rows.ensures; count = length_list (λ r. 0x01AAAA) 0 s.args.rows; fits = s.requires.1 }
 
 -- and then those of fill on the plan's code
 abbrev filled : tie.After-top_rows → tie.After-fill-fill
@@ -27,14 +27,14 @@ filled c = c.before.before
 
 topped : (c : tie.After-top_rows)
     → let f = filled c in
-    let s = start-else f.before in Written (same_rows f.fill-fill.result s.args.rows) s.args.rows s.args.out-1.now c.top_rows.new.0
+    let s = start-else f.before in Written (same_rows f.fill-fill.result s.args.rows) s.args.rows s.args.out.now c.top_rows.new.0
 topped c =
     let f = filled c in
     let s = start-else f.before in
     let n = s.args.rows in
     let b = blanked f.before in
     written_over b
-    (record { is = c.top_rows.ensures; count = length_list (λ r. f.fill-fill.result) 0 n; fits = omega (arith, written_length b, s.pre.1) })
+    (record { is = c.top_rows.ensures; count = length_list (λ r. f.fill-fill.result) 0 n; fits = omega (arith, written_length b, s.requires.1) })
     (omega arith)
 
 fill_rows-requires : tie.Need-fill_rows-requires
@@ -50,7 +50,7 @@ returns-then-plan-eq0 : tie.Need-returns-then-plan-eq0
 returns-then-plan-eq0 c =
     let t = c.before in
     let s = start-then t in
-    rw (← (blank_is s.args.plan.parity s.args.plan.fill_bus t.if-plan-eq0.true)) (c.with_same.ensures, t.before.before.before.before.fill_rows.ensures)
+    rw (← (blank_is s.args.plan.parity s.args.plan.fill_bus t.if-plan-eq0.true)) (c.with_same.ensures, t.fill_rows.ensures)
 
 fill-fill-requires : tie.Need-fill-fill-requires
 fill-fill-requires c κs = (start-else c).requires.0.filling
@@ -60,10 +60,10 @@ top_rows-requires c κs =
     let f = c.before in
     let s = start-else f.before in
     let p = s.args.plan in (
-      omega (arith, written_length (blanked f.before), s.pre.1),
-      s.pre.2,
+      omega (arith, written_length (blanked f.before), s.requires.1),
+      s.requires.2,
       f.fill-fill.ensures.1,
-      blank_tails p.parity p.fill_bus s.args.rows _ s.pre.0.filling f.fill-fill.ensures.0 (blanked f.before).is,
+      blank_tails p.parity p.fill_bus s.args.rows _ s.requires.0.filling f.fill-fill.ensures.0 (blanked f.before).is,
     )
 
 with_same-requires-2 : tie.Need-with_same-requires-2

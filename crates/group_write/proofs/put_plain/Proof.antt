@@ -37,27 +37,27 @@ abbrev turn_of : Row → Turn
 turn_of c = c.before.before.before
 
 -- in a turn, the row's word is there
-there : (c : Turn) → c.before.loop-row.s < length (entry c.before).args.words.now
+there : (c : Turn) → c.loop-row.s < length (entry c.before).args.words.now
 there c = let s = entry c.before in
-    omega (arith, c.before.loop-row.invariant.1, run_in s.args.plan s.args.words.now s.args.first c.before.loop-row.row s.pre.1 c.loop-row-test.true)
+    omega (arith, c.loop-row.invariant.1, run_in s.args.plan s.args.words.now s.args.first c.loop-row.row s.requires.1 c.loop-row-test.true)
 
 loop-row-init : tie.Need-loop-row-init invariant-loop-row decreases-loop-row
-loop-row-init c = (omega arith, omega arith, written_rows (held c.before.before) c.before.before.args.out-1.now)
+loop-row-init c = (omega arith, omega arith, written_rows (held c.before.before) c.args.out.now)
 
 offset_bounds-words-s : tie.Need-offset_bounds-words-s invariant-loop-row decreases-loop-row
-offset_bounds-words-s c = omega (arith, there c.before, (entry c.before.before).pre.1.few)
+offset_bounds-words-s c = omega (arith, there c.before, (entry c.before.before).requires.1.few)
 
 bounds-words-s : tie.Need-bounds-words-s invariant-loop-row decreases-loop-row
 bounds-words-s c = there c.before.before
 
 put_row-requires : tie.Need-put_row-requires invariant-loop-row decreases-loop-row
 put_row-requires c κs = let s = entry c.before.before.before in
-    let o = c.before.before.before.loop-row in
-    (omega (arith, s.pre.1.room, written_length o.invariant.2), omega (arith, s.pre.1.short), run_low s.args.plan s.args.words.now s.args.first o.s s.pre.1.unsent)
+    let o = c.loop-row in
+    (omega (arith, s.requires.1.room, written_length o.invariant.2), omega (arith, s.requires.1.short), run_low s.args.plan s.args.words.now s.args.first o.s s.requires.1.unsent)
 
 overflow_add-s : tie.Need-overflow_add-s invariant-loop-row decreases-loop-row
 overflow_add-s c = let t = turn_of c.before.before.before in
-    omega (arith, there t, (entry t.before).pre.1.few, (entry t.before).pre.0.tracks_most)
+    omega (arith, there t, (entry t.before).requires.1.few, (entry t.before).requires.0.tracks_most)
 
 overflow_add-row : tie.Need-overflow_add-row invariant-loop-row decreases-loop-row
 overflow_add-row c = search rules
@@ -66,20 +66,20 @@ loop-row-smaller : tie.Need-loop-row-smaller invariant-loop-row decreases-loop-r
 loop-row-smaller c = search rules
 
 loop-row-preserved : tie.Need-loop-row-preserved invariant-loop-row decreases-loop-row
-loop-row-preserved c = let v = c.before.before.before.put_row in
+loop-row-preserved c = let v = c.put_row in
     let t = turn_of c.before.before.before in
     let s = entry t.before in
     let a = s.args in
-    let o = t.before.loop-row in
-    let e = run_word a.plan a.words.now a.first o.row o.s v.result (there t) o.inv.1 v.ensures.0 in
-    (omega (arith, t.loop-row-test.taken), omega (arith, o.inv.1), written_row (held s) o.row v.result o.inv.2 e (omega (arith, s.pre.1.room, t.loop-row-test.taken)) v.ensures.2)
+    let o = t.loop-row in
+    let e = run_word a.plan a.words.now a.first o.row o.s v.result (there t) o.invariant.1 v.ensures.0 in
+    (omega (arith, t.loop-row-test.true), omega (arith, o.invariant.1), written_row (held s) o.row v.result o.invariant.2 e (omega (arith, s.requires.1.room, t.loop-row-test.true)) v.ensures.2)
 
 shape_of-out : tie.Need-shape_of-out invariant-loop-row decreases-loop-row
-shape_of-out c = written_length c.before.loop-row.invariant.2
+shape_of-out c = written_length c.loop-row.invariant.2
 
 returns : tie.Need-returns invariant-loop-row decreases-loop-row
 returns c = let a = (entry c.before).args in
-    let o = c.before.loop-row in
+    let o = c.loop-row in
     let e : o.row ≡ a.rows = omega (arith, o.invariant.0, c.loop-row-test.false) in
     written_is o.invariant.2 (ap (sent_rows a.plan a.words.now a.first) e) e
 

@@ -9,16 +9,16 @@ abbrev entry : tie.Else-plan → tie.Start
 entry c = c.before.before.before
 
 put_summed-requires : tie.Need-put_summed-requires
-put_summed-requires c κs = c.before.before.before.before.requires
+put_summed-requires c κs = c.requires
 
 shape_of-out-then-plan : tie.Need-shape_of-out-then-plan
 shape_of-out-then-plan c = search rules
 
 returns-then-plan : tie.Need-returns-then-plan
-returns-then-plan c = (summed_true c.before.before.before.before.if-plan.true c.before.before.put_summed.ensures.0, c.before.before.put_summed.ensures.1)
+returns-then-plan c = (summed_true c.if-plan.true c.put_summed.ensures.0, c.put_summed.ensures.1)
 
 put_plain-requires : tie.Need-put_plain-requires
-put_plain-requires c κs = (c.before.before.before.before.requires.0, c.before.before.before.before.requires.1)
+put_plain-requires c κs = (c.requires.0, c.requires.1)
 
 shape_of-out : tie.Need-shape_of-out
 shape_of-out c = search rules
@@ -26,7 +26,7 @@ shape_of-out c = search rules
 returns : tie.Need-returns
 returns c =
     let s = entry c.before.before.before.before in
-    (summed_false (sent_rows s.args.plan s.args.words.now s.args.first s.args.rows) c.before.before.before.before.if-plan.false s.pre.2, c.before.before.put_plain.ensures)
+    (summed_false (sent_rows s.args.plan s.args.words.now s.args.first s.args.rows) c.if-plan.false s.requires.2, c.put_plain.ensures)
 
 pub put_rows_spec : {M : Type 1} → statement M
 put_rows_spec =

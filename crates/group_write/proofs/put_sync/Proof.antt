@@ -19,15 +19,15 @@ entry c = c.before.before
 abbrev made : tie.After-put_word → Made
 made c = c.before.before
 
-begun : (c : tie.After-put_word) → Written (sync ∷ []) 1 (entry (made c)).args.out-1.now c.put_word.new.0
-begun c = let o = (entry (made c)).args.out-1.now in
+begun : (c : tie.After-put_word) → Written (sync ∷ []) 1 (entry (made c)).args.out.now c.put_word.new.0
+begun c = let o = (entry (made c)).args.out.now in
     rw (← (made c).sync-sync.ensures) (written_word 0 (made c).sync-sync.result (written_none o) refl (omega (arith, (entry (made c)).requires)) refl c.put_word.ensures)
 
 sync-sync-requires : tie.Need-sync-sync-requires
 sync-sync-requires c κs = search rules
 
 put_word-requires : tie.Need-put_word-requires
-put_word-requires c κs = (omega (arith, c.before.before.before.requires), rw c.before.sync-sync.ensures sync_below)
+put_word-requires c κs = (omega (arith, c.requires), rw c.sync-sync.ensures sync_below)
 
 start-requires : tie.Need-start-requires
 start-requires c κs = search rules
@@ -40,7 +40,7 @@ shape_of-out c = written_length (begun c.before.before.before.before)
 
 returns : tie.Need-returns
 returns c = let m = made c.before.before.before.before in
-    (rw (← m.sync-sync.ensures) (sums_more (m.sync-sync.result ∷ []) c.before.start.ensures c.add.ensures), (begun c.before.before.before.before).is)
+    (rw (← m.sync-sync.ensures) (sums_more (m.sync-sync.result ∷ []) c.start.ensures c.add.ensures), (begun c.before.before.before.before).is)
 
 pub put_sync_spec : {M : Type 1} → statement M
 put_sync_spec =

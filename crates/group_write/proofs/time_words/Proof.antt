@@ -26,7 +26,7 @@ join-requires-3 c κs = search rules
 
 returns : tie.Need-returns
 unfolding time_words
-returns c = rw (c.before.before.before.before.join.ensures, c.before.before.join-2.ensures, c.join-3.ensures, c.before.before.before.before.before.before.time_parts-parts.ensures)
+returns c = rw (c.join.ensures, c.join-2.ensures, c.join-3.ensures, c.time_parts-parts.ensures)
 
 pub time_words_spec : {M : Type 1} → statement M
 time_words_spec =

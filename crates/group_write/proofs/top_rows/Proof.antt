@@ -25,7 +25,7 @@ overflow_mul-out : tie.Need-overflow_mul-out invariant-loop-row decreases-loop-r
 overflow_mul-out c = search rules
 
 bounds-out-row : tie.Need-bounds-out-row invariant-loop-row decreases-loop-row
-bounds-out-row c = omega (arith, written_length c.before.loop-row.invariant.1, c.before.before.requires.0, c.loop-row-test.true)
+bounds-out-row c = omega (arith, written_length c.loop-row.invariant.1, c.requires.0, c.loop-row-test.true)
 
 overflow_add-row : tie.Need-overflow_add-row invariant-loop-row decreases-loop-row
 overflow_add-row c = search rules
@@ -36,16 +36,16 @@ loop-row-smaller c = search rules
 loop-row-preserved : tie.Need-loop-row-preserved invariant-loop-row decreases-loop-row
 loop-row-preserved c =
     let s = c.before.before in
-    let o = c.before.loop-row in
+    let o = c.loop-row in
     (omega arith, top_row s.args.fill s.args.rows o.row (s.args.fill / 2 ^ 16) s.requires.3 s.requires.0 c.loop-row-test.true refl o.invariant.1)
 
 shape_of-out : tie.Need-shape_of-out invariant-loop-row decreases-loop-row
-shape_of-out c = written_length c.before.loop-row.invariant.1
+shape_of-out c = written_length c.loop-row.invariant.1
 
 returns : tie.Need-returns invariant-loop-row decreases-loop-row
 returns c =
-    let e : c.before.loop-row.row ≡ c.before.before.args.rows = omega arith in
-    written_is c.before.loop-row.invariant.1 (ap (same_rows c.before.before.args.fill) e) e
+    let e : c.loop-row.row ≡ c.args.rows = omega arith in
+    written_is c.loop-row.invariant.1 (ap (same_rows c.args.fill) e) e
 
 pub top_rows_spec : {M : Type 1} → statement M
 top_rows_spec = tie.close (tie.spec invariant-loop-row decreases-loop-row overflow_cast-top loop-row-init overflow_mul-out bounds-out-row overflow_add-row loop-row-smaller loop-row-preserved shape_of-out returns)

@@ -32,7 +32,7 @@ dealt c = take (lead (entry c).args.plan) (entry c).args.times.now ++ (entry c).
 abbrev written : Fronted → List ℕ
 written c = front (entry c).args.plan (dealt c) (entry c).args.track (rows (entry c).args.plan)
 
-fronted : (c : Fronted) → Written (written c) (1 + rows (entry c).args.plan) (entry c).args.out-1.now c.write_front-sum.new.0
+fronted : (c : Fronted) → Written (written c) (1 + rows (entry c).args.plan) (entry c).args.out.now c.write_front-sum.new.0
 fronted c =
     let a = (entry c).args in
     record {
@@ -58,7 +58,7 @@ label_low : (c : tie.After-check) → (plan-of c).crc_label < 16
 label_low c = omega (arith, (entry (at-check (checked c))).requires.0.named)
 
 join_low : (c : Joined) → c.join.result < buses (plan-of c.before).parity * 2 ^ 20
-join_low c = rw c.join.ensures (on_bus_0 (plan-of c.before).parity (plan-of c.before).crc_label c.before.check.result (label_low c.before) c.before.check.ensures.1)
+join_low c = rw c.join.ensures (on_bus_0 (plan-of c.before).parity (plan-of c.before).crc_label c.check.result (label_low c.before) c.check.ensures.1)
 
 -- and where it is sent, and put
 abbrev sent-of : tie.After-put_word → tie.After-sent-word
@@ -71,11 +71,11 @@ check_is : (c : tie.After-sent-word) → c.sent-word.result ≡ check_word (plan
 check_is c =
     let t = at-sent c in
     let p = plan-of c.before.before in
-    c.sent-word.ensures ∙ ap (sent p.parity) c.before.join.ensures
-    ∙ sums_word {ws = written (at-check t)} p.parity p.crc_label c.before.before.check.result ((at-check t).write_front-sum.ensures.0 t.if-plan.taken) c.before.before.check.ensures.0
+    c.sent-word.ensures ∙ ap (sent p.parity) c.join.ensures
+    ∙ sums_word {ws = written (at-check t)} p.parity p.crc_label c.check.result ((at-check t).write_front-sum.ensures.0 t.if-plan.true) c.check.ensures.0
 
 write_front-sum-requires : tie.Need-write_front-sum-requires
-write_front-sum-requires c κs = c.before.before.before.requires
+write_front-sum-requires c κs = c.requires
 
 check-requires : tie.Need-check-requires
 check-requires c κs = ((at-check c).write_front-sum.ensures.0 c.if-plan.true).small
@@ -96,8 +96,8 @@ put_word-requires : tie.Need-put_word-requires
 put_word-requires c κs =
     let f = at-check (at-sent c.before.before) in
     let s = entry f in (
-      omega (arith, s.pre.1, s.pre.0.words_least, written_length (fronted f)),
-      rw c.before.before.sent-word.ensures (sent_below s.args.plan.parity c.before.before.before.join.result (join_low c.before.before.before)),
+      omega (arith, s.requires.1, s.requires.0.words_least, written_length (fronted f)),
+      rw c.sent-word.ensures (sent_below s.args.plan.parity c.join.result (join_low c.before.before.before)),
     )
 
 shape_of-out-then-plan : tie.Need-shape_of-out-then-plan
@@ -110,9 +110,9 @@ returns-then-plan c =
     let f = at-check t in
     let s = entry f in
     let p = s.args.plan in
-    let e = rows_checked p s.pre.0 t.if-plan.taken in
-    let w = written_word (3 * (p.words - 1)) k.sent-word.result (fronted f) (omega arith) (omega (arith, s.pre.1, s.pre.0.words_least)) e c.before.before.put_word.ensures in
-    written_is w (ap (λ v. written f ++ (v ∷ [])) (check_is k) ∙ sym (frame_checked p (dealt f) s.args.track t.if-plan.taken)) refl
+    let e = rows_checked p s.requires.0 t.if-plan.true in
+    let w = written_word (3 * (p.words - 1)) k.sent-word.result (fronted f) (omega arith) (omega (arith, s.requires.1, s.requires.0.words_least)) e c.put_word.ensures in
+    written_is w (ap (λ v. written f ++ (v ∷ [])) (check_is k) ∙ sym (frame_checked p (dealt f) s.args.track t.if-plan.true)) refl
 
 shape_of-out-else-plan : tie.Need-shape_of-out-else-plan
 shape_of-out-else-plan c = search rules
@@ -121,7 +121,7 @@ returns-else-plan : tie.Need-returns-else-plan
 returns-else-plan c =
     let f = c.before.before.before in
     let s = entry f in
-    written_is (fronted f) (sym (frame_plain s.args.plan (dealt f) s.args.track c.if-plan.false)) (rows_plain s.args.plan s.pre.0 c.if-plan.false)
+    written_is (fronted f) (sym (frame_plain s.args.plan (dealt f) s.args.track c.if-plan.false)) (rows_plain s.args.plan s.requires.0 c.if-plan.false)
 
 pub write_frame_spec : {M : Type 1} → statement M
 write_frame_spec =

@@ -29,16 +29,16 @@ abbrev times : Counted → List ℕ
 times c = (entry c).args.times.now
 
 abbrev lead : Counted → ℕ
-lead c = c.before.before.lead_count-lead.result
+lead c = c.lead_count-lead.result
 
 abbrev timed : Counted → ℕ
-timed c = c.before.rows_with-timed.result
+timed c = c.rows_with-timed.result
 
 abbrev dealt : Counted → ℕ
 dealt c = c.rows_with-dealt.result
 
 abbrev rows : Counted → ℕ
-rows c = c.before.before.before.dealt_rows-rows.result
+rows c = c.dealt_rows-rows.result
 
 -- the first word of the data, and how many rows of data and of fill there are
 abbrev first : Counted → ℕ
@@ -87,12 +87,12 @@ at_filled c = at_dealt (dealt_of c)
 parts : (c : Counted) → Parted (entry c).args.plan.tracks (entry c).args.track (length (words c)) (lead c) (timed c) (dealt c) (rows c)
 parts c =
     let s = entry c in
-    parted s.args.plan s.args.track s.pre.0 s.pre.5 (length (words c)) (lead c) (timed c) (dealt c) (rows c) s.pre.4
-    c.before.before.lead_count-lead.ensures.0 c.before.rows_with-timed.ensures c.rows_with-dealt.ensures c.before.before.before.dealt_rows-rows.ensures
+    parted s.args.plan s.args.track s.requires.0 s.requires.5 (length (words c)) (lead c) (timed c) (dealt c) (rows c) s.requires.4
+    c.lead_count-lead.ensures.0 c.rows_with-timed.ensures c.rows_with-dealt.ensures c.dealt_rows-rows.ensures
 
-room : (c : Counted) → (3 * (1 + rows c) ≤ length (entry c).args.out-1.now) × (rows c ≤ most_rows) × (timed c ≤ dealt c) × (dealt c ≤ rows c)
+room : (c : Counted) → (3 * (1 + rows c) ≤ length (entry c).args.out.now) × (rows c ≤ most_rows) × (timed c ≤ dealt c) × (dealt c ≤ rows c)
 room c = (
-  omega (arith, (entry c).requires.1, rows_under (entry c).args.plan (entry c).requires.0, c.before.before.before.dealt_rows-rows.ensures),
+  omega (arith, (entry c).requires.1, rows_under (entry c).args.plan (entry c).requires.0, c.dealt_rows-rows.ensures),
   omega (arith, (parts c).short),
   omega (arith, (parts c).order),
   omega (arith, (parts c).order),
@@ -116,14 +116,14 @@ abbrev fill_put : Counted → List ℕ
 fill_put c = same_rows (sent (entry c).args.plan.parity (fill (entry c).args.plan.fill_bus)) (fill_rows c)
 
 -- the bytes after the sync word, and after each run
-begun : (c : Synced) → Written (sync ∷ []) 1 (entry (at_sync c)).args.out-1.now c.put_sync-sum.new.0
+begun : (c : Synced) → Written (sync ∷ []) 1 (entry (at_sync c)).args.out.now c.put_sync-sum.new.0
 begun c = record { is = c.put_sync-sum.ensures.1; count = refl; fits = omega (arith, room (at_sync c)) }
 
 abbrev timed_out : Timed → List ℕ
 timed_out c = let o = (synced c).put_sync-sum.new.0 in
     put_mid 3 (length o - 3) o c.put_rows-sum.new.0
 
-timed_written : (c : Timed) → Written ((sync ∷ []) ++ times_put (at_timed c)) (1 + timed (at_timed c)) (entry (at_timed c)).args.out-1.now (timed_out c)
+timed_written : (c : Timed) → Written ((sync ∷ []) ++ times_put (at_timed c)) (1 + timed (at_timed c)) (entry (at_timed c)).args.out.now (timed_out c)
 timed_written c =
     let k = at_timed c in
     let a = (entry k).args in
@@ -135,7 +135,7 @@ data_out c = let o = timed_out (timed_of c) in
     put_mid at (length o - at) o c.put_rows-sum-2.new.0
 
 data_written : (c : Dealt)
-    → Written (((sync ∷ []) ++ times_put (at_dealt c)) ++ data_put (at_dealt c)) (1 + dealt (at_dealt c)) (entry (at_dealt c)).args.out-1.now (data_out c)
+    → Written (((sync ∷ []) ++ times_put (at_dealt c)) ++ data_put (at_dealt c)) (1 + dealt (at_dealt c)) (entry (at_dealt c)).args.out.now (data_out c)
 data_written c =
     let k = at_dealt c in
     written_rest (3 * (1 + timed k)) (data_put k) (timed_written (timed_of c)) refl (length_list (row_word (entry k).args.plan (words k) (first k)) 0 (data_rows k))
@@ -149,7 +149,7 @@ fill_out c = let o = data_out (dealt_of c) in
 abbrev all_put : Counted → List ℕ
 all_put c = (((sync ∷ []) ++ times_put c) ++ data_put c) ++ fill_put c
 
-filled : (c : Filled) → Written (all_put (at_filled c)) (1 + rows (at_filled c)) (entry (at_filled c)).args.out-1.now (fill_out c)
+filled : (c : Filled) → Written (all_put (at_filled c)) (1 + rows (at_filled c)) (entry (at_filled c)).args.out.now (fill_out c)
 filled c =
     let k = at_filled c in
     written_rest (3 * (1 + dealt k)) (fill_put k) (data_written (dealt_of c)) refl (length_list (λ r. sent (entry k).args.plan.parity (fill (entry k).args.plan.fill_bus)) 0 (fill_rows k))
@@ -169,14 +169,14 @@ lead_count-lead-requires : tie.Need-lead_count-lead-requires
 lead_count-lead-requires c κs = search rules
 
 rows_with-timed-requires : tie.Need-rows_with-timed-requires
-rows_with-timed-requires c κs = (c.before.before.before.before.requires.0, c.before.before.before.before.requires.5, omega (arith, c.lead_count-lead.ensures.1))
+rows_with-timed-requires c κs = (c.requires.0, c.requires.5, omega (arith, c.lead_count-lead.ensures.1))
 
 overflow_add-lead : tie.Need-overflow_add-lead
-overflow_add-lead c = omega (arith, c.before.lead_count-lead.ensures.1, few c.before.before.before.before.before)
+overflow_add-lead c = omega (arith, c.lead_count-lead.ensures.1, few c.before.before.before.before.before)
 
 rows_with-dealt-requires : tie.Need-rows_with-dealt-requires
 rows_with-dealt-requires c κs = let s = c.before.before.before.before.before in
-    (s.requires.0, s.requires.5, omega (arith, c.before.lead_count-lead.ensures.1, few s))
+    (s.requires.0, s.requires.5, omega (arith, c.lead_count-lead.ensures.1, few s))
 
 put_sync-sum-requires : tie.Need-put_sync-sum-requires
 put_sync-sum-requires c κs = omega (arith, room c.before)
@@ -196,8 +196,8 @@ put_rows-sum-requires c κs = let y = c.before.before.before.before in
     let s = entry k in
     let o = y.put_sync-sum.new.0 in
     let r = rest_room 3 (3 * timed k) o (omega (arith, room k, written_length (begun y))) in
-    let run = timed_run s.args.plan s.args.track (lead k) (timed k) (dealt k) (rows k) (times k) (words k) (parts k) (rest 3 o) s.pre.2.0 s.pre.2.1 r in
-    (s.pre.0, run, y.put_sync-sum.ensures.0.small)
+    let run = timed_run s.args.plan s.args.track (lead k) (timed k) (dealt k) (rows k) (times k) (words k) (parts k) (rest 3 o) s.requires.2.0 s.requires.2.1 r in
+    (s.requires.0, run, y.put_sync-sum.ensures.0.small)
 
 overflow_mul-first : tie.Need-overflow_mul-first
 overflow_mul-first c = omega (arith, first_low (at_timed c.before.before.before))
@@ -234,8 +234,8 @@ put_rows-sum-requires-2 c κs = let y = c.before.before.before.before in
     let at = 3 * (1 + timed k) in
     let r = rest_room at (3 * data_rows k) o (omega (arith, room k, written_length (timed_written y))) in
     let e : timed k + data_rows k ≡ dealt k = omega (arith, room k) in
-    let run = data_run s.args.plan s.args.track (lead k) (timed k) (dealt k) (rows k) (times k) (words k) (parts k) (data_rows k) (rest at o) e s.pre.3 r in
-    (s.pre.0, run, y.put_rows-sum.ensures.0.small)
+    let run = data_run s.args.plan s.args.track (lead k) (timed k) (dealt k) (rows k) (times k) (words k) (parts k) (data_rows k) (rest at o) e s.requires.3 r in
+    (s.requires.0, run, y.put_rows-sum.ensures.0.small)
 
 overflow_add-end : tie.Need-overflow_add-end
 overflow_add-end c = omega (arith, room (at_dealt c.before.before))
@@ -259,7 +259,7 @@ put_fill-requires : tie.Need-put_fill-requires
 put_fill-requires c κs = let y = c.before.before.before in
     let k = at_dealt y in
     let r = rest_room (3 * (1 + dealt k)) (3 * fill_rows k) (data_out y) (omega (arith, room k, written_length (data_written y))) in
-    ((entry k).pre.0, r, omega (arith, room k), y.put_rows-sum-2.ensures.0.small)
+    ((entry k).requires.0, r, omega (arith, room k), y.put_rows-sum-2.ensures.0.small)
 
 shape_of-out : tie.Need-shape_of-out
 shape_of-out c = written_length (filled c.before.before)
@@ -269,7 +269,7 @@ returns c = let f = c.before.before in
     let k = at_filled f in
     let d = dealt_of f in
     let t = timed_of d in
-    rw (← k.before.before.lead_count-lead.ensures.0, ← k.before.before.before.dealt_rows-rows.ensures) (
+    rw (← k.lead_count-lead.ensures.0, ← k.dealt_rows-rows.ensures) (
       λ e. sums_runs e (synced t).put_sync-sum.ensures.0 t.put_rows-sum.ensures.0 d.put_rows-sum-2.ensures.0 f.put_fill.ensures.0 (all_is k),
       written_is (filled f) (all_is k) refl,
     )

@@ -30,10 +30,10 @@ entry c = c.before.before.before.before.before
 abbrev dealt : tie.Start invariant-loop-track decreases-loop-track → List ℕ
 dealt c = dealt_of c.args.plan c.args.time c.args.words.now
 
-dealt_words : (c : Loop) → take (lead (entry c).args.plan) c.before.before.time_words-times.result ++ (entry c).args.words.now ≡ dealt (entry c)
+dealt_words : (c : Loop) → take (lead (entry c).args.plan) c.time_words-times.result ++ (entry c).args.words.now ≡ dealt (entry c)
 dealt_words c =
     let a = (entry c).args in
-    ap (λ l. take (lead a.plan) l ++ a.words.now) c.before.before.time_words-times.ensures ∙ sym (dealt_is a.plan a.time a.words.now)
+    ap (λ l. take (lead a.plan) l ++ a.words.now) c.time_words-times.ensures ∙ sym (dealt_is a.plan a.time a.words.now)
 
 -- in a turn, the next frame's part is within the output
 abbrev Turn : Type 0
@@ -43,8 +43,8 @@ abbrev at_turn : Turn → Loop
 at_turn c = c.before.before
 
 room : (c : Turn) → let w = 3 * (entry (at_turn c)).args.plan.words in
-    (at_turn c).loop-track.track * w + w ≤ length (entry (at_turn c)).args.out-1.now
-room c = omega (arith, (entry (at_turn c)).pre.1, mul-le-mul_right (entry (at_turn c)).args.plan.words c.loop-track-test.true)
+    (at_turn c).loop-track.track * w + w ≤ length (entry (at_turn c)).args.out.now
+room c = omega (arith, (entry (at_turn c)).requires.1, mul-le-mul_right (entry (at_turn c)).args.plan.words c.loop-track-test.true)
 
 time_words-times-requires : tie.Need-time_words-times-requires invariant-loop-track decreases-loop-track
 time_words-times-requires c κs = search rules
@@ -75,14 +75,14 @@ write_frame-requires : tie.Need-write_frame-requires invariant-loop-track decrea
 write_frame-requires c κs =
     let l = at_turn c.before.before in
     let a = (entry l).args in
-    let q = (entry l).pre in
-    let e = l.before.before.time_words-times.ensures in (
+    let q = (entry l).requires in
+    let e = l.time_words-times.ensures in (
       q.0,
-      simp (length-take, length-drop) (omega (arith, room c.before.before, written_length l.loop-track.inv.1)),
+      simp (length-take, length-drop) (omega (arith, room c.before.before, written_length l.loop-track.invariant.1)),
       (rw e (time_words_unsent a.plan a.time q.4), rw e (time_words_three a.time)),
       q.3,
       q.2,
-      omega (arith, c.before.before.loop-track-test.true),
+      omega (arith, c.loop-track-test.true),
     )
 
 overflow_add-track : tie.Need-overflow_add-track invariant-loop-track decreases-loop-track
@@ -98,20 +98,20 @@ loop-track-preserved c =
     let r = room c.before.before.before.before.before in
     let t = l.loop-track.track in
     let size = 3 * s.args.plan.words in
-    let e = rw (dealt_words l) at c.before.before.write_frame.ensures in (
+    let e = rw (dealt_words l) at c.write_frame.ensures in (
       omega arith,
       rw (frames_more s.args.plan (dealt s) t)
-          (written_part (t * size) (t * size + size - t * size) (frame s.args.plan (dealt s) t) l.loop-track.inv.1 (omega arith) (frame_count s.args.plan (dealt s) t s.pre.0)
+          (written_part (t * size) (t * size + size - t * size) (frame s.args.plan (dealt s) t) l.loop-track.invariant.1 (omega arith) (frame_count s.args.plan (dealt s) t s.requires.0)
           (omega arith) (omega arith) (omega arith) e),
     )
 
 shape_of-out : tie.Need-shape_of-out invariant-loop-track decreases-loop-track
-shape_of-out c = written_length c.before.before.loop-track.invariant.1
+shape_of-out c = written_length c.loop-track.invariant.1
 
 returns : tie.Need-returns invariant-loop-track decreases-loop-track
 returns c =
     let s = entry c.before.before in
-    let o = c.before.before.loop-track in
+    let o = c.loop-track in
     let e : o.track ≡ s.args.plan.tracks = omega arith in
     written_is o.invariant.1 (frames_all s.args.plan (dealt s) o.track e) (ap (λ n. n * s.args.plan.words) e)
 

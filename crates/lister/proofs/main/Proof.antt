@@ -30,10 +30,10 @@ list-end-requires : tie.Need-list-end-requires
 list-end-requires c κs = search rules
 
 slice_bounds-text-end : tie.Need-slice_bounds-text-end
-slice_bounds-text-end c = let f = c.before.list-end.ensures in omega (arith, f.fits, adds_long f)
+slice_bounds-text-end c = let f = c.list-end.ensures in omega (arith, f.fits, adds_long f)
 
 slice_bounds-write_all-end : tie.Need-slice_bounds-write_all-end
-slice_bounds-write_all-end c = let f = c.before.before.list-end.ensures in sym (length-take-le c.before.before.list-end.result c.before.before.list-end.new.0 (omega (arith, f.fits, adds_long f)))
+slice_bounds-write_all-end c = let f = c.list-end.ensures in sym (length-take-le c.list-end.result c.list-end.new.0 (omega (arith, f.fits, adds_long f)))
 
 write_all-requires : tie.Need-write_all-requires
 write_all-requires c κs = search rules

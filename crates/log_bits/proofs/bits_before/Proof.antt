@@ -42,8 +42,8 @@ overflow_cast-kind c = search rules
 
 bounds-kinds-bus_of : tie.Need-bounds-kinds-bus_of invariant-loop-i decreases-loop-i
 bounds-kinds-bus_of c =
-    let o = c.before.before.before.loop-i in
-    let b = bus_low false (get_or c.before.before.before.before.before.args.words.now o.i 0) (c.before.before.before.before.before.requires.0 o.i c.before.before.loop-i-test.true) in
+    let o = c.loop-i in
+    let b = bus_low false (get_or c.args.words.now o.i 0) (c.requires.0 o.i c.loop-i-test.true) in
     omega (arith, c.bus_of.ensures, b)
 
 label_of-requires : tie.Need-label_of-requires invariant-loop-i decreases-loop-i
@@ -54,23 +54,23 @@ label_bits-bits-requires c κs = search rules
 
 -- the word's bits
 bits : (c : tie.After-label_bits-bits invariant-loop-i decreases-loop-i)
-    → c.label_bits-bits.result ≡ part_bits c.before.before.before.before.before.before.before.before.args.t1
-    (part_of false (get_or c.before.before.before.before.before.before.before.before.args.words.now c.before.before.before.before.before.before.loop-i.i 0))
+    → c.label_bits-bits.result ≡ part_bits c.args.kinds
+    (part_of false (get_or c.args.words.now c.loop-i.i 0))
 bits c =
-    let a = c.before.before.before.before.before.before.before.before.args in
-    word_bits a.t1 (get_or a.words.now c.before.before.before.before.before.before.loop-i.i 0) _ _ _
-    c.before.before.before.bus_of.ensures c.before.label_of.ensures c.label_bits-bits.ensures
+    let a = c.args in
+    word_bits a.kinds (get_or a.words.now c.loop-i.i 0) _ _ _
+    c.bus_of.ensures c.label_of.ensures c.label_bits-bits.ensures
 
 least : (c : tie.After-label_bits-bits invariant-loop-i decreases-loop-i) → c.label_bits-bits.result ≤ 27
 least c =
-    let a = c.before.before.before.before.before.before.before.before.args in
-    let w = get_or a.words.now c.before.before.before.before.before.before.loop-i.i 0 in
-    omega (arith, bits c, label_low (kind_on a.t1 (bus_of false w)) (label_of w))
+    let a = c.args in
+    let w = get_or a.words.now c.loop-i.i 0 in
+    omega (arith, bits c, label_low (kind_on a.kinds (bus_of false w)) (label_of w))
 
 overflow_add-bits : tie.Need-overflow_add-bits invariant-loop-i decreases-loop-i
 overflow_add-bits c =
-    let o = c.before.before.before.before.before.before.loop-i in
-    omega (arith, o.invariant.1, c.before.before.before.before.before.loop-i-test.true, least c, c.before.before.before.before.before.before.before.before.requires.1)
+    let o = c.loop-i in
+    omega (arith, o.invariant.1, c.loop-i-test.true, least c, c.requires.1)
 
 overflow_add-i : tie.Need-overflow_add-i invariant-loop-i decreases-loop-i
 overflow_add-i c = search rules
@@ -80,16 +80,16 @@ loop-i-smaller c = search rules
 
 loop-i-preserved : tie.Need-loop-i-preserved invariant-loop-i decreases-loop-i
 loop-i-preserved c =
-    let o = c.before.before.before.before.before.before.loop-i in
-    let a = c.before.before.before.before.before.before.before.before.args in
-    let i = c.before.before.before.before.before.loop-i-test.true in
-    (omega (arith, i), omega (arith, o.invariant.1, least c), omega (arith, o.invariant.2, bits_next a.t1 a.words.now o.i i, bits c))
+    let o = c.loop-i in
+    let a = c.args in
+    let i = c.loop-i-test.true in
+    (omega (arith, i), omega (arith, o.invariant.1, least c), omega (arith, o.invariant.2, bits_next a.kinds a.words.now o.i i, bits c))
 
 returns : tie.Need-returns invariant-loop-i decreases-loop-i
 returns c =
-    let o = c.before.loop-i in
-    let a = c.before.before.before.args in
-    sym (o.invariant.2 ∙ omega (arith, bits_end a.t1 a.words.now o.i (omega (arith, c.loop-i-test.false))))
+    let o = c.loop-i in
+    let a = c.args in
+    sym (o.invariant.2 ∙ omega (arith, bits_end a.kinds a.words.now o.i (omega (arith, c.loop-i-test.false))))
 
 pub bits_before_spec : {M : Type 1} → statement M
 bits_before_spec =

@@ -12,19 +12,19 @@ upper_bits-requires : tie.Need-upper_bits-requires
 upper_bits-requires c κs = search rules
 
 returns-then-label-ge8 : tie.Need-returns-then-label-ge8
-returns-then-label-ge8 c = simp (le-leb _ _ c.before.if-label-ge8.true) c.upper_bits.ensures
+returns-then-label-ge8 c = simp (le-leb _ _ c.if-label-ge8.true) c.upper_bits.ensures
 
 four_bits-requires : tie.Need-four_bits-requires
 four_bits-requires c κs = search rules
 
 returns-then-label-eq4 : tie.Need-returns-then-label-eq4
-returns-then-label-eq4 c = simp (lt-leb _ _ c.before.before.if-label-ge8.false, eq-eqb _ _ c.before.if-label-eq4.true) c.four_bits.ensures
+returns-then-label-eq4 c = simp (lt-leb _ _ c.if-label-ge8.false, eq-eqb _ _ c.if-label-eq4.true) c.four_bits.ensures
 
 lower_bits-requires : tie.Need-lower_bits-requires
 lower_bits-requires c κs = search rules
 
 returns : tie.Need-returns
-returns c = simp (lt-leb _ _ c.before.before.if-label-ge8.false, ne_eqb _ _ c.before.if-label-eq4.false) c.lower_bits.ensures
+returns c = simp (lt-leb _ _ c.if-label-ge8.false, ne_eqb _ _ c.if-label-eq4.false) c.lower_bits.ensures
 
 pub label_bits_spec : {M : Type 1} → statement M
 label_bits_spec =

@@ -15,19 +15,19 @@ enum_told-in-Arinc429 : tie.Need-enum_told-in-Arinc429
 enum_told-in-Arinc429 c = search rules
 
 returns-in-Unused : tie.Need-returns-in-Unused
-returns-in-Unused c = simp c.enum_told-1.given.1
+returns-in-Unused c = simp c.in-Unused.is
 
 returns-then-label-lt2 : tie.Need-returns-then-label-lt2
-returns-then-label-lt2 c = simp (c.before.enum_told-in-Mil1553-1.given.1, lt-ltb _ _ c.if-label-lt2.true)
+returns-then-label-lt2 c = simp (c.in-Mil1553.is, lt-ltb _ _ c.if-label-lt2.true)
 
 returns-else-label-lt2 : tie.Need-returns-else-label-lt2
-returns-else-label-lt2 c = simp (c.before.enum_told-in-Mil1553-1.given.1, le-ltb _ _ c.if-label-lt2.false)
+returns-else-label-lt2 c = simp (c.in-Mil1553.is, le-ltb _ _ c.if-label-lt2.false)
 
 returns-then-label-eq1 : tie.Need-returns-then-label-eq1
-returns-then-label-eq1 c = simp (c.before.enum_told-in-Arinc429-1.given.1, eq-eqb _ _ c.if-label-eq1.true)
+returns-then-label-eq1 c = simp (c.in-Arinc429.is, eq-eqb _ _ c.if-label-eq1.true)
 
 returns-else-label-eq1 : tie.Need-returns-else-label-eq1
-returns-else-label-eq1 c = simp (c.before.enum_told-in-Arinc429-1.given.1, ne_eqb _ _ c.if-label-eq1.false)
+returns-else-label-eq1 c = simp (c.in-Arinc429.is, ne_eqb _ _ c.if-label-eq1.false)
 
 pub upper_bits_spec : {M : Type 1} → statement M
 upper_bits_spec =

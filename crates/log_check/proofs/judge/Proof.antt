@@ -26,7 +26,7 @@ abbrev Loop : Type 0
 Loop = tie.At-loop-item invariant-loop-item decreases-loop-item
 
 abbrev the_log : Loop → List ℕ
-the_log c = c.before.before.before.args.log.now
+the_log c = c.args.log.now
 
 abbrev next : Loop → Next
 next c = next_at (bytes_bits (the_log c)) c.loop-item.at.at
@@ -39,25 +39,25 @@ abbrev at_turn : Turn → Loop
 at_turn c = c.before.before.before.before.before.before
 
 abbrev the_item : Turn → Item
-the_item c = c.before.before.before.item-1.given.0.0
+the_item c = c.in-Has.item
 
 abbrev behind : Turn → ℕ
-behind c = c.before.before.before.item-1.given.0.1.0.at
+behind c = c.in-Has.next.at
 
 here : (c : Turn) → Follows (the_log (at_turn c)) (at_turn c).loop-item.at.at (the_item c) (behind c)
 here c =
-    let i = c.before.before.before.item-1.given in
-    follows (the_log (at_turn c)) (at_turn c).loop-item.at.at c.before.before.before.before.before.item.result i.0.0 i.0.1.0
-    c.before.before.before.before.before.item.ensures i.1
+    let i = c.item-1.given in
+    follows (the_log (at_turn c)) (at_turn c).loop-item.at.at c.item.result i.0.0 i.0.1.0
+    c.item.ensures i.1
 
 judged : (c : Turn) → passes_by (at_turn c).loop-item.seen (role_of (the_item c)) ≡ c.passes.result
-judged c = ap (passes_by (at_turn c).loop-item.seen) (sym c.before.role_of-role.ensures) ∙ sym c.passes.ensures
+judged c = ap (passes_by (at_turn c).loop-item.seen) (sym c.role_of-role.ensures) ∙ sym c.passes.ensures
 
 nothing-seen-requires : tie.Need-nothing-seen-requires invariant-loop-item decreases-loop-item
 nothing-seen-requires c κs = search rules
 
 loop-item-init : tie.Need-loop-item-init invariant-loop-item decreases-loop-item
-loop-item-init c = rw c.nothing-seen.ensures (judging_start c.before.before.args.log.now c.before.before.requires.0 c.before.before.requires.1)
+loop-item-init c = rw c.nothing-seen.ensures (judging_start c.args.log.now c.requires.0 c.requires.1)
 
 item-requires : tie.Need-item-requires invariant-loop-item decreases-loop-item
 item-requires c κs = search rules
@@ -77,7 +77,7 @@ answer-requires c κs = search rules
 returns-then-not-passes : tie.Need-returns-then-not-passes invariant-loop-item decreases-loop-item
 returns-then-not-passes c =
     let t : Turn = c.before.before in
-    rw (judging_breaks (the_item t) (behind t) (at_turn t).loop-item.invariant (here t) (judged t ∙ not_true t.passes.result c.before.if-not-passes.true))
+    rw (judging_breaks (the_item t) (behind t) (at_turn t).loop-item.invariant (here t) (judged t ∙ not_true t.passes.result c.if-not-passes.true))
     c.answer.ensures
 
 after-seen-requires : tie.Need-after-seen-requires invariant-loop-item decreases-loop-item
@@ -89,8 +89,8 @@ loop-item-smaller c = let f = here c.before.before in omega (arith, f.far, f.fit
 loop-item-preserved : tie.Need-loop-item-preserved invariant-loop-item decreases-loop-item
 loop-item-preserved c =
     let t : Turn = c.before.before in
-    rw (c.after-seen.ensures, t.before.role_of-role.ensures)
-    (judging_more (the_item t) (behind t) (at_turn t).loop-item.invariant (here t) (judged t ∙ not_false t.passes.result c.before.if-not-passes.false))
+    rw (c.after-seen.ensures, t.role_of-role.ensures)
+    (judging_more (the_item t) (behind t) (at_turn t).loop-item.invariant (here t) (judged t ∙ not_false t.passes.result c.if-not-passes.false))
 
 enum_told-1 : tie.Need-enum_told-1 invariant-loop-item decreases-loop-item
 enum_told-1 c = search rules
@@ -101,7 +101,7 @@ answer-requires-in-End c κs = search rules
 returns-in-End : tie.Need-returns-in-End invariant-loop-item decreases-loop-item
 returns-in-End c =
     let o : Loop = c.before.before.before.before in
-    rw (judging_over o.loop-item.invariant (found_end (next o) (sym c.before.before.before.item.ensures ∙ c.before.enum_told-1.given.1))) c.answer-in-End.ensures
+    rw (judging_over o.loop-item.invariant (found_end (next o) (sym c.item.ensures ∙ c.in-End.is))) c.answer-in-End.ensures
 
 enum_told-in-Wrong : tie.Need-enum_told-in-Wrong invariant-loop-item decreases-loop-item
 enum_told-in-Wrong c = search rules
@@ -112,7 +112,7 @@ answer-requires-in-Wrong c κs = search rules
 returns-in-Wrong : tie.Need-returns-in-Wrong invariant-loop-item decreases-loop-item
 returns-in-Wrong c =
     let o : Loop = c.before.before.before.before in
-    absurd (judging_never o.loop-item.invariant (found_wrong (next o) (sym c.before.before.before.item.ensures ∙ c.before.enum_told-in-Wrong-1.given.1)))
+    absurd (judging_never o.loop-item.invariant (found_wrong (next o) (sym c.item.ensures ∙ c.in-Wrong.is)))
 
 pub judge_spec : {M : Type 1} → statement M
 judge_spec =

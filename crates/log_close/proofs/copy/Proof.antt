@@ -20,7 +20,7 @@ bounds-from-i : tie.Need-bounds-from-i invariant-loop-i decreases-loop-i
 bounds-from-i c = search rules
 
 bounds-to-i : tie.Need-bounds-to-i invariant-loop-i decreases-loop-i
-bounds-to-i c = omega (arith, front_long c.before.before.loop-i.invariant.1)
+bounds-to-i c = omega (arith, front_long c.loop-i.invariant.1)
 
 overflow_add-i : tie.Need-overflow_add-i invariant-loop-i decreases-loop-i
 overflow_add-i c = search rules
@@ -29,13 +29,13 @@ loop-i-smaller : tie.Need-loop-i-smaller invariant-loop-i decreases-loop-i
 loop-i-smaller c = search rules
 
 loop-i-preserved : tie.Need-loop-i-preserved invariant-loop-i decreases-loop-i
-loop-i-preserved c = (omega arith, rw (take_more c.before.before.before.args.from.now c.before.before.loop-i.i (omega arith)) (front_more _ c.before.before.loop-i.invariant.1 (omega arith)))
+loop-i-preserved c = (omega arith, rw (take_more c.args.from.now c.loop-i.i (omega arith)) (front_more _ c.loop-i.invariant.1 (omega arith)))
 
 shape_of-to : tie.Need-shape_of-to invariant-loop-i decreases-loop-i
-shape_of-to c = front_long c.before.loop-i.invariant.1
+shape_of-to c = front_long c.loop-i.invariant.1
 
 returns : tie.Need-returns invariant-loop-i decreases-loop-i
-returns c = let e : c.before.loop-i.i ≡ c.before.before.args.n = omega arith in rw (← e) c.before.loop-i.invariant.1.is
+returns c = let e : c.loop-i.i ≡ c.args.n = omega arith in rw (← e) c.loop-i.invariant.1.is
 
 pub copy_spec : {M : Type 1} → statement M
 copy_spec =

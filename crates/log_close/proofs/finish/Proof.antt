@@ -12,7 +12,7 @@ enum_known-put : tie.Need-enum_known-put
 enum_known-put c = search rules
 
 give-requires : tie.Need-give-requires
-give-requires c κs = rw c.before.before.before.put-1.given.1 at c.before.before.before.before.before.before.before.requires
+give-requires c κs = rw c.in-All.is at c.requires
 
 enum_known-put-in-Fault-1 : tie.Need-enum_known-put-in-Fault-1
 enum_known-put-in-Fault-1 c = search rules
@@ -27,10 +27,10 @@ shape_of-out : tie.Need-shape_of-out
 shape_of-out c = search rules
 
 returns-in-All : tie.Need-returns-in-All
-returns-in-All c = λ row most s. all_made row most _ _ _ _ _ _ _ s c.before.before.before.before.before.before.before.before.put-1.given.1 c.before.before.before.before.give.ensures
+returns-in-All c = λ row most s. all_made row most _ _ _ _ _ _ _ s c.in-All.is c.give.ensures
 
 returns-in-Fault : tie.Need-returns-in-Fault
-returns-in-Fault c = λ row most s. fault_made row most _ _ _ _ _ _ _ s c.before.before.put-in-Fault-1.given.1 c.refusal.ensures
+returns-in-Fault c = λ row most s. fault_made row most _ _ _ _ _ _ _ s c.in-Fault.is c.refusal.ensures
 
 pub finish_spec : {M : Type 1} → statement M
 finish_spec =

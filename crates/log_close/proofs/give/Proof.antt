@@ -19,11 +19,11 @@ abbrev start : tie.After-close-bytes → tie.Start
 start c = c.before.before.before.before
 
 -- and is not too long
-room : (c : tie.Else-bytes-gt32768) → let k = close c.before in k.close-bytes.result + 7 ≤ length (start k).args.built-1.now
-room c = let k = close c.before in (rw (← k.close-bytes.ensures.0) at (start k).pre.1) c.if-bytes-gt32768.false
+room : (c : tie.Else-bytes-gt32768) → let k = close c.before in k.close-bytes.result + 7 ≤ length (start k).args.built.now
+room c = let k = close c.before in (rw (← k.close-bytes.ensures.0) at (start k).requires.1) c.if-bytes-gt32768.false
 
 close-bytes-requires : tie.Need-close-bytes-requires
-close-bytes-requires c κs = omega (arith, c.before.before.before.requires.0)
+close-bytes-requires c κs = omega (arith, c.requires.0)
 
 refusal-requires : tie.Need-refusal-requires
 refusal-requires c κs = search rules
@@ -50,7 +50,7 @@ copy-requires : tie.Need-copy-requires
 copy-requires c κs =
     let f = c.before.before in
     let e = f.before in
-    (f.if-out-bytes.false, omega (arith, room e, e.before.before.built-1.given))
+    (f.if-out-bytes.false, omega (arith, room e, e.built-1.given))
 
 shape_of-built : tie.Need-shape_of-built
 shape_of-built c = search rules

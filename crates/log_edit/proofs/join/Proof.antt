@@ -17,9 +17,9 @@ enum_known-one : tie.Need-enum_known-one
 enum_known-one c = search rules
 
 join_second-requires : tie.Need-join_second-requires
-join_second-requires c κs = let log = c.before.before.before.before.before.before.before.before.args.first.now in
-    good log _ _ (all_bytes log (λ i. omega (arith, c.before.before.before.before.before.before.before.shared_slice_known-1.given i)))
-    c.before.before.before.before.pass.ensures c.before.before.one-1.given.1
+join_second-requires c κs = let log = c.args.first.now in
+    good log _ _ (all_bytes log (λ i. omega (arith, c.shared_slice_known-1.given i)))
+    c.pass.ensures c.in-All.is
 
 enum_known-number : tie.Need-enum_known-number
 enum_known-number c = search rules
@@ -31,12 +31,12 @@ shape_of-out : tie.Need-shape_of-out
 shape_of-out c = search rules
 
 returns-in-All : tie.Need-returns-in-All
-returns-in-All c = c.before.before.join_second.ensures
+returns-in-All c = c.join_second.ensures
 
 returns-in-Fault : tie.Need-returns-in-Fault
-returns-in-Fault c = let a = c.before.before.before.before.before.before.before.before.args in
-    join_first a.first.now a.second.now _ _ _ a.out-1.now (bad a.first.now _ _ _ c.before.before.before.before.pass.ensures
-    c.before.before.number-1.given.1) c.refusal.ensures
+returns-in-Fault c = let a = c.args in
+    join_first a.first.now a.second.now _ _ _ a.out-1.now (bad a.first.now _ _ _ c.pass.ensures
+    c.in-Fault.is) c.refusal.ensures
 
 pub join_spec : {M : Type 1} → statement M
 join_spec =

@@ -17,14 +17,14 @@ pass-requires c κs = search rules
 enum_known-two : tie.Need-enum_known-two
 enum_known-two c = search rules
 
-second_good : (c : tie.After-join_good-arg-1) → Good c.before.before.before.before.before.before.before.before.args.second.now c.before.before.two-1.given.0.0
+second_good : (c : tie.After-join_good-arg-1) → Good c.args.second.now c.in-All.two
 second_good c =
-    let log = c.before.before.before.before.before.before.before.before.args.second.now in
-    good log _ _ (all_bytes log (λ i. omega (arith, c.before.before.before.before.before.before.shared_slice_known-2-1.given i)))
-    c.before.before.before.before.pass.ensures c.before.before.two-1.given.1
+    let log = c.args.second.now in
+    good log _ _ (all_bytes log (λ i. omega (arith, c.shared_slice_known-2-1.given i)))
+    c.pass.ensures c.in-All.is
 
 join_good-requires : tie.Need-join_good-requires
-join_good-requires c κs = (good_ends c.before.before.before.before.before.before.before.before.requires, good_ends (second_good c))
+join_good-requires c κs = (good_ends c.requires, good_ends (second_good c))
 
 enum_known-number : tie.Need-enum_known-number
 enum_known-number c = search rules
@@ -36,15 +36,15 @@ shape_of-out : tie.Need-shape_of-out
 shape_of-out c = search rules
 
 returns-in-All : tie.Need-returns-in-All
-returns-in-All c = let a = c.before.before.before.before.before.before.before.before.before.before.before.args in
+returns-in-All c = let a = c.args in
     join_good a.first.now a.second.now _ _ _ a.out-1.now _
-    c.before.before.before.before.before.before.before.before.before.before.before.requires (second_good c.before.before.before)
-    c.before.before.join_good.ensures
+    c.requires (second_good c.before.before.before)
+    c.join_good.ensures
 
 returns-in-Fault : tie.Need-returns-in-Fault
-returns-in-Fault c = let a = c.before.before.before.before.before.before.before.before.args in
-    join_second a.first.now a.second.now _ _ _ _ a.out-1.now c.before.before.before.before.before.before.before.before.requires (bad
-    a.second.now _ _ _ c.before.before.before.before.pass.ensures c.before.before.number-1.given.1) c.refusal.ensures
+returns-in-Fault c = let a = c.args in
+    join_second a.first.now a.second.now _ _ _ _ a.out-1.now c.requires (bad
+    a.second.now _ _ _ c.pass.ensures c.in-Fault.is) c.refusal.ensures
 
 pub join_second_spec : {M : Type 1} → statement M
 join_second_spec =

@@ -13,7 +13,7 @@ shape_of-out-then-log-le56 : tie.Need-shape_of-out-then-log-le56
 shape_of-out-then-log-le56 c = search rules
 
 returns-then-log-le56 : tie.Need-returns-then-log-le56
-returns-then-log-le56 c = c.before.before.before.pick_in.ensures
+returns-then-log-le56 c = c.pick_in.ensures
 
 slice_bounds-pick_in-end-then-log-le1024 : tie.Need-slice_bounds-pick_in-end-then-log-le1024
 slice_bounds-pick_in-end-then-log-le1024 c = search rules
@@ -25,7 +25,7 @@ shape_of-out-then-log-le1024 : tie.Need-shape_of-out-then-log-le1024
 shape_of-out-then-log-le1024 c = search rules
 
 returns-then-log-le1024 : tie.Need-returns-then-log-le1024
-returns-then-log-le1024 c = c.before.before.before.pick_in-then-log-le1024.ensures
+returns-then-log-le1024 c = c.pick_in-then-log-le1024.ensures
 
 slice_bounds-pick_in-end-2 : tie.Need-slice_bounds-pick_in-end-2
 slice_bounds-pick_in-end-2 c = search rules
@@ -37,7 +37,7 @@ shape_of-out : tie.Need-shape_of-out
 shape_of-out c = search rules
 
 returns : tie.Need-returns
-returns c = c.before.before.before.pick_in-2.ensures
+returns c = c.pick_in-2.ensures
 
 pub pick_spec : {M : Type 1} → statement M
 pick_spec =

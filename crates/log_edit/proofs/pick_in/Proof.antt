@@ -13,12 +13,12 @@ use Rattle.log_close.proofs.finish.Reads as finish-reads
 use Rattle.log_put.proofs.put_items.Reads as put-items-reads
 
 put_items-put-requires : tie.Need-put_items-put-requires
-put_items-put-requires c κs = λ h. c.before.before.before.before.requires h
+put_items-put-requires c κs = λ h. c.requires h
 
 finish-requires : tie.Need-finish-requires
-finish-requires c κs = let a = c.before.before.before.before.before.before.before.before.before.args in
-    told_finishes (parsed on_no_plan a.log.now) a.buses (length a.log.now) _ _ _ c.before.before.before.before.put_items-put.ensures (λ h. omega
-    (arith, c.before.before.before.before.before.before.before.before.before.requires h, c.before.before.before.built-1.given))
+finish-requires c κs = let a = c.args in
+    told_finishes (parsed on_no_plan a.log.now) a.buses (length a.log.now) _ _ _ c.put_items-put.ensures (λ h. omega
+    (arith, c.requires h, c.built-1.given))
 
 shape_of-out : tie.Need-shape_of-out
 shape_of-out c = search rules
@@ -27,11 +27,11 @@ shape_of-built : tie.Need-shape_of-built
 shape_of-built c = search rules
 
 returns : tie.Need-returns
-returns c = let a = c.before.before.before.before.before.before.before.before.before.before.before.before.before.before.args in
+returns c = let a = c.args in
     let row = picks_of a.buses (parsed on_no_plan a.log.now) in
     let t = told_stands (parsed on_no_plan a.log.now) a.buses (length a.log.now * 8) _ _
-    c.before.before.before.before.before.before.before.before.before.put_items-put.ensures in
-    rw (picked_is a.log.now a.buses (length a.out-1.now)) (c.before.before.before.before.finish.ensures row (length a.log.now * 8) t)
+    c.put_items-put.ensures in
+    rw (picked_is a.log.now a.buses (length a.out-1.now)) (c.finish.ensures row (length a.log.now * 8) t)
 
 pub pick_in_spec : {M : Type 1} → statement M
 pick_in_spec = tie.close (tie.spec put_items-put-requires finish-requires shape_of-out shape_of-built returns)

@@ -28,7 +28,7 @@ bounds-first-whole : tie.Need-bounds-first-whole
 bounds-first-whole c = search rules
 
 overflow_cast-before : tie.Need-overflow_cast-before
-overflow_cast-before c = omega (arith, c.shared_slice_known-3-1.given (c.before.before.before.before.before.before.before.before.args.one / 8))
+overflow_cast-before c = omega (arith, c.shared_slice_known-3-1.given (c.args.one / 8))
 
 overflow_sub-before : tie.Need-overflow_sub-before
 overflow_sub-before c = search rules
@@ -37,13 +37,13 @@ overflow_shr-before : tie.Need-overflow_shr-before
 overflow_shr-before c = search rules
 
 overflow_cast-before-2 : tie.Need-overflow_cast-before-2
-overflow_cast-before-2 c = let x = get_or c.before.before.before.before.before.before.before.before.args.first.now
-    (c.before.before.before.before.before.before.before.before.args.one / 8) 0 in omega (
+overflow_cast-before-2 c = let x = get_or c.args.first.now
+    (c.args.one / 8) 0 in omega (
       arith,
       c.shared_slice_known-3-1.given
-          (c.before.before.before.before.before.before.before.before.args.one / 8),
+          (c.args.one / 8),
       div-le_self x (2 ^
-          (8 - c.before.before.before.before.before.before.before.before.args.one % 8)),
+          (8 - c.args.one % 8)),
     )
 
 slice_bounds-put_later-count : tie.Need-slice_bounds-put_later-count
@@ -66,36 +66,36 @@ shape_of-out-then-far-bytes c = search rules
 
 -- the second log's bytes behind the first's
 abbrev whole_of : tie.After-put_later-last → ℕ
-whole_of c = c.before.before.before.before.before.before.before.before.before.before.args.one / 8
+whole_of c = c.args.one / 8
 
 placed_here : (c : tie.After-put_later-last)
-    → Front (take (whole_of c) c.before.before.before.before.before.before.before.before.before.before.args.first.now ++ c.put_later-last.ensures.done)
-    c.before.before.before.before.before.before.before.before.before.before.args.out-1.now
-    (put_mid (whole_of c) (length c.before.before.before.before.before.copy.new.0 - whole_of c) c.before.before.before.before.before.copy.new.0
-    c.put_later-last.new.0) (whole_of c + length c.before.before.before.before.before.before.before.before.before.before.args.second.now)
+    → Front (take (whole_of c) c.args.first.now ++ c.put_later-last.ensures.done)
+    c.args.out.now
+    (put_mid (whole_of c) (length c.copy.new.0 - whole_of c) c.copy.new.0
+    c.put_later-last.new.0) (whole_of c + length c.args.second.now)
 placed_here c =
-    let a = c.before.before.before.before.before.before.before.before.before.before.args in
-    let q = c.before.before.before.before.before.before.before.before.before.before.requires in
-    placed a.first.now a.second.now a.out-1.now _ _ (whole_of c) _ _ _ _ c.before.before.before.before.before.copy.ensures (omega (arith, q.0))
+    let a = c.args in
+    let q = c.requires in
+    placed a.first.now a.second.now a.out-1.now _ _ (whole_of c) _ _ _ _ c.copy.ensures (omega (arith, q.0))
     (omega (arith, q.1, q.3)) refl c.put_later-last.ensures
 
 both_here : (c : tie.After-put_later-last)
-    → both_bytes c.before.before.before.before.before.before.before.before.before.before.args.one
-    c.before.before.before.before.before.before.before.before.before.before.args.first.now
-    c.before.before.before.before.before.before.before.before.before.before.args.second.now
-    ≡ (take (whole_of c) c.before.before.before.before.before.before.before.before.before.before.args.first.now ++ c.put_later-last.ensures.done) ++
-    pair_of (c.before.before.before.before.before.before.before.before.before.before.args.one % 8) c.put_later-last.result 0 ∷ []
+    → both_bytes c.args.one
+    c.args.first.now
+    c.args.second.now
+    ≡ (take (whole_of c) c.args.first.now ++ c.put_later-last.ensures.done) ++
+    pair_of (c.args.one % 8) c.put_later-last.result 0 ∷ []
 both_here c =
-    let w = take (whole_of c) c.before.before.before.before.before.before.before.before.before.before.args.first.now in
+    let w = take (whole_of c) c.args.first.now in
     let g = c.put_later-last.ensures in
     ap (◌++◌ w) g.rest ∙ sym (append_assoc w g.done (pair_of
-    (c.before.before.before.before.before.before.before.before.before.before.args.one % 8) c.put_later-last.result 0 ∷ []))
+    (c.args.one % 8) c.put_later-last.result 0 ∷ []))
 
 last_fits : (c : tie.After-pair) → whole_of c.before.before.before.before + length
-    c.before.before.before.before.before.before.before.before.before.before.before.before.before.before.args.second.now < length
-    c.before.before.before.before.before.before.before.before.before.before.before.before.before.before.args.out-1.now
-last_fits c = let q = c.before.before.before.before.before.before.before.before.before.before.before.before.before.before.requires in omega
-    (arith, less _ _ q.1 c.before.if-far-bytes.false, q.3)
+    c.args.second.now < length
+    c.args.out.now
+last_fits c = let q = c.requires in omega
+    (arith, less _ _ q.1 c.if-far-bytes.false, q.3)
 
 returns-then-far-bytes : tie.Need-returns-then-far-bytes
 returns-then-far-bytes c = placed_all (placed_here c.before.before.before) _ _ (both_here c.before.before.before) _ c.if-far-bytes.true
@@ -110,10 +110,10 @@ shape_of-out : tie.Need-shape_of-out
 shape_of-out c = front_long (front_more c.pair.result (placed_here c.before.before.before.before) (last_fits c))
 
 returns : tie.Need-returns
-returns c = let q = c.before.before.before.before.before.before.before.before.before.before.before.before.before.before.requires in
+returns c = let q = c.requires in
     rw c.pair.ensures (placed_more (placed_here c.before.before.before.before) _ _ (both_here c.before.before.before.before)
-    c.before.before.before.before.before.before.before.before.before.before.before.before.before.before.args.bytes (last_fits c) (omega
-    (arith, less _ _ q.1 c.before.if-far-bytes.false, q.2)))
+    c.args.bytes (last_fits c) (omega
+    (arith, less _ _ q.1 c.if-far-bytes.false, q.2)))
 
 pub put_both_spec : {M : Type 1} → statement M
 put_both_spec =

@@ -17,10 +17,10 @@ enum_known-number : tie.Need-enum_known-number
 enum_known-number c = search rules
 
 returns-in-Items : tie.Need-returns-in-Items
-returns-in-Items c = judged_is (parsed on_no_plan c.before.before.before.before.args.log.now) c.before.before.before.before.args.place c.before.before.parse.result c.before.before.parse.ensures _ _ c.enum_told-1.given.1
+returns-in-Items c = judged_is (parsed on_no_plan c.args.log.now) c.args.place c.parse.result c.parse.ensures _ _ c.in-Items.is
 
 returns-in-Fault : tie.Need-returns-in-Fault
-returns-in-Fault c = judged_fault (parsed on_no_plan c.before.before.before.before.before.args.log.now) c.before.before.before.before.before.args.place c.before.before.before.parse.result c.before.before.before.parse.ensures _ _ c.before.number-1.given.1
+returns-in-Fault c = judged_fault (parsed on_no_plan c.args.log.now) c.args.place c.parse.result c.parse.ensures _ _ c.in-Fault.is
 
 pub judged_spec : {M : Type 1} → statement M
 judged_spec = tie.close (tie.spec parse-requires enum_told-1 enum_known-number returns-in-Items returns-in-Fault)

@@ -13,7 +13,7 @@ use Rattle.log_move.proofs.sum.Reads as sum-reads
 use Rattle.log_move.proofs.time_of.Reads as time-of-reads
 
 returns-then-time-ge74572072960000 : tie.Need-returns-then-time-ge74572072960000
-returns-then-time-ge74572072960000 c = too_late c.before.args.time c.before.args.by c.if-time-ge74572072960000.true c.before.requires
+returns-then-time-ge74572072960000 c = too_late c.args.time c.args.by c.if-time-ge74572072960000.true c.requires
 
 sum-requires : tie.Need-sum-requires
 sum-requires c κs = search rules
@@ -24,8 +24,8 @@ time_of-requires c κs = search rules
 returns : tie.Need-returns
 returns c =
     let b = c.before.before.before in
-    let e : c.before.sum.result ≡ pos b.args.time +ℤ b.args.by = rw (to_z-of_z b.ranges.by) at c.before.sum.ensures in
-    let f : SFits w64 c.before.sum.result = rw e (fits_sum b.args.time b.args.by c.before.before.if-time-ge74572072960000.false b.requires) in
+    let e : c.sum.result ≡ pos b.args.time +ℤ b.args.by = rw (to_z-of_z b.ranges.by) at c.sum.ensures in
+    let f : SFits w64 c.sum.result = rw e (fits_sum b.args.time b.args.by c.if-time-ge74572072960000.false b.requires) in
     rw (to_z-of_z f, e) at c.time_of.ensures
 
 pub moved_by_spec : {M : Type 1} → statement M

@@ -22,7 +22,7 @@ moved_by-requires : tie.Need-moved_by-requires
 moved_by-requires c κs = search rules
 
 returns : tie.Need-returns
-returns c = rw (eq-eqb _ _ c.before.before.before.if-item-ne46.false) (rw (to_z-of_z c.before.before.before.before.before.ranges.by) at c.moved_by.ensures)
+returns c = rw (eq-eqb _ _ c.if-item-ne46.false) (rw (to_z-of_z c.ranges.by) at c.moved_by.ensures)
 
 pub moved_tag_spec : {M : Type 1} → statement M
 moved_tag_spec = tie.close (tie.spec returns-then-item-ne46 overflow_mul-item overflow_add-item moved_by-requires returns)

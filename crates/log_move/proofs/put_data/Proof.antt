@@ -25,15 +25,15 @@ abbrev decreases-loop-at : tie.decreases-loop-at
 decreases-loop-at log built₀ at₀ to₀ stop built at to = length log * 8 - at
 
 -- the data word that was found
-data_here : (c : tie.After-data_in invariant-loop-at decreases-loop-at) → Holds c.before.before.before.before.before.before.before.before.before.args.log.now
-    c.before.before.before.before.before.loop-at.at c.data_in.result
+data_here : (c : tie.After-data_in invariant-loop-at decreases-loop-at) → Holds c.args.log.now
+    c.loop-at.at c.data_in.result
 data_here c = holds _ _ _ c.data_in.result c.data_in.ensures.0 refl
 
 overflow_mul-stop : tie.Need-overflow_mul-stop invariant-loop-at decreases-loop-at
 overflow_mul-stop c = search rules
 
 loop-at-init : tie.Need-loop-at-init invariant-loop-at decreases-loop-at
-loop-at-init c = let q = c.before.before.before.requires in (q.0, q.1, refl, omega arith, q.3, q.2, refl, λ by m. m)
+loop-at-init c = let q = c.requires in (q.0, q.1, refl, omega arith, q.3, q.2, refl, λ by m. m)
 
 overflow_add-at : tie.Need-overflow_add-at invariant-loop-at decreases-loop-at
 overflow_add-at c = search rules
@@ -42,44 +42,44 @@ window_in-w-requires : tie.Need-window_in-w-requires invariant-loop-at decreases
 window_in-w-requires c κs = search rules
 
 data_in-requires : tie.Need-data_in-requires invariant-loop-at decreases-loop-at
-data_in-requires c κs = (c.before.before.window_in-w.ensures, (omega (arith, c.before.before.before.loop-at-test.true), c.before.if-w-ne3.false))
+data_in-requires c κs = (c.window_in-w.ensures, (omega (arith, c.loop-at-test.true), c.if-w-ne3.false))
 
 put_packed-to-requires : tie.Need-put_packed-to-requires invariant-loop-at decreases-loop-at
-put_packed-to-requires c κs = let o = c.before.before.before.before.before.loop-at.invariant in
+put_packed-to-requires c κs = let o = c.loop-at.invariant in
     let d = c.data_in.ensures in
-    (omega (arith, o.0, o.4, o.5), holds_fits (data_here c), omega (arith, o.1, o.5, o.6, d.1, c.before.before.before.before.loop-at-test.true))
+    (omega (arith, o.0, o.4, o.5), holds_fits (data_here c), omega (arith, o.1, o.5, o.6, d.1, c.loop-at-test.true))
 
 overflow_add-at-in-loop-at : tie.Need-overflow_add-at-in-loop-at invariant-loop-at decreases-loop-at
 overflow_add-at-in-loop-at c = search rules
 
 loop-at-smaller : tie.Need-loop-at-smaller invariant-loop-at decreases-loop-at
-loop-at-smaller c = omega (arith, c.before.before.before.before.before.before.before.loop-at-test.true)
+loop-at-smaller c = omega (arith, c.loop-at-test.true)
 
 loop-at-preserved : tie.Need-loop-at-preserved invariant-loop-at decreases-loop-at
-loop-at-preserved c = let o = c.before.before.before.before.before.before.before.before.loop-at.invariant in
-    let d = c.before.before.before.data_in.ensures in
-    let x = c.before.before.put_packed-to.ensures in (
+loop-at-preserved c = let o = c.loop-at.invariant in
+    let d = c.data_in.ensures in
+    let x = c.put_packed-to.ensures in (
       o.0,
       o.1,
       refl,
       omega (arith, o.3),
-      omega (arith, c.before.before.before.before.before.before.before.loop-at-test.true),
+      omega (arith, c.loop-at-test.true),
       omega (arith, o.5, x.few, d.1, d.3),
       x.long ∙ o.6,
       λ by m. moving_data (o.7 by m) (data_here c.before.before.before) d.1 d.2 d.3 x,
     )
 
 shape_of-built-after-loop-at : tie.Need-shape_of-built-after-loop-at invariant-loop-at decreases-loop-at
-shape_of-built-after-loop-at c = c.before.loop-at.invariant.6
+shape_of-built-after-loop-at c = c.loop-at.invariant.6
 
 returns-after-loop-at : tie.Need-returns-after-loop-at invariant-loop-at decreases-loop-at
-returns-after-loop-at c = let o = c.before.loop-at.invariant in record { on = o.3; within = o.4; moves = o.7 }
+returns-after-loop-at c = let o = c.loop-at.invariant in record { on = o.3; within = o.4; moves = o.7 }
 
 shape_of-built-then-w-ne3 : tie.Need-shape_of-built-then-w-ne3 invariant-loop-at decreases-loop-at
-shape_of-built-then-w-ne3 c = c.before.before.before.loop-at.invariant.6
+shape_of-built-then-w-ne3 c = c.loop-at.invariant.6
 
 returns-then-w-ne3 : tie.Need-returns-then-w-ne3 invariant-loop-at decreases-loop-at
-returns-then-w-ne3 c = let o = c.before.before.before.loop-at.invariant in record { on = o.3; within = o.4; moves = o.7 }
+returns-then-w-ne3 c = let o = c.loop-at.invariant in record { on = o.3; within = o.4; moves = o.7 }
 
 pub put_data_spec : {M : Type 1} → statement M
 put_data_spec =

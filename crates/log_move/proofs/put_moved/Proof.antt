@@ -35,18 +35,18 @@ abbrev decreases-loop-item : tie.decreases-loop-item
 decreases-loop-item log by built₀ at₀ to₀ built at to = length log * 8 - at
 
 returns-then-log-gt32768 : tie.Need-returns-then-log-gt32768 invariant-loop-item decreases-loop-item
-returns-then-log-gt32768 c = rw (walk_long on_no_plan c.before.before.before.args.log.now c.if-log-gt32768.true) refl
+returns-then-log-gt32768 c = rw (walk_long on_no_plan c.args.log.now c.if-log-gt32768.true) refl
 
 start-to-requires : tie.Need-start-to-requires invariant-loop-item decreases-loop-item
 start-to-requires c κs = search rules
 
 loop-item-init : tie.Need-loop-item-init invariant-loop-item decreases-loop-item
 loop-item-init c = (
-  c.before.if-log-gt32768.false,
+  c.if-log-gt32768.false,
   refl,
-  moving_start c.before.before.before.before.args.log.now _ _ _ c.before.if-log-gt32768.false
+  moving_start c.args.log.now _ _ _ c.if-log-gt32768.false
       c.start-to.ensures,
-  c.before.before.before.before.requires.1 c.before.if-log-gt32768.false,
+  c.requires.1 c.if-log-gt32768.false,
 )
 
 piece_at-requires : tie.Need-piece_at-requires invariant-loop-item decreases-loop-item
@@ -59,24 +59,24 @@ in_time-requires : tie.Need-in_time-requires invariant-loop-item decreases-loop-
 in_time-requires c κs = search rules
 
 shape_of-built-then-not-in_time : tie.Need-shape_of-built-then-not-in_time invariant-loop-item decreases-loop-item
-shape_of-built-then-not-in_time c = c.before.before.before.before.before.before.loop-item.invariant.1
+shape_of-built-then-not-in_time c = c.loop-item.invariant.1
 
 returns-then-not-in_time : tie.Need-returns-then-not-in_time invariant-loop-item decreases-loop-item
 returns-then-not-in_time c =
-    let o = c.before.before.before.before.before.before.loop-item in
-    let i = c.before.before.before.item-1.given in
-    let h = holds c.before.before.before.before.before.before.before.before.before.before.before.args.log.now o.at
-    c.before.before.before.before.before.piece_at.result i.0.0 c.before.before.before.before.before.piece_at.ensures i.1 in
-    rw (walk_late o.invariant.2.walk h (sym c.before.in_time.ensures ∙ not_true _ c.if-not-in_time.true)) refl
+    let o = c.loop-item in
+    let i = c.item-1.given in
+    let h = holds c.args.log.now o.at
+    c.piece_at.result i.0.0 c.piece_at.ensures i.1 in
+    rw (walk_late o.invariant.2.walk h (sym c.in_time.ensures ∙ not_true _ c.if-not-in_time.true)) refl
 
 moved_tag-time-requires : tie.Need-moved_tag-time-requires invariant-loop-item decreases-loop-item
 moved_tag-time-requires c κs =
-    let o = c.before.before.before.before.before.before.loop-item in
-    let i = c.before.before.before.item-1.given in
-    let h = holds c.before.before.before.before.before.before.before.before.before.before.before.args.log.now o.at
-    c.before.before.before.before.before.piece_at.result i.0.0 c.before.before.before.before.before.piece_at.ensures i.1 in (
-      rw (to_z-of_z c.before.before.before.before.before.before.before.before.before.before.before.ranges.by)
-          c.before.before.before.before.before.before.before.before.before.before.before.requires.0,
+    let o = c.loop-item in
+    let i = c.item-1.given in
+    let h = holds c.args.log.now o.at
+    c.piece_at.result i.0.0 c.piece_at.ensures i.1 in (
+      rw (to_z-of_z c.ranges.by)
+          c.requires.0,
       holds_fits h,
     )
 
@@ -84,37 +84,37 @@ judged-requires : tie.Need-judged-requires invariant-loop-item decreases-loop-it
 judged-requires c κs = search rules
 
 shape_of-built-then-time-ge42949672960000 : tie.Need-shape_of-built-then-time-ge42949672960000 invariant-loop-item decreases-loop-item
-shape_of-built-then-time-ge42949672960000 c = c.before.before.before.before.before.before.before.before.before.loop-item.invariant.1
+shape_of-built-then-time-ge42949672960000 c = c.loop-item.invariant.1
 
 returns-then-time-ge42949672960000 : tie.Need-returns-then-time-ge42949672960000 invariant-loop-item decreases-loop-item
 returns-then-time-ge42949672960000 c =
-    let o = c.before.before.before.before.before.before.before.before.before.loop-item in
-    let i = c.before.before.before.before.before.before.item-1.given in
-    let h = holds c.before.before.before.before.before.before.before.before.before.before.before.before.before.before.args.log.now o.at
-    c.before.before.before.before.before.before.before.before.piece_at.result i.0.0
-    c.before.before.before.before.before.before.before.before.piece_at.ensures i.1 in
-    let t = sym c.before.before.before.before.in_time.ensures ∙ not_false _ c.before.before.before.if-not-in_time.false in
-    let f = cannot_move _ h _ c.before.before.moved_tag-time.ensures c.before.if-time-ge42949672960000.true in
-    rw c.judged.ensures (rw (to_z-of_z c.before.before.before.before.before.before.before.before.before.before.before.before.before.before.ranges.by) at (moving-fails o.invariant.2 h t o.built-1 f))
+    let o = c.loop-item in
+    let i = c.item-1.given in
+    let h = holds c.args.log.now o.at
+    c.piece_at.result i.0.0
+    c.piece_at.ensures i.1 in
+    let t = sym c.in_time.ensures ∙ not_false _ c.if-not-in_time.false in
+    let f = cannot_move _ h _ c.moved_tag-time.ensures c.if-time-ge42949672960000.true in
+    rw c.judged.ensures (rw (to_z-of_z c.ranges.by) at (moving-fails o.invariant.2 h t o.built-1 f))
 
 with_time-requires : tie.Need-with_time-requires invariant-loop-item decreases-loop-item
-with_time-requires c κs = omega (arith, c.before.if-time-ge42949672960000.false)
+with_time-requires c κs = omega (arith, c.if-time-ge42949672960000.false)
 
 put_packed-to-requires : tie.Need-put_packed-to-requires invariant-loop-item decreases-loop-item
 put_packed-to-requires c κs =
-    let o = c.before.before.before.before.before.before.before.before.before.before.loop-item in
-    let i = c.before.before.before.before.before.before.before.item-1.given in
-    let h = holds c.before.before.before.before.before.before.before.before.before.before.before.before.before.before.before.args.log.now
-    o.at c.before.before.before.before.before.before.before.before.before.piece_at.result i.0.0
-    c.before.before.before.before.before.before.before.before.before.piece_at.ensures i.1 in
-    moving_room o.invariant.2 h _ _ _ c.with_time.ensures c.before.before.if-time-ge42949672960000.false (omega (arith, o.invariant.1, o.invariant.3))
+    let o = c.loop-item in
+    let i = c.item-1.given in
+    let h = holds c.args.log.now
+    o.at c.piece_at.result i.0.0
+    c.piece_at.ensures i.1 in
+    moving_room o.invariant.2 h _ _ _ c.with_time.ensures c.if-time-ge42949672960000.false (omega (arith, o.invariant.1, o.invariant.3))
 
 overflow_add-at : tie.Need-overflow_add-at invariant-loop-item decreases-loop-item
 overflow_add-at c =
-    let o = c.before.before.before.before.before.before.before.before.before.before.before.before.before.before.loop-item in
-    let i = c.before.before.before.before.before.before.before.before.before.before.before.item-1.given in
+    let o = c.loop-item in
+    let i = c.item-1.given in
     let a = c.before.before.before.before.before.before.before.before.before.before.before.before.before in
-    let h = holds a.before.before.before.before.before.before.args.log.now o.at a.piece_at.result i.0.0 a.piece_at.ensures i.1 in
+    let h = holds a.args.log.now o.at a.piece_at.result i.0.0 a.piece_at.ensures i.1 in
     omega (arith, h.says.first_few, h.says.behind_few)
 
 overflow_cast-at : tie.Need-overflow_cast-at invariant-loop-item decreases-loop-item
@@ -122,50 +122,50 @@ overflow_cast-at c = search rules
 
 overflow_add-at-in-Item : tie.Need-overflow_add-at-in-Item invariant-loop-item decreases-loop-item
 overflow_add-at-in-Item c =
-    let o = c.before.before.before.before.before.before.before.before.before.before.before.before.before.before.loop-item in
-    let i = c.before.before.before.before.before.before.before.before.before.before.before.item-1.given in
+    let o = c.loop-item in
+    let i = c.item-1.given in
     let a = c.before.before.before.before.before.before.before.before.before.before.before.before.before in
-    let h = holds a.before.before.before.before.before.before.args.log.now o.at a.piece_at.result i.0.0 a.piece_at.ensures i.1 in
+    let h = holds a.args.log.now o.at a.piece_at.result i.0.0 a.piece_at.ensures i.1 in
     omega (arith, o.invariant.0, next_fits o.invariant.2.walk h)
 
 -- the item that was found, and what is put with it
 item_here : (c : tie.After-put_data-arg-1 invariant-loop-item decreases-loop-item) → Holds
-    c.before.before.before.before.before.before.before.before.before.before.before.before.before.before.before.before.before.before.before.before.args.log.now c.before.before.before.before.before.before.before.before.before.before.before.before.before.before.before.loop-item.at
-    c.before.before.before.before.before.before.before.before.before.before.before.before.item-1.given.0.0
-item_here c = holds _ _ _ c.before.before.before.before.before.before.before.before.before.before.before.before.item-1.given.0.0
-    c.before.before.before.before.before.before.before.before.before.before.before.before.before.before.piece_at.ensures
-    c.before.before.before.before.before.before.before.before.before.before.before.before.item-1.given.1
+    c.args.log.now c.loop-item.at
+    c.in-Item.item
+item_here c = holds _ _ _ c.in-Item.item
+    c.piece_at.ensures
+    c.in-Item.is
 
 moved_here : (c : tie.After-put_data-arg-1 invariant-loop-item decreases-loop-item)
-    → Moving c.before.before.before.before.before.before.before.before.before.before.before.before.before.before.before.before.before.before.before.before.args.log.now (to_z w64 (of_z w64
-    c.before.before.before.before.before.before.before.before.before.before.before.before.before.before.before.before.before.before.before.before.args.by)) c.before.before.before.before.put_packed-to.new.1.0
-    (c.before.before.before.before.before.before.before.before.before.before.before.before.before.before.before.loop-item.at +
-    (c.before.before.before.before.before.before.before.before.before.before.before.before.item-1.given.0.0.first_bits + c.before.before.before.before.before.before.before.before.before.before.before.before.item-1.given.0.0.behind_bits))
-    c.before.before.before.before.put_packed-to.result
+    → Moving c.args.log.now (to_z w64 (of_z w64
+    c.args.by)) c.put_packed-to.new.1.0
+    (c.loop-item.at +
+    (c.in-Item.item.first_bits + c.in-Item.item.behind_bits))
+    c.put_packed-to.result
 moved_here c =
     let h = item_here c in
-    let t = sym c.before.before.before.before.before.before.before.before.before.before.in_time.ensures ∙ not_false _
-    c.before.before.before.before.before.before.before.before.before.if-not-in_time.false in
-    let e = c.before.before.before.before.before.before.before.before.moved_tag-time.ensures in
-    let m = moved_is _ h _ e _ c.before.before.before.before.before.before.before.if-time-ge42949672960000.false c.before.before.before.before.before.with_time.ensures in
-    let l = moved_size _ c.before.before.before.before.before.before.before.before.before.before.before.before.item-1.given.0.0 _
-    c.before.before.before.before.before.with_time.ensures in
-    moving-more c.before.before.before.before.before.before.before.before.before.before.before.before.before.before.before.loop-item.invariant.2 h t _
-    (can_move _ h _ e c.before.before.before.before.before.before.before.if-time-ge42949672960000.false) m l c.before.before.before.before.put_packed-to.ensures
+    let t = sym c.in_time.ensures ∙ not_false _
+    c.if-not-in_time.false in
+    let e = c.moved_tag-time.ensures in
+    let m = moved_is _ h _ e _ c.if-time-ge42949672960000.false c.with_time.ensures in
+    let l = moved_size _ c.in-Item.item _
+    c.with_time.ensures in
+    moving-more c.loop-item.invariant.2 h t _
+    (can_move _ h _ e c.if-time-ge42949672960000.false) m l c.put_packed-to.ensures
 
 put_data-here-requires : tie.Need-put_data-here-requires invariant-loop-item decreases-loop-item
-put_data-here-requires c κs = let o = c.before.before.before.before.before.before.before.before.before.before.before.before.before.before.before.loop-item.invariant in
+put_data-here-requires c κs = let o = c.loop-item.invariant in
     let m = moved_here c in
-    (o.0, omega (arith, o.1, o.3, c.before.before.before.before.put_packed-to.ensures.long), m.few, m.walk.fits)
+    (o.0, omega (arith, o.1, o.3, c.put_packed-to.ensures.long), m.few, m.walk.fits)
 
 loop-item-smaller : tie.Need-loop-item-smaller invariant-loop-item decreases-loop-item
-loop-item-smaller c = let d = c.before.before.before.put_data-here.ensures in omega (arith, d.on, d.within, (item_here c.before.before.before.before).many)
+loop-item-smaller c = let d = c.put_data-here.ensures in omega (arith, d.on, d.within, (item_here c.before.before.before.before).many)
 
 loop-item-preserved : tie.Need-loop-item-preserved invariant-loop-item decreases-loop-item
-loop-item-preserved c = let o = c.before.before.before.before.before.before.before.before.before.before.before.before.before.before.before.before.before.before.before.loop-item.invariant in (
+loop-item-preserved c = let o = c.loop-item.invariant in (
   o.0,
-  c.before.before.built-in-Item-1.given ∙ c.before.before.before.before.before.before.before.before.put_packed-to.ensures.long ∙ o.1,
-  c.before.before.before.put_data-here.ensures.moves _ (moved_here c.before.before.before.before),
+  c.built-in-Item-1.given ∙ c.put_packed-to.ensures.long ∙ o.1,
+  c.put_data-here.ensures.moves _ (moved_here c.before.before.before.before),
   o.3,
 )
 
@@ -173,20 +173,20 @@ enum_told-1 : tie.Need-enum_told-1 invariant-loop-item decreases-loop-item
 enum_told-1 c = search rules
 
 shape_of-built-in-End : tie.Need-shape_of-built-in-End invariant-loop-item decreases-loop-item
-shape_of-built-in-End c = c.before.before.before.loop-item.invariant.1
+shape_of-built-in-End c = c.loop-item.invariant.1
 
 returns-in-End : tie.Need-returns-in-End invariant-loop-item decreases-loop-item
-returns-in-End c = rw (to_z-of_z c.before.before.before.before.before.before.before.before.ranges.by) at (moving_over c.before.before.before.loop-item.invariant.2
-    (ends_there _ (sym c.before.before.piece_at.ensures ∙ c.enum_told-1.given.1)))
+returns-in-End c = rw (to_z-of_z c.ranges.by) at (moving_over c.loop-item.invariant.2
+    (ends_there _ (sym c.piece_at.ensures ∙ c.in-End.is)))
 
 enum_told-in-Wrong : tie.Need-enum_told-in-Wrong invariant-loop-item decreases-loop-item
 enum_told-in-Wrong c = search rules
 
 shape_of-built-in-Wrong : tie.Need-shape_of-built-in-Wrong invariant-loop-item decreases-loop-item
-shape_of-built-in-Wrong c = c.before.before.before.loop-item.invariant.1
+shape_of-built-in-Wrong c = c.loop-item.invariant.1
 
 returns-in-Wrong : tie.Need-returns-in-Wrong invariant-loop-item decreases-loop-item
-returns-in-Wrong c = rw (walk-wrong on_no_plan _ c.before.before.before.loop-item.invariant.2.walk (wrong_there _ (sym c.before.before.piece_at.ensures ∙ c.enum_told-in-Wrong-1.given.1))) refl
+returns-in-Wrong c = rw (walk-wrong on_no_plan _ c.loop-item.invariant.2.walk (wrong_there _ (sym c.piece_at.ensures ∙ c.in-Wrong.is))) refl
 
 pub put_moved_spec : {M : Type 1} → statement M
 put_moved_spec =

@@ -33,7 +33,7 @@ overflow_add-result-2 : tie.Need-overflow_add-result-2
 overflow_add-result-2 c = search rules
 
 returns : tie.Need-returns
-returns c = let e = c.before.before.before.time_parts-parts.ensures in let l = time_number_low c.before.before.before.before.args.time c.before.before.before.before.requires in (rw e refl, rw e l)
+returns c = let e = c.time_parts-parts.ensures in let l = time_number_low c.args.time c.requires in (rw e refl, rw e l)
 
 pub time_number_spec : {M : Type 1} → statement M
 time_number_spec =

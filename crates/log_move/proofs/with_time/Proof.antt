@@ -14,7 +14,7 @@ time_number-requires : tie.Need-time_number-requires
 time_number-requires c κs = search rules
 
 returns : tie.Need-returns
-returns c = rw (eq-eqb _ _ c.before.if-piece-ne46.false, c.time_number.ensures.0) refl
+returns c = rw (eq-eqb _ _ c.if-piece-ne46.false, c.time_number.ensures.0) refl
 
 pub with_time_spec : {M : Type 1} → statement M
 with_time_spec = tie.close (tie.spec returns-then-piece-ne46 time_number-requires returns)

@@ -21,21 +21,21 @@ abbrev decreases-loop-item : tie.decreases-loop-item
 decreases-loop-item log from₀ from = length log * 8 - from
 
 -- the item that was found
-late_here : (c : tie.Then-not-in_time invariant-loop-item decreases-loop-item) → Holds c.before.before.before.before.before.before.before.before.before.before.args.log.now
-    c.before.before.before.before.before.before.pass_run-at.result c.before.before.before.item-1.given.0.0
-late_here c = holds _ _ _ c.before.before.before.item-1.given.0.0 c.before.before.before.before.before.piece_at.ensures c.before.before.before.item-1.given.1
+late_here : (c : tie.Then-not-in_time invariant-loop-item decreases-loop-item) → Holds c.args.log.now
+    c.pass_run-at.result c.in-Item.item
+late_here c = holds _ _ _ c.in-Item.item c.piece_at.ensures c.in-Item.is
 
 item_here : (c : tie.After-struct_known-1 invariant-loop-item decreases-loop-item) → Holds
-    c.before.before.before.before.before.before.before.before.before.before.before.args.log.now
-    c.before.before.before.before.before.before.before.pass_run-at.result c.before.before.before.before.item-1.given.0.0
-item_here c = holds _ _ _ c.before.before.before.before.item-1.given.0.0 c.before.before.before.before.before.before.piece_at.ensures
-    c.before.before.before.before.item-1.given.1
+    c.args.log.now
+    c.pass_run-at.result c.in-Item.item
+item_here c = holds _ _ _ c.in-Item.item c.piece_at.ensures
+    c.in-Item.is
 
 returns-then-log-gt32768 : tie.Need-returns-then-log-gt32768 invariant-loop-item decreases-loop-item
-returns-then-log-gt32768 c = pass_long c.before.before.args.log.now c.if-log-gt32768.true
+returns-then-log-gt32768 c = pass_long c.args.log.now c.if-log-gt32768.true
 
 loop-item-init : tie.Need-loop-item-init invariant-loop-item decreases-loop-item
-loop-item-init c = (c.if-log-gt32768.false, passing_start c.before.before.args.log.now c.if-log-gt32768.false)
+loop-item-init c = (c.if-log-gt32768.false, passing_start c.args.log.now c.if-log-gt32768.false)
 
 pass_run-at-requires : tie.Need-pass_run-at-requires invariant-loop-item decreases-loop-item
 pass_run-at-requires c κs = c.loop-item.invariant
@@ -50,7 +50,7 @@ in_time-requires : tie.Need-in_time-requires invariant-loop-item decreases-loop-
 in_time-requires c κs = search rules
 
 returns-then-not-in_time : tie.Need-returns-then-not-in_time invariant-loop-item decreases-loop-item
-returns-then-not-in_time c = pass_late c.before.before.before.before.before.before.pass_run-at.ensures.1 (late_here c) (sym c.before.in_time.ensures ∙ not_true _ c.if-not-in_time.true)
+returns-then-not-in_time c = pass_late c.pass_run-at.ensures.1 (late_here c) (sym c.in_time.ensures ∙ not_true _ c.if-not-in_time.true)
 
 overflow_add-from : tie.Need-overflow_add-from invariant-loop-item decreases-loop-item
 overflow_add-from c = omega (arith, (item_here c).says.first_few, (item_here c).says.behind_few)
@@ -61,39 +61,39 @@ overflow_cast-from c = search rules
 overflow_add-from-in-Item : tie.Need-overflow_add-from-in-Item invariant-loop-item decreases-loop-item
 overflow_add-from-in-Item c = omega (
   arith,
-  c.before.before.before.before.before.before.before.before.loop-item.invariant.0,
+  c.loop-item.invariant.0,
   next_fits
-      c.before.before.before.before.before.before.before.pass_run-at.ensures.1.walk (item_here c),
+      c.pass_run-at.ensures.1.walk (item_here c),
 )
 
 loop-item-smaller : tie.Need-loop-item-smaller invariant-loop-item decreases-loop-item
 loop-item-smaller c = omega (
   arith,
-  c.before.before.before.before.before.before.before.pass_run-at.ensures.0,
+  c.pass_run-at.ensures.0,
   (item_here c).many,
   next_fits
-      c.before.before.before.before.before.before.before.pass_run-at.ensures.1.walk (item_here c),
+      c.pass_run-at.ensures.1.walk (item_here c),
 )
 
 loop-item-preserved : tie.Need-loop-item-preserved invariant-loop-item decreases-loop-item
 loop-item-preserved c = (
-  c.before.before.before.before.before.before.before.before.loop-item.invariant.0,
+  c.loop-item.invariant.0,
   passing_item
-      c.before.before.before.before.before.before.before.pass_run-at.ensures.1 (item_here c) (sym c.before.before.in_time.ensures ∙ not_false _
-      c.before.if-not-in_time.false),
+      c.pass_run-at.ensures.1 (item_here c) (sym c.in_time.ensures ∙ not_false _
+      c.if-not-in_time.false),
 )
 
 enum_told-1 : tie.Need-enum_told-1 invariant-loop-item decreases-loop-item
 enum_told-1 c = search rules
 
 returns-in-End : tie.Need-returns-in-End invariant-loop-item decreases-loop-item
-returns-in-End c = pass_over c.before.before.before.pass_run-at.ensures.1 (ends_there _ (sym c.before.before.piece_at.ensures ∙ c.enum_told-1.given.1))
+returns-in-End c = pass_over c.pass_run-at.ensures.1 (ends_there _ (sym c.piece_at.ensures ∙ c.in-End.is))
 
 enum_told-in-Wrong : tie.Need-enum_told-in-Wrong invariant-loop-item decreases-loop-item
 enum_told-in-Wrong c = search rules
 
 returns-in-Wrong : tie.Need-returns-in-Wrong invariant-loop-item decreases-loop-item
-returns-in-Wrong c = pass_wrong c.before.before.before.pass_run-at.ensures.1 (wrong_there _ (sym c.before.before.piece_at.ensures ∙ c.enum_told-in-Wrong-1.given.1))
+returns-in-Wrong c = pass_wrong c.pass_run-at.ensures.1 (wrong_there _ (sym c.piece_at.ensures ∙ c.in-Wrong.is))
 
 pub pass_spec : {M : Type 1} → statement M
 pass_spec =

@@ -26,24 +26,24 @@ decreases-loop-at log from at₀ stop at = length log * 8 - at
 
 -- a data word, and an item of any kind
 abbrev data_of : tie.Then-kind-eq3 invariant-loop-at decreases-loop-at → Packed
-data_of c = record { first = c.before.window_in-w.result / 2 ^ 39; first_bits = 25; behind = 0; behind_bits = 0 }
+data_of c = record { first = c.window_in-w.result / 2 ^ 39; first_bits = 25; behind = 0; behind_bits = 0 }
 
-data_here : (c : tie.Then-kind-eq3 invariant-loop-at decreases-loop-at) → Holds c.before.before.before.before.before.args.log.now c.before.before.before.loop-at.at (data_of c)
+data_here : (c : tie.Then-kind-eq3 invariant-loop-at decreases-loop-at) → Holds c.args.log.now c.loop-at.at (data_of c)
 data_here c =
     holds _ _ _ (data_of c)
-    (whole_data c.before.before.before.before.before.args.log.now c.before.before.before.loop-at.at _ c.before.window_in-w.ensures (omega arith)
-    (omega (arith, c.before.before.loop-at-test.true)) c.if-kind-eq3.true) refl
+    (whole_data c.args.log.now c.loop-at.at _ c.window_in-w.ensures (omega arith)
+    (omega (arith, c.loop-at-test.true)) c.if-kind-eq3.true) refl
 
 item_here : (c : tie.After-struct_known-1 invariant-loop-at decreases-loop-at) → Holds
-    c.before.before.before.before.before.before.before.before.before.before.before.args.log.now
-    c.before.before.before.before.before.before.before.before.before.loop-at.at c.before.before.before.item_in-item.result
-item_here c = holds _ _ _ c.before.before.before.item_in-item.result c.before.before.before.item_in-item.ensures refl
+    c.args.log.now
+    c.loop-at.at c.item_in-item.result
+item_here c = holds _ _ _ c.item_in-item.result c.item_in-item.ensures refl
 
 overflow_mul-stop : tie.Need-overflow_mul-stop invariant-loop-at decreases-loop-at
 overflow_mul-stop c = search rules
 
 loop-at-init : tie.Need-loop-at-init invariant-loop-at decreases-loop-at
-loop-at-init c = (c.before.requires.0, refl, omega arith, c.before.requires.1)
+loop-at-init c = (c.requires.0, refl, omega arith, c.requires.1)
 
 overflow_add-at : tie.Need-overflow_add-at invariant-loop-at decreases-loop-at
 overflow_add-at c = search rules
@@ -55,19 +55,19 @@ overflow_add-at-then-kind-eq3 : tie.Need-overflow_add-at-then-kind-eq3 invariant
 overflow_add-at-then-kind-eq3 c = search rules
 
 loop-at-smaller-then-kind-eq3 : tie.Need-loop-at-smaller-then-kind-eq3 invariant-loop-at decreases-loop-at
-loop-at-smaller-then-kind-eq3 c = omega (arith, c.before.before.loop-at-test.true, c.before.before.before.loop-at.invariant.1)
+loop-at-smaller-then-kind-eq3 c = omega (arith, c.loop-at-test.true, c.loop-at.invariant.1)
 
 loop-at-preserved-then-kind-eq3 : tie.Need-loop-at-preserved-then-kind-eq3 invariant-loop-at decreases-loop-at
-loop-at-preserved-then-kind-eq3 c = let o = c.before.before.before.loop-at.invariant in (o.0, refl, omega (arith, o.2), passing_item o.3 (data_here c) refl)
+loop-at-preserved-then-kind-eq3 c = let o = c.loop-at.invariant in (o.0, refl, omega (arith, o.2), passing_item o.3 (data_here c) refl)
 
 item_in-item-requires : tie.Need-item_in-item-requires invariant-loop-at decreases-loop-at
 item_in-item-requires c κs = (
-  c.before.before.before.window_in-w.ensures,
+  c.window_in-w.ensures,
   (
-    omega (arith, c.before.before.before.before.loop-at-test.true),
+    omega (arith, c.loop-at-test.true),
     omega
-        (arith, c.before.before.before.before.before.loop-at.invariant.0),
-    pos_of _ c.before.if-kind-eq0.false,
+        (arith, c.loop-at.invariant.0),
+    pos_of _ c.if-kind-eq0.false,
     c.if-kind-gt8.false,
   ),
 )
@@ -84,34 +84,34 @@ overflow_cast-at c = search rules
 overflow_add-at-in-loop-at-2 : tie.Need-overflow_add-at-in-loop-at-2 invariant-loop-at decreases-loop-at
 overflow_add-at-in-loop-at-2 c = omega (
   arith,
-  c.before.before.before.before.before.before.before.before.before.loop-at.invariant.0,
+  c.loop-at.invariant.0,
   next_fits
-      c.before.before.before.before.before.before.before.before.before.loop-at.invariant.3.walk (item_here c),
+      c.loop-at.invariant.3.walk (item_here c),
 )
 
 loop-at-smaller : tie.Need-loop-at-smaller invariant-loop-at decreases-loop-at
-loop-at-smaller c = omega (arith, (item_here c).many, next_fits c.before.before.before.before.before.before.before.before.before.loop-at.invariant.3.walk (item_here c))
+loop-at-smaller c = omega (arith, (item_here c).many, next_fits c.loop-at.invariant.3.walk (item_here c))
 
 loop-at-preserved : tie.Need-loop-at-preserved invariant-loop-at decreases-loop-at
-loop-at-preserved c = let o = c.before.before.before.before.before.before.before.before.before.loop-at.invariant in (
+loop-at-preserved c = let o = c.loop-at.invariant in (
   o.0,
   refl,
   omega (arith, o.2),
   passing_item
-      o.3 (item_here c) (sym c.before.before.in_time.ensures ∙ not_false _ c.before.if-not-in_time.false),
+      o.3 (item_here c) (sym c.in_time.ensures ∙ not_false _ c.if-not-in_time.false),
 )
 
 returns-after-loop-at : tie.Need-returns-after-loop-at invariant-loop-at decreases-loop-at
-returns-after-loop-at c = (c.before.loop-at.invariant.2, c.before.loop-at.invariant.3)
+returns-after-loop-at c = (c.loop-at.invariant.2, c.loop-at.invariant.3)
 
 returns-then-kind-eq0 : tie.Need-returns-then-kind-eq0 invariant-loop-at decreases-loop-at
-returns-then-kind-eq0 c = (c.before.before.before.before.loop-at.invariant.2, c.before.before.before.before.loop-at.invariant.3)
+returns-then-kind-eq0 c = (c.loop-at.invariant.2, c.loop-at.invariant.3)
 
 returns-then-kind-gt8 : tie.Need-returns-then-kind-gt8 invariant-loop-at decreases-loop-at
-returns-then-kind-gt8 c = (c.before.before.before.before.before.loop-at.invariant.2, c.before.before.before.before.before.loop-at.invariant.3)
+returns-then-kind-gt8 c = (c.loop-at.invariant.2, c.loop-at.invariant.3)
 
 returns-then-not-in_time : tie.Need-returns-then-not-in_time invariant-loop-at decreases-loop-at
-returns-then-not-in_time c = (c.before.before.before.before.before.before.before.before.loop-at.invariant.2, c.before.before.before.before.before.before.before.before.loop-at.invariant.3)
+returns-then-not-in_time c = (c.loop-at.invariant.2, c.loop-at.invariant.3)
 
 pub pass_run_spec : {M : Type 1} → statement M
 pass_run_spec =

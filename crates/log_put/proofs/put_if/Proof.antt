@@ -10,13 +10,13 @@ use Rattle.log_put.proofs.put_packed.Reads as put-packed-reads
 use Rattle.log_walk.proofs.bus_in.Reads as bus-in-reads
 
 bus_in-requires : tie.Need-bus_in-requires
-bus_in-requires c κs = let f = c.before.requires.1 in (omega (arith, f.first_many), f.first_few)
+bus_in-requires c κs = let f = c.requires.1 in (omega (arith, f.first_many), f.first_few)
 
 in_set-requires : tie.Need-in_set-requires
 in_set-requires c κs = search rules
 
 put_packed-requires : tie.Need-put_packed-requires
-put_packed-requires c κs = c.before.before.before.before.before.requires
+put_packed-requires c κs = c.requires
 
 shape_of-built-then-in_set : tie.Need-shape_of-built-then-in_set
 shape_of-built-then-in_set c = search rules
@@ -25,10 +25,10 @@ returns-then-in_set : tie.Need-returns-then-in_set
 returns-then-in_set c =
     let t = c.before.before.before.before in
     let s = t.before.before.before.before in
-    picked_yes s.args.buses _ s.args.item t.before.before.bus_in.ensures.0 t.before.in_set.ensures t.if-in_set.true c.before.before.put_packed.ensures
+    picked_yes s.args.buses _ s.args.item t.bus_in.ensures.0 t.in_set.ensures t.if-in_set.true c.put_packed.ensures
 
 returns : tie.Need-returns
-returns c = picked_no c.before.before.before.before.args.buses _ c.before.before.before.before.args.item _ _ c.before.before.bus_in.ensures.0 c.before.in_set.ensures c.if-in_set.false
+returns c = picked_no c.args.buses _ c.args.item _ _ c.bus_in.ensures.0 c.in_set.ensures c.if-in_set.false
 
 pub put_if_spec : {M : Type 1} → statement M
 put_if_spec =

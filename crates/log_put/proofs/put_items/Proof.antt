@@ -28,36 +28,36 @@ decreases-loop-item log buses built₀ spot₀ built spot = length log * 8 - spo
 
 -- the item that was found
 late_here : (c : tie.Then-not-in_time invariant-loop-item decreases-loop-item) → Holds
-    c.before.before.before.before.before.before.before.before.before.before.before.before.before.before.before.before.args.log.now
-    c.before.before.before.before.before.before.before.before.before.put_run-here.result.at c.before.before.before.item-1.given.0.0
-late_here c = holds _ _ _ c.before.before.before.item-1.given.0.0 c.before.before.before.before.before.piece_at.ensures c.before.before.before.item-1.given.1
+    c.args.log.now
+    c.put_run-here.result.at c.in-Item.item
+late_here c = holds _ _ _ c.in-Item.item c.piece_at.ensures c.in-Item.is
 
 item_here : (c : tie.After-struct_known-1 invariant-loop-item decreases-loop-item) → Holds
-    c.before.before.before.before.before.before.before.before.before.before.before.before.before.before.before.before.before.args.log.now
-    c.before.before.before.before.before.before.before.before.before.before.put_run-here.result.at c.before.before.before.before.item-1.given.0.0
-item_here c = holds _ _ _ c.before.before.before.before.item-1.given.0.0 c.before.before.before.before.before.before.piece_at.ensures
-    c.before.before.before.before.item-1.given.1
+    c.args.log.now
+    c.put_run-here.result.at c.in-Item.item
+item_here c = holds _ _ _ c.in-Item.item c.piece_at.ensures
+    c.in-Item.is
 
 returns-then-log-gt32768 : tie.Need-returns-then-log-gt32768 invariant-loop-item decreases-loop-item
-returns-then-log-gt32768 c = rw (walk_long on_no_plan c.before.before.before.args.log.now c.if-log-gt32768.true) refl
+returns-then-log-gt32768 c = rw (walk_long on_no_plan c.args.log.now c.if-log-gt32768.true) refl
 
 start-requires : tie.Need-start-requires invariant-loop-item decreases-loop-item
 start-requires c κs = search rules
 
 loop-item-init : tie.Need-loop-item-init invariant-loop-item decreases-loop-item
-loop-item-init c = let a = c.before.before.before.before.args in rw c.start.ensures (
-  c.before.if-log-gt32768.false,
-  c.before.before.before.before.requires
-      c.before.if-log-gt32768.false,
+loop-item-init c = let a = c.args in rw c.start.ensures (
+  c.if-log-gt32768.false,
+  c.requires
+      c.if-log-gt32768.false,
   refl,
-  picking_start a.log.now a.buses a.built-1.now c.before.if-log-gt32768.false,
+  picking_start a.log.now a.buses a.built-1.now c.if-log-gt32768.false,
 )
 
 put_run-here-requires : tie.Need-put_run-here-requires invariant-loop-item decreases-loop-item
-put_run-here-requires c κs = let o = c.before.loop-item.invariant in (o.0, omega (arith, o.1, o.2), o.3)
+put_run-here-requires c κs = let o = c.loop-item.invariant in (o.0, omega (arith, o.1, o.2), o.3)
 
 piece_at-requires : tie.Need-piece_at-requires invariant-loop-item decreases-loop-item
-piece_at-requires c κs = (c.before.before.before.put_run-here.ensures.1.walk.fits, omega (arith, c.before.before.before.before.before.loop-item.invariant.0))
+piece_at-requires c κs = (c.put_run-here.ensures.1.walk.fits, omega (arith, c.loop-item.invariant.0))
 
 enum_known-item : tie.Need-enum_known-item invariant-loop-item decreases-loop-item
 enum_known-item c = search rules
@@ -66,11 +66,11 @@ in_time-requires : tie.Need-in_time-requires invariant-loop-item decreases-loop-
 in_time-requires c κs = search rules
 
 shape_of-built-then-not-in_time : tie.Need-shape_of-built-then-not-in_time invariant-loop-item decreases-loop-item
-shape_of-built-then-not-in_time c = c.before.before.before.before.before.before.before.before.built-1.given ∙ c.before.before.before.before.before.before.before.before.before.before.before.loop-item.invariant.2
+shape_of-built-then-not-in_time c = c.built-1.given ∙ c.loop-item.invariant.2
 
 returns-then-not-in_time : tie.Need-returns-then-not-in_time invariant-loop-item decreases-loop-item
-returns-then-not-in_time c = rw (walk_late c.before.before.before.before.before.before.before.before.before.put_run-here.ensures.1.walk (late_here c) (sym
-    c.before.in_time.ensures ∙ not_true _ c.if-not-in_time.true)) refl
+returns-then-not-in_time c = rw (walk_late c.put_run-here.ensures.1.walk (late_here c) (sym
+    c.in_time.ensures ∙ not_true _ c.if-not-in_time.true)) refl
 
 overflow_add-spot : tie.Need-overflow_add-spot invariant-loop-item decreases-loop-item
 overflow_add-spot c = let h = item_here c in omega (arith, h.says.first_few, h.says.behind_few)
@@ -82,44 +82,44 @@ overflow_add-spot-in-Item : tie.Need-overflow_add-spot-in-Item invariant-loop-it
 overflow_add-spot-in-Item c = search rules
 
 put_if-requires : tie.Need-put_if-requires invariant-loop-item decreases-loop-item
-put_if-requires c κs = let o = c.before.before.before.before.before.before.before.before.before.before.before.before.before.loop-item.invariant in
-    picking-room c.before.before.before.before.before.before.before.before.before.before.before.put_run-here.ensures.1 (item_here c.before) _ o.0
-    (omega (arith, o.1, o.2, c.before.before.before.before.before.before.before.before.before.before.built-1.given))
+put_if-requires c κs = let o = c.loop-item.invariant in
+    picking-room c.put_run-here.ensures.1 (item_here c.before) _ o.0
+    (omega (arith, o.1, o.2, c.built-1.given))
 
 loop-item-smaller : tie.Need-loop-item-smaller invariant-loop-item decreases-loop-item
-loop-item-smaller c = let r = c.before.before.before.before.before.before.before.before.before.before.before.before.before.before.put_run-here.ensures in let h =
+loop-item-smaller c = let r = c.put_run-here.ensures in let h =
     item_here c.before.before.before.before in omega (arith, r.0, h.many, next_fits r.1.walk h)
 
 loop-item-preserved : tie.Need-loop-item-preserved invariant-loop-item decreases-loop-item
-loop-item-preserved c = let o = c.before.before.before.before.before.before.before.before.before.before.before.before.before.before.before.before.loop-item.invariant in
-    let r = c.before.before.before.before.before.before.before.before.before.before.before.before.before.before.put_run-here.ensures in
-    let t = sym c.before.before.before.before.before.before.in_time.ensures ∙ not_false _ c.before.before.before.before.before.if-not-in_time.false in (
+loop-item-preserved c = let o = c.loop-item.invariant in
+    let r = c.put_run-here.ensures in
+    let t = sym c.in_time.ensures ∙ not_false _ c.if-not-in_time.false in (
       o.0,
       o.1,
-      c.before.before.put_if.ensures.long ∙ c.before.before.before.before.before.before.before.before.before.before.before.before.before.built-1.given ∙ o.2,
-      picking-more r.1 (item_here c.before.before.before.before) t c.before.before.put_if.ensures,
+      c.put_if.ensures.long ∙ c.built-1.given ∙ o.2,
+      picking-more r.1 (item_here c.before.before.before.before) t c.put_if.ensures,
     )
 
 enum_told-1 : tie.Need-enum_told-1 invariant-loop-item decreases-loop-item
 enum_told-1 c = search rules
 
 shape_of-built-in-End : tie.Need-shape_of-built-in-End invariant-loop-item decreases-loop-item
-shape_of-built-in-End c = c.before.before.before.before.before.built-1.given ∙ c.before.before.before.before.before.before.before.before.loop-item.invariant.2
+shape_of-built-in-End c = c.built-1.given ∙ c.loop-item.invariant.2
 
 returns-in-End : tie.Need-returns-in-End invariant-loop-item decreases-loop-item
-returns-in-End c = picking_over c.before.before.before.before.before.before.put_run-here.ensures.1
-    c.before.before.before.before.before.before.before.before.loop-item.invariant.0 (ends_there _ (sym c.before.before.piece_at.ensures ∙ c.enum_told-1.given.1))
+returns-in-End c = picking_over c.put_run-here.ensures.1
+    c.loop-item.invariant.0 (ends_there _ (sym c.piece_at.ensures ∙ c.in-End.is))
 
 enum_told-in-Wrong : tie.Need-enum_told-in-Wrong invariant-loop-item decreases-loop-item
 enum_told-in-Wrong c = search rules
 
 shape_of-built-in-Wrong : tie.Need-shape_of-built-in-Wrong invariant-loop-item decreases-loop-item
-shape_of-built-in-Wrong c = c.before.before.before.before.before.built-1.given ∙ c.before.before.before.before.before.before.before.before.loop-item.invariant.2
+shape_of-built-in-Wrong c = c.built-1.given ∙ c.loop-item.invariant.2
 
 returns-in-Wrong : tie.Need-returns-in-Wrong invariant-loop-item decreases-loop-item
-returns-in-Wrong c = rw (walk-wrong on_no_plan c.before.before.before.before.before.before.before.before.before.before.before.before.before.args.log.now
-    c.before.before.before.before.before.before.put_run-here.ensures.1.walk (wrong_there _ (sym
-    c.before.before.piece_at.ensures ∙ c.enum_told-in-Wrong-1.given.1))) refl
+returns-in-Wrong c = rw (walk-wrong on_no_plan c.args.log.now
+    c.put_run-here.ensures.1.walk (wrong_there _ (sym
+    c.piece_at.ensures ∙ c.in-Wrong.is))) refl
 
 pub put_items_spec : {M : Type 1} → statement M
 put_items_spec =

@@ -12,7 +12,7 @@ use Rattle.log_put.proofs.put_packed.Lts as lts
 use Rattle.log_write.proofs.Pen.put_in.Reads as put-in-reads
 
 put_in-first-requires : tie.Need-put_in-first-requires
-put_in-first-requires c κs = let f = c.before.before.requires.1 in (omega (arith, c.before.before.requires.0), omega (arith, f.first_few), f.first_low, omega (arith, c.before.before.requires.2))
+put_in-first-requires c κs = let f = c.requires.1 in (omega (arith, c.requires.0), omega (arith, f.first_few), f.first_low, omega (arith, c.requires.2))
 
 shape_of-built-then-item-eq0 : tie.Need-shape_of-built-then-item-eq0
 shape_of-built-then-item-eq0 c = search rules
@@ -35,7 +35,7 @@ put_in-requires c κs =
         arith,
         s.requires.2,
         put_long s.args.pen s.args.item.first
-            s.args.item.first_bits (omega (arith, f.first_few)) f.first_low s.args.built-1.now,
+            s.args.item.first_bits (omega (arith, f.first_few)) f.first_low s.args.built.now,
         ap length p.put_in-first.ensures.1,
       )),
     )
@@ -47,7 +47,7 @@ returns : tie.Need-returns
 returns c =
     let p = c.before.before.before.before.before.before.before.before in
     let s = p.before.before.before in
-    let q = c.before.before.put_in.ensures in
+    let q = c.put_in.ensures in
     packed_two s.args.item s.requires.1 _ s.args.pen p.put_in-first.ensures.0 p.put_in-first.ensures.1 q.0 q.1
 
 pub put_packed_spec : {M : Type 1} → statement M

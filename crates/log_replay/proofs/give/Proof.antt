@@ -15,16 +15,16 @@ abbrev close_of : tie.After-fits_in → tie.After-close-bytes
 close_of c = c.before.before.before
 
 judged : (c : tie.After-fits_in) → let bytes = (close_of c).close-bytes.result in
-    (leb bytes 32768 && leb bytes (length (close_of c).before.before.before.before.args.out-1.now)) ≡ c.fits_in.result
+    (leb bytes 32768 && leb bytes (length (close_of c).args.out.now)) ≡ c.fits_in.result
 judged c = sym c.fits_in.ensures
 
 -- where it fits, there is room for it everywhere
-room : (c : tie.Else-not-fits_in) → let start = c.before.before.before.before.before.before.before.before in let bytes = c.before.before.before.before.close-bytes.result in
-    (bytes ≤ length start.args.out-1.now) × (bytes + 7 ≤ length start.args.built-1.now)
+room : (c : tie.Else-not-fits_in) → let start = c.before.before.before.before.before.before.before.before in let bytes = c.close-bytes.result in
+    (bytes ≤ length start.args.out.now) × (bytes + 7 ≤ length start.args.built.now)
 room c =
     let start = c.before.before.before.before.before.before.before.before in
-    enough c.before.before.before.before.close-bytes.result (length start.args.out-1.now) (length start.args.built-1.now)
-    (judged c.before ∙ not_false c.before.fits_in.result c.if-not-fits_in.false)
+    enough c.close-bytes.result (length start.args.out.now) (length start.args.built.now)
+    (judged c.before ∙ not_false c.fits_in.result c.if-not-fits_in.false)
     start.requires.1
 
 close-bytes-requires : tie.Need-close-bytes-requires
@@ -43,15 +43,15 @@ returns-then-not-fits_in : tie.Need-returns-then-not-fits_in
 returns-then-not-fits_in c =
     let fits = c.before.before in
     let close = close_of fits in
-    let a = close.before.before.before.before.args in
+    let a = close.args in
     λ s e.
     gives_short s a.built-1.now a.level a.pen e close.close-bytes.result close.close-bytes.ensures.0 a.out-1.now _
-    (judged fits ∙ not_true fits.fits_in.result c.before.if-not-fits_in.true) c.deny.ensures
+    (judged fits ∙ not_true fits.fits_in.result c.if-not-fits_in.true) c.deny.ensures
 
 hand_over-requires : tie.Need-hand_over-requires
 hand_over-requires c κs =
     let test = c.before.before in
-    ((room test).0, omega (arith, c.before.before.before.before.before.built-1.given, (room test).1))
+    ((room test).0, omega (arith, c.built-1.given, (room test).1))
 
 shape_of-built : tie.Need-shape_of-built
 shape_of-built c = search rules
@@ -65,7 +65,7 @@ returns c =
     let test = hand.before.before.before in
     let fits = test.before in
     let close = close_of fits in
-    let a = close.before.before.before.before.args in
+    let a = close.args in
     λ s e.
     gives_whole s a.built-1.now a.level a.pen e close.close-bytes.result close.close-bytes.ensures.0 a.out-1.now _ _ _
     (judged fits ∙ not_false fits.fits_in.result test.if-not-fits_in.false) (room test).1 close.close-bytes.ensures.1 hand.hand_over.ensures

@@ -19,7 +19,7 @@ shape_of-out : tie.Need-shape_of-out
 shape_of-out c = search rules
 
 returns : tie.Need-returns
-returns c = (refl, c.before.before.before.before.before.copy.ensures)
+returns c = (refl, c.copy.ensures)
 
 pub hand_over_spec : {M : Type 1} → statement M
 hand_over_spec = tie.close (tie.spec copy-requires overflow_cast-result overflow_cast-result-2 overflow_cast-result-3 shape_of-out returns)

@@ -18,9 +18,9 @@ enum_told-1 c = search rules
 replay_sized-requires : tie.Need-replay_sized-requires
 replay_sized-requires c κs =
     let verdict = c.before.before.before in
-    let a = verdict.before.before.before.before.args in
+    let a = verdict.args in
     ready_of a.log.now a.events.now a.capacity a.slots
-    (may_none (refused_by a.events.now a.capacity a.slots (parsed on_no_plan a.log.now)) (sym c.before.enum_told-1.given.1 ∙ verdict.refused_by.ensures))
+    (may_none (refused_by a.events.now a.capacity a.slots (parsed on_no_plan a.log.now)) (sym c.in-May.is ∙ verdict.refused_by.ensures))
 
 enum_known-number : tie.Need-enum_known-number
 enum_known-number c = search rules
@@ -32,14 +32,14 @@ shape_of-out : tie.Need-shape_of-out
 shape_of-out c = search rules
 
 returns-in-May : tie.Need-returns-in-May
-returns-in-May c = c.before.before.replay_sized.ensures
+returns-in-May c = c.replay_sized.ensures
 
 returns-in-Not : tie.Need-returns-in-Not
 returns-in-Not c =
     let verdict = c.before.before.before.before in
-    let a = verdict.before.before.before.before.args in
+    let a = verdict.args in
     let by = refused_by a.events.now a.capacity a.slots (parsed on_no_plan a.log.now) in
-    let told : by ≡ found _ _ = not_found by _ _ (sym c.before.before.number-1.given.1 ∙ verdict.refused_by.ensures) in
+    let told : by ≡ found _ _ = not_found by _ _ (sym c.in-Not.is ∙ verdict.refused_by.ensures) in
     rw (replayed_refused a.log.now a.events.now a.capacity a.slots (length a.out-1.now) _ _ told)
     (c.deny.ensures, refl)
 

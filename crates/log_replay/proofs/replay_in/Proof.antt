@@ -13,7 +13,7 @@ run-state-requires c κs = search rules
 give-requires : tie.Need-give-requires
 give-requires c κs =
     let run = c.before.before.before.before in
-    (run.run-state.ensures.1, enough_still _ _ _ c.before.before.before.built-1.given run.before.before.before.before.before.before.requires.1)
+    (run.run-state.ensures.1, enough_still _ _ _ c.built-1.given run.requires.1)
 
 shape_of-out : tie.Need-shape_of-out
 shape_of-out c = search rules

@@ -47,12 +47,12 @@ loop-i-preserved c =
     let start = o.before.before.before.before.before in
     let a = start.args in (
       omega arith,
-      c.before.built-1.given ∙ o.loop-i.invariant.1,
+      c.built-1.given ∙ o.loop-i.invariant.1,
       running_more a.log.now a.events.now a.capacity a.slots start.requires o.loop-i.invariant.2 _ _ test.loop-i-test.true turn.turn-state.ensures,
     )
 
 shape_of-built : tie.Need-shape_of-built invariant-loop-i decreases-loop-i
-shape_of-built c = c.before.loop-i.invariant.1
+shape_of-built c = c.loop-i.invariant.1
 
 returns : tie.Need-returns invariant-loop-i decreases-loop-i
 returns c =

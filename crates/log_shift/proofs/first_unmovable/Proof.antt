@@ -25,22 +25,22 @@ decreases-loop-index times by number index₀ index = number - index
 
 loop-index-init : tie.Need-loop-index-init invariant-loop-index decreases-loop-index
 loop-index-init c =
-    let n = length c.before.args.times.now / 8 in
+    let n = length c.args.times.now / 8 in
     let e : n - 0 ≡ n = omega arith in
     (omega arith, refl, rw e refl)
 
 time_at-requires : tie.Need-time_at-requires invariant-loop-index decreases-loop-index
-time_at-requires c κs = omega (arith, c.loop-index-test.true, c.before.loop-index.invariant.1)
+time_at-requires c κs = omega (arith, c.loop-index-test.true, c.loop-index.invariant.1)
 
 moved_by-requires : tie.Need-moved_by-requires invariant-loop-index decreases-loop-index
-moved_by-requires c κs = rw (to_z-of_z c.before.before.before.before.ranges.by) c.before.before.before.before.requires
+moved_by-requires c κs = rw (to_z-of_z c.ranges.by) c.requires
 
 returns-then-moved_by-ge42949672960000 : tie.Need-returns-then-moved_by-ge42949672960000 invariant-loop-index decreases-loop-index
 returns-then-moved_by-ge42949672960000 c =
-    let o = c.before.before.before.before.loop-index in
-    let f : ℕ → ℕ = λ i. time_at c.before.before.before.before.before.before.args.times.now (8 * i) in
-    let l = rw (c.before.moved_by.ensures, c.before.before.time_at.ensures) at c.if-moved_by-ge42949672960000.true in
-    rw (to_z-of_z c.before.before.before.before.before.before.ranges.by) at (sym (o.invariant.2 ∙ row_hit _ f o.index _ c.before.before.before.loop-index-test.true l))
+    let o = c.loop-index in
+    let f : ℕ → ℕ = λ i. time_at c.args.times.now (8 * i) in
+    let l = rw (c.moved_by.ensures, c.time_at.ensures) at c.if-moved_by-ge42949672960000.true in
+    rw (to_z-of_z c.ranges.by) at (sym (o.invariant.2 ∙ row_hit _ f o.index _ c.loop-index-test.true l))
 
 overflow_add-index : tie.Need-overflow_add-index invariant-loop-index decreases-loop-index
 overflow_add-index c = search rules
@@ -50,16 +50,16 @@ loop-index-smaller c = search rules
 
 loop-index-preserved : tie.Need-loop-index-preserved invariant-loop-index decreases-loop-index
 loop-index-preserved c =
-    let o = c.before.before.before.before.loop-index in
-    let f : ℕ → ℕ = λ i. time_at c.before.before.before.before.before.before.args.times.now (8 * i) in
-    let l = rw (c.before.moved_by.ensures, c.before.before.time_at.ensures) at c.if-moved_by-ge42949672960000.false in
-    (omega arith, o.invariant.1, o.invariant.2 ∙ row_miss _ f o.index _ c.before.before.before.loop-index-test.true l)
+    let o = c.loop-index in
+    let f : ℕ → ℕ = λ i. time_at c.args.times.now (8 * i) in
+    let l = rw (c.moved_by.ensures, c.time_at.ensures) at c.if-moved_by-ge42949672960000.false in
+    (omega arith, o.invariant.1, o.invariant.2 ∙ row_miss _ f o.index _ c.loop-index-test.true l)
 
 returns : tie.Need-returns invariant-loop-index decreases-loop-index
 returns c =
-    let o = c.before.loop-index in
-    let f : ℕ → ℕ = λ i. time_at c.before.before.before.args.times.now (8 * i) in
-    rw (to_z-of_z c.before.before.before.ranges.by) at (sym (o.invariant.2 ∙ row_end _ f o.index _ c.loop-index-test.false))
+    let o = c.loop-index in
+    let f : ℕ → ℕ = λ i. time_at c.args.times.now (8 * i) in
+    rw (to_z-of_z c.ranges.by) at (sym (o.invariant.2 ∙ row_end _ f o.index _ c.loop-index-test.false))
 
 pub first_unmovable_spec : {M : Type 1} → statement M
 first_unmovable_spec =

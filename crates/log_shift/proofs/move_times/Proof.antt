@@ -43,29 +43,29 @@ abbrev by : AtLoop → ℤ
 by c = to_z w64 (of_z w64 (start c).args.by)
 
 abbrev row : AtLoop → List ℕ
-row c = (start c).args.times-1.now
+row c = (start c).args.times.now
 
 -- at an entry
 abbrev InLoop : Type 0
 InLoop = tie.In-loop-index invariant-loop-index decreases-loop-index
 
 abbrev at : InLoop → ℕ
-at c = 8 * c.before.loop-index.index
+at c = 8 * c.loop-index.index
 
-within : (c : InLoop) → c.before.loop-index.index < length (row c.before) / 8
-within c = omega (arith, c.loop-index-test.true, c.before.loop-index.invariant.1)
+within : (c : InLoop) → c.loop-index.index < length (row c.before) / 8
+within c = omega (arith, c.loop-index-test.true, c.loop-index.invariant.1)
 
-room : (c : InLoop) → at c + 8 ≤ length c.before.loop-index.times-1
-room c = omega (arith, within c, front_long c.before.loop-index.invariant.3)
+room : (c : InLoop) → at c + 8 ≤ length c.loop-index.times-1
+room c = omega (arith, within c, front_long c.loop-index.invariant.3)
 
 eight : (c : InLoop) → at c + 8 - at c ≡ 8
 eight c = omega arith
 
 abbrev old : InLoop → List ℕ
-old c = take (at c + 8 - at c) (drop (at c) c.before.loop-index.times-1)
+old c = take (at c + 8 - at c) (drop (at c) c.loop-index.times-1)
 
 old_long : (c : InLoop) → length (old c) ≡ 8
-old_long c = rw (eight c) (length-take-le 8 (drop (at c) c.before.loop-index.times-1) (rw length-drop (omega (arith, room c))))
+old_long c = rw (eight c) (length-take-le 8 (drop (at c) c.loop-index.times-1) (rw length-drop (omega (arith, room c))))
 
 -- it is moved
 abbrev in_loop : tie.After-moved_by invariant-loop-index decreases-loop-index → InLoop
@@ -75,7 +75,7 @@ in_loop c = c.before.before.before
 
 loop-index-init : tie.Need-loop-index-init invariant-loop-index decreases-loop-index
 unfolding flat_map
-loop-index-init c = (omega arith, refl, rw (to_z-of_z c.before.ranges.by) c.before.requires.1, front_none _)
+loop-index-init c = (omega arith, refl, rw (to_z-of_z c.ranges.by) c.requires.1, front_none _)
 
 overflow_mul-start : tie.Need-overflow_mul-start invariant-loop-index decreases-loop-index
 overflow_mul-start c = search rules
@@ -87,7 +87,7 @@ time_at-requires : tie.Need-time_at-requires invariant-loop-index decreases-loop
 time_at-requires c κs = room c.before
 
 moved_by-requires : tie.Need-moved_by-requires invariant-loop-index decreases-loop-index
-moved_by-requires c κs = let s = start c.before.before.before in rw (to_z-of_z s.fits.by) s.pre.0
+moved_by-requires c κs = let s = start c.before.before.before in rw (to_z-of_z s.fits.by) s.requires.0
 
 slice_bounds-put_times-end : tie.Need-slice_bounds-put_times-end invariant-loop-index decreases-loop-index
 slice_bounds-put_times-end c = search rules
@@ -117,16 +117,16 @@ loop-index-preserved c =
     let i = in_loop m in
     let l = i.before in
     let o = l.loop-index in
-    let time = rw (m.before.time_at.ensures, entry_kept o.inv.3) at m.moved_by.ensures in
+    let time = rw (m.time_at.ensures, entry_kept o.invariant.3) at m.moved_by.ensures in
     let bytes = one_written m.moved_by.result (old i) _ (old_long i) p.put_times.ensures in (
       omega arith,
-      o.inv.1,
-      o.inv.2,
-      row_more (by l) (row l) o.times-1 _ o.index (at i + 8 - at i) _ o.inv.2 o.inv.3 (within i) (eight i) time bytes,
+      o.invariant.1,
+      o.invariant.2,
+      row_more (by l) (row l) o.times-1 _ o.index (at i + 8 - at i) _ o.invariant.2 o.invariant.3 (within i) (eight i) time bytes,
     )
 
 shape_of-times : tie.Need-shape_of-times invariant-loop-index decreases-loop-index
-shape_of-times c = front_long c.before.loop-index.invariant.3
+shape_of-times c = front_long c.loop-index.invariant.3
 
 returns : tie.Need-returns invariant-loop-index decreases-loop-index
 returns c =

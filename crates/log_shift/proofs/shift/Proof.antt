@@ -17,7 +17,7 @@ in_limits-requires : tie.Need-in_limits-requires
 in_limits-requires c κs = search rules
 
 shift_moved-requires : tie.Need-shift_moved-requires
-shift_moved-requires c κs = rw (to_z-of_z c.before.before.before.before.before.before.before.ranges.by) (sym (rw (to_z-of_z c.before.before.before.before.before.before.before.ranges.by) at c.before.before.before.in_limits.ensures) ∙ c.before.before.if-in_limits.true)
+shift_moved-requires c κs = rw (to_z-of_z c.ranges.by) (sym (rw (to_z-of_z c.ranges.by) at c.in_limits.ensures) ∙ c.if-in_limits.true)
 
 shape_of-times-then-in_limits : tie.Need-shape_of-times-then-in_limits
 shape_of-times-then-in_limits c = search rules
@@ -26,7 +26,7 @@ shape_of-out-then-in_limits : tie.Need-shape_of-out-then-in_limits
 shape_of-out-then-in_limits c = search rules
 
 returns-then-in_limits : tie.Need-returns-then-in_limits
-returns-then-in_limits c = rw (to_z-of_z c.before.before.before.before.before.before.before.before.before.before.before.before.ranges.by) at c.before.before.before.before.shift_moved.ensures
+returns-then-in_limits c = rw (to_z-of_z c.ranges.by) at c.shift_moved.ensures
 
 judged-requires : tie.Need-judged-requires
 judged-requires c κs = search rules
@@ -44,13 +44,13 @@ refusal-requires-in-Fault : tie.Need-refusal-requires-in-Fault
 refusal-requires-in-Fault c κs = search rules
 
 returns-in-All : tie.Need-returns-in-All
-returns-in-All c = never_all (parsed on_no_plan c.before.before.before.before.before.before.before.before.before.args.log.now) 0 _ _ c.before.before.before.judged.ensures c.before.enum_told-1.given.1
+returns-in-All c = never_all (parsed on_no_plan c.args.log.now) 0 _ _ c.judged.ensures c.in-All.is
 
 returns-in-Fault : tie.Need-returns-in-Fault
 returns-in-Fault c =
-    let a = c.before.before.before.before.before.before.before.before.before.before.args in
-    let l = sym (rw (to_z-of_z c.before.before.before.before.before.before.before.before.before.before.ranges.by) at c.before.before.before.before.before.before.in_limits.ensures) ∙ c.before.before.before.before.before.if-in_limits.false in
-    beyond_limits a.log.now _ a.by _ _ _ _ _ _ _ l c.before.before.before.before.judged.ensures c.before.before.number-1.given.1 c.refusal-in-Fault.ensures
+    let a = c.args in
+    let l = sym (rw (to_z-of_z c.ranges.by) at c.in_limits.ensures) ∙ c.if-in_limits.false in
+    beyond_limits a.log.now _ a.by _ _ _ _ _ _ _ l c.judged.ensures c.in-Fault.is c.refusal-in-Fault.ensures
 
 pub shift_spec : {M : Type 1} → statement M
 shift_spec =

@@ -16,23 +16,23 @@ use Rattle.log_shift.proofs.shift_put.Reads as shift-put-reads
 
 put_moved-put-requires : tie.Need-put_moved-put-requires
 put_moved-put-requires c κs = (
-  rw (to_z-of_z c.before.before.before.before.before.ranges.by)
-      c.before.before.before.before.before.requires.0,
-  λ h. room_for _ _ c.before.before.before.before.before.requires.1 h,
+  rw (to_z-of_z c.ranges.by)
+      c.requires.0,
+  λ h. room_for _ _ c.requires.1 h,
 )
 
 shift_put-requires : tie.Need-shift_put-requires
-shift_put-requires c κs = let a = c.before.before.before.before.before.before.before.before.before.before.before.args in
-    let s = rw (to_z-of_z c.before.before.before.before.before.before.before.before.before.before.before.ranges.by) at
-    c.before.before.before.before.before.put_moved-put.ensures in (
-      rw (to_z-of_z c.before.before.before.before.before.before.before.before.before.before.before.ranges.by)
-          c.before.before.before.before.before.before.before.before.before.before.before.requires.0,
+shift_put-requires c κs = let a = c.args in
+    let s = rw (to_z-of_z c.ranges.by) at
+    c.put_moved-put.ensures in (
+      rw (to_z-of_z c.ranges.by)
+          c.requires.0,
       put_finishes (moved_row a.by (parsed on_no_plan a.log.now)) (length a.log.now) _ _ _ s
           (λ h. omega (
             arith,
-            c.before.before.before.before.before.before.before.before.before.before.before.requires.1 (omega
-                (arith, h, c.before.before.before.before.built-1.given)),
-            c.before.before.before.before.built-1.given,
+            c.requires.1 (omega
+                (arith, h, c.built-1.given)),
+            c.built-1.given,
           )),
     )
 
@@ -46,11 +46,11 @@ shape_of-built : tie.Need-shape_of-built
 shape_of-built c = search rules
 
 returns : tie.Need-returns
-returns c = let a = c.before.before.before.before.before.before.before.before.before.before.before.before.before.before.before.before.before.before.args in
-    let s = rw (to_z-of_z c.before.before.before.before.before.before.before.before.before.before.before.before.before.before.before.before.before.before.ranges.by) at c.before.before.before.before.before.before.before.before.before.before.before.before.put_moved-put.ensures in
-    let f = rw (to_z-of_z c.before.before.before.before.before.before.before.before.before.before.before.before.before.before.before.before.before.before.ranges.by) at c.before.before.before.before.before.before.shift_put.ensures in
+returns c = let a = c.args in
+    let s = rw (to_z-of_z c.ranges.by) at c.put_moved-put.ensures in
+    let f = rw (to_z-of_z c.ranges.by) at c.shift_put.ensures in
     rw (within_limits a.log.now (times_from a.times-1.now) a.by (length a.out-1.now)
-    c.before.before.before.before.before.before.before.before.before.before.before.before.before.before.before.before.before.before.requires.0)
+    c.requires.0)
     (f (moved_row a.by (parsed on_no_plan a.log.now)) (length a.log.now * 8) s)
 
 pub shift_in_spec : {M : Type 1} → statement M

@@ -12,8 +12,8 @@ slice_bounds-shift_in-end c = search rules
 
 shift_in-requires : tie.Need-shift_in-requires
 shift_in-requires c κs = (
-  rw (to_z-of_z c.before.before.before.before.before.before.before.ranges.by)
-      c.before.before.before.before.before.before.before.requires,
+  rw (to_z-of_z c.ranges.by)
+      c.requires,
   λ h. omega arith,
 )
 
@@ -24,16 +24,16 @@ shape_of-out-then-log-le56 : tie.Need-shape_of-out-then-log-le56
 shape_of-out-then-log-le56 c = search rules
 
 returns-then-log-le56 : tie.Need-returns-then-log-le56
-returns-then-log-le56 c = rw (to_z-of_z c.before.before.before.before.before.before.before.before.before.before.before.before.before.ranges.by) at
-    c.before.before.before.before.before.shift_in.ensures
+returns-then-log-le56 c = rw (to_z-of_z c.ranges.by) at
+    c.shift_in.ensures
 
 slice_bounds-shift_in-end-then-log-le1024 : tie.Need-slice_bounds-shift_in-end-then-log-le1024
 slice_bounds-shift_in-end-then-log-le1024 c = search rules
 
 shift_in-requires-then-log-le1024 : tie.Need-shift_in-requires-then-log-le1024
 shift_in-requires-then-log-le1024 c κs = (
-  rw (to_z-of_z c.before.before.before.before.before.before.before.before.ranges.by)
-      c.before.before.before.before.before.before.before.before.requires,
+  rw (to_z-of_z c.ranges.by)
+      c.requires,
   λ h. omega arith,
 )
 
@@ -44,16 +44,16 @@ shape_of-out-then-log-le1024 : tie.Need-shape_of-out-then-log-le1024
 shape_of-out-then-log-le1024 c = search rules
 
 returns-then-log-le1024 : tie.Need-returns-then-log-le1024
-returns-then-log-le1024 c = rw (to_z-of_z c.before.before.before.before.before.before.before.before.before.before.before.before.before.before.ranges.by) at
-    c.before.before.before.before.before.shift_in-then-log-le1024.ensures
+returns-then-log-le1024 c = rw (to_z-of_z c.ranges.by) at
+    c.shift_in-then-log-le1024.ensures
 
 slice_bounds-shift_in-end-2 : tie.Need-slice_bounds-shift_in-end-2
 slice_bounds-shift_in-end-2 c = search rules
 
 shift_in-requires-2 : tie.Need-shift_in-requires-2
 shift_in-requires-2 c κs = (
-  rw (to_z-of_z c.before.before.before.before.before.before.before.before.ranges.by)
-      c.before.before.before.before.before.before.before.before.requires,
+  rw (to_z-of_z c.ranges.by)
+      c.requires,
   λ h. absurd (omega arith),
 )
 
@@ -64,8 +64,8 @@ shape_of-out : tie.Need-shape_of-out
 shape_of-out c = search rules
 
 returns : tie.Need-returns
-returns c = rw (to_z-of_z c.before.before.before.before.before.before.before.before.before.before.before.before.before.before.ranges.by) at
-    c.before.before.before.before.before.shift_in-2.ensures
+returns c = rw (to_z-of_z c.ranges.by) at
+    c.shift_in-2.ensures
 
 pub shift_moved_spec : {M : Type 1} → statement M
 shift_moved_spec =

@@ -24,7 +24,7 @@ enum_known-put c = search rules
 shift_row-requires : tie.Need-shift_row-requires
 shift_row-requires c κs =
     let s = start (all c) in
-    (rw (to_z-of_z s.fits.by) s.pre.0, subst (λ (q : Put). Finishable q (length s.args.built-1.now)) (all c).put-1.given.1 s.pre.1)
+    (rw (to_z-of_z s.fits.by) s.requires.0, subst (λ (q : Put). Finishable q (length s.args.built.now)) (all c).in-All.is s.requires.1)
 
 enum_known-put-in-Fault-1 : tie.Need-enum_known-put-in-Fault-1
 enum_known-put-in-Fault-1 c = search rules
@@ -46,13 +46,13 @@ returns-in-All c =
     let r = c.before.before.before.before.before.before in
     let p = all r.before in
     let shifts = rw (to_z-of_z (start p).fits.by) at r.shift_row.ensures in
-    λ row most stands. put_all (start p).args.by row most _ _ _ _ _ _ _ _ _ stands p.put-1.given.1 shifts
+    λ row most stands. put_all (start p).args.by row most _ _ _ _ _ _ _ _ _ stands p.in-All.is shifts
 
 returns-in-Fault : tie.Need-returns-in-Fault
 returns-in-Fault c =
     let p = c.before.before in
-    let by = p.before.before.before.before.before.args.by in
-    λ row most stands. put_fault by row most _ _ _ _ _ _ _ _ stands p.put-in-Fault-1.given.1 c.refusal.ensures
+    let by = p.args.by in
+    λ row most stands. put_fault by row most _ _ _ _ _ _ _ _ stands p.in-Fault.is c.refusal.ensures
 
 pub shift_put_spec : {M : Type 1} → statement M
 shift_put_spec =

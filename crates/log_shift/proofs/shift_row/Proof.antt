@@ -35,7 +35,7 @@ abbrev by : Looked → ℤ
 by c = (start c).args.by
 
 abbrev times : Looked → List ℕ
-times c = (start c).args.times-1.now
+times c = (start c).args.times.now
 
 first_is : (c : Looked) → c.first_unmovable-late.result ≡ first_unmovable (by c) (times_from (times c))
 first_is c = rw (to_z-of_z (start c).ranges.by) at c.first_unmovable-late.ensures
@@ -62,7 +62,7 @@ abbrev looked : Closed → Looked
 looked c = (movable c).before
 
 -- and is not too long
-room : (c : tie.Else-bytes-gt32768) → (close c.before).close-bytes.result + 7 ≤ length (start (looked c.before)).args.built-1.now
+room : (c : tie.Else-bytes-gt32768) → (close c.before).close-bytes.result + 7 ≤ length (start (looked c.before)).args.built.now
 room c = let k = c.before in (rw (← (close k).close-bytes.ensures.0) at (start (looked k)).requires.1.1) c.if-bytes-gt32768.false
 
 -- it is copied
@@ -124,13 +124,13 @@ returns-then-out-bytes c =
 copy-requires : tie.Need-copy-requires
 copy-requires c κs =
     let e = c.before.before in
-    (e.if-out-bytes.false, omega (arith, room e.before, e.before.before.before.built-1.given))
+    (e.if-out-bytes.false, omega (arith, room e.before, e.built-1.given))
 
 move_times-requires : tie.Need-move_times-requires
 move_times-requires c κs =
     let k = (fits_out c.before.before.before).before.before in
     let s = start (looked k) in
-    (rw (to_z-of_z s.fits.by) s.pre.0, rw (to_z-of_z s.fits.by) (clear (movable k)).1)
+    (rw (to_z-of_z s.fits.by) s.requires.0, rw (to_z-of_z s.fits.by) (clear (movable k)).1)
 
 shape_of-times : tie.Need-shape_of-times
 shape_of-times c = search rules
@@ -152,7 +152,7 @@ returns c =
     let ended = (close k).close-bytes.ensures in
     let moved = rw (to_z-of_z (start l).fits.by) at m.move_times.ensures in
     λ is w.
-    row_all (by l) is _ _ w (times l) (clear (movable k)).0 _ ended.0 _ _ _ _ _ ended.1 e.if-bytes-gt32768.left f.if-out-bytes.left (room e) y.copy.ensures refl moved
+    row_all (by l) is _ _ w (times l) (clear (movable k)).0 _ ended.0 _ _ _ _ _ ended.1 e.if-bytes-gt32768.false f.if-out-bytes.false (room e) y.copy.ensures refl moved
 
 pub shift_row_spec : {M : Type 1} → statement M
 shift_row_spec =

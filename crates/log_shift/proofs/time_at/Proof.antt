@@ -37,13 +37,13 @@ bounds-one-0 c = search rules
 
 returns : tie.Need-returns
 returns c =
-    let a = c.before.before.before.before.before.args in
+    let a = c.args in
     let s = a.times.now in
     let at = 8 * a.index in
     let k = at + 8 - at in
     let e : k ≡ 8 = omega arith in
     let l : length (take k (drop at s)) ≡ 8 = rw e (length-take-le 8 (drop at s) (rw length-drop (omega arith))) in
-    one_read (take k (drop at s)) _ 0 l c.before.times_from.ensures ∙ entry_is s at k e
+    one_read (take k (drop at s)) _ 0 l c.times_from.ensures ∙ entry_is s at k e
 
 pub time_at_spec : {M : Type 1} → statement M
 time_at_spec =

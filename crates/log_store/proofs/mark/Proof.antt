@@ -4,7 +4,7 @@ use Rattle.log_store.proofs.mark.Statement.{statement}
 use Rattle.log_store.proofs.mark.Tie as tie
 
 overflow_cast-result : tie.Need-overflow_cast-result
-overflow_cast-result c = omega (arith, c.before.requires)
+overflow_cast-result c = omega (arith, c.requires)
 
 returns : tie.Need-returns
 returns c = refl

@@ -8,7 +8,7 @@ use Rattle.log_store.proofs.put.Tie as tie
 
 returns-then-not-stored : tie.Need-returns-then-not-stored
 returns-then-not-stored c =
-    let a = c.before.before.args in
+    let a = c.args in
     puts_none a.level a.item a.built-1.now a.pen a.stored (not_true a.stored c.if-not-stored.true)
 
 put_item-requires : tie.Need-put_item-requires
@@ -21,8 +21,8 @@ returns-then-level-eq0 : tie.Need-returns-then-level-eq0
 returns-then-level-eq0 c =
     let put = c.before.before in
     let test = put.before.before in
-    let a = test.before.before.before.before.args in
-    puts_one a.level a.item a.built-1.now a.pen a.stored _ _ (not_false a.stored test.before.before.if-not-stored.false)
+    let a = test.args in
+    puts_one a.level a.item a.built-1.now a.pen a.stored _ _ (not_false a.stored test.if-not-stored.false)
     (eq-eqb a.level.unmarked 0 test.if-level-eq0.true) put.put_item.ensures
 
 mark-first-requires : tie.Need-mark-first-requires
@@ -35,7 +35,7 @@ put_item-requires-2 : tie.Need-put_item-requires-2
 put_item-requires-2 c κs =
     let put = c.before.before.before in
     let start = put.before.before.before.before.before.before.before in
-    rw put.put_item-marked.ensures.0 (omega (arith, item_few start.args.pen put.before.before.mark-first.result, start.requires.0))
+    rw put.put_item-marked.ensures.0 (omega (arith, item_few start.args.pen put.mark-first.result, start.requires.0))
 
 shape_of-built : tie.Need-shape_of-built
 shape_of-built c = search rules
@@ -46,9 +46,9 @@ returns c =
     let first = put.before.before.before.before in
     let mark = first.before.before in
     let test = mark.before in
-    let a = test.before.before.before.before.args in
+    let a = test.args in
     puts_marked a.level a.item a.built-1.now a.pen a.stored mark.mark-first.result _ _ first.put_item-marked.result _
-    (not_false a.stored test.before.before.if-not-stored.false) (ne_eqb a.level.unmarked 0 test.if-level-eq0.false) mark.mark-first.ensures
+    (not_false a.stored test.if-not-stored.false) (ne_eqb a.level.unmarked 0 test.if-level-eq0.false) mark.mark-first.ensures
     first.put_item-marked.ensures put.put_item-2.ensures
 
 pub put_spec : {M : Type 1} → statement M

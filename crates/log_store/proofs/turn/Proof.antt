@@ -14,7 +14,7 @@ entry c = c.before.before.before.before.before.before
 
 -- no item has more than five words
 few : (c : tie.After-load_of-load) → c.load_of-load.result.words ≤ 5
-few c = rw c.load_of-load.ensures (load_few c.before.before.item-1.given.0.0)
+few c = rw c.load_of-load.ensures (load_few c.in-Has.item)
 
 left-requires : tie.Need-left-requires
 left-requires c κs = search rules
@@ -22,7 +22,7 @@ left-requires c κs = search rules
 returns-then-event-ne0 : tie.Need-returns-then-event-ne0
 returns-then-event-ne0 c =
     let a = (entry c.before).args in
-    turns_left a.log.now a.event a.capacity a.slots a.built-1.now a.state c.left.result c.before.if-event-ne0.true c.left.ensures
+    turns_left a.log.now a.event a.capacity a.slots a.built-1.now a.state c.left.result c.if-event-ne0.true c.left.ensures
 
 item-requires : tie.Need-item-requires
 item-requires c κs = search rules
@@ -34,10 +34,10 @@ load_of-load-requires : tie.Need-load_of-load-requires
 load_of-load-requires c κs = search rules
 
 fits-stored-requires : tie.Need-fits-stored-requires
-fits-stored-requires c κs = (few c, c.before.before.before.before.before.before.before.before.before.before.before.requires.1)
+fits-stored-requires c κs = (few c, c.requires.1)
 
 arrived-requires : tie.Need-arrived-requires
-arrived-requires c κs = (few c.before, c.before.before.before.before.before.before.before.before.before.before.before.before.requires.1)
+arrived-requires c κs = (few c.before, c.requires.1)
 
 put-requires : tie.Need-put-requires
 put-requires c κs = search rules
@@ -59,26 +59,26 @@ returns-in-Has c =
     let load = fits.before in
     let found = load.before.before in
     let item = found.before.before in
-    let a = item.before.before.before.before.before.before.before.args in
+    let a = item.args in
     let i = found.item-1.given in
     turns-arrived a.log.now a.event a.capacity a.slots a.built-1.now a.state i.0.0 i.0.1.0 fits.fits2.result arrived.arrived.result
-    _ put.put.result item.before.if-event-ne0.false
+    _ put.put.result item.if-event-ne0.false
     (follows a.log.now a.state.at-1.at-1 item.item.result i.0.0 i.0.1.0 item.item.ensures i.1).next
     (rw (← load.load_of-load.ensures) fits.fits2.ensures) (rw (← load.load_of-load.ensures) arrived.arrived.ensures) put.put.ensures
 
 returns-in-End : tie.Need-returns-in-End
 returns-in-End c =
     let item = c.before.before in
-    let a = item.before.before.before.before.before.before.before.args in
-    turns_over a.log.now a.event a.capacity a.slots a.built-1.now a.state item.before.if-event-ne0.false
-    (found_end (next_at (bytes_bits a.log.now) a.state.at-1.at-1) (sym item.item.ensures ∙ c.enum_told-1.given.1))
+    let a = item.args in
+    turns_over a.log.now a.event a.capacity a.slots a.built-1.now a.state item.if-event-ne0.false
+    (found_end (next_at (bytes_bits a.log.now) a.state.at-1.at-1) (sym item.item.ensures ∙ c.in-End.is))
 
 returns-in-Wrong : tie.Need-returns-in-Wrong
 returns-in-Wrong c =
     let item = c.before.before in
-    let a = item.before.before.before.before.before.before.before.args in
-    turns_wrong a.log.now a.event a.capacity a.slots a.built-1.now a.state item.before.if-event-ne0.false
-    (found_wrong (next_at (bytes_bits a.log.now) a.state.at-1.at-1) (sym item.item.ensures ∙ c.enum_told-in-Wrong-1.given.1))
+    let a = item.args in
+    turns_wrong a.log.now a.event a.capacity a.slots a.built-1.now a.state item.if-event-ne0.false
+    (found_wrong (next_at (bytes_bits a.log.now) a.state.at-1.at-1) (sym item.item.ensures ∙ c.in-Wrong.is))
 
 pub turn_spec : {M : Type 1} → statement M
 turn_spec =

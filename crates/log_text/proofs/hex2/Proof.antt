@@ -24,7 +24,7 @@ returns c =
     let low = c.before.before in
     let high = low.before.before.before.before.before in
     adds_same (adds_then high.put-next.ensures low.put.ensures)
-    (rw (high.before.digit.ensures, low.before.digit-2.ensures, hex_two high.before.before.before.before.args.n))
+    (rw (high.digit.ensures, low.digit-2.ensures, hex_two high.args.n))
 
 pub hex2_spec : {M : Type 1} → statement M
 hex2_spec = tie.close (tie.spec digit-requires put-next-requires digit-requires-2 put-requires shape_of-out returns)

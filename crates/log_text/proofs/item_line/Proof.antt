@@ -64,49 +64,49 @@ shape_of-out-in-Command : tie.Need-shape_of-out-in-Command
 shape_of-out-in-Command c = search rules
 
 returns-in-Command : tie.Need-returns-in-Command
-returns-in-Command c = rw c.before.before.before.before.before.item-1.given.1 c.before.before.command_line.ensures
+returns-in-Command c = rw c.in-Command.is c.command_line.ensures
 
 shape_of-out-in-Status : tie.Need-shape_of-out-in-Status
 shape_of-out-in-Status c = search rules
 
 returns-in-Status : tie.Need-returns-in-Status
-returns-in-Status c = rw c.before.before.before.before.before.item-in-Status-1.given.1 c.before.before.status_line.ensures
+returns-in-Status c = rw c.in-Status.is c.status_line.ensures
 
 shape_of-out-in-Data : tie.Need-shape_of-out-in-Data
 shape_of-out-in-Data c = search rules
 
 returns-in-Data : tie.Need-returns-in-Data
-returns-in-Data c = rw c.before.before.before.before.before.item-in-Data-1.given.1 c.before.before.data_line.ensures
+returns-in-Data c = rw c.in-Data.is c.data_line.ensures
 
 shape_of-out-in-BusError : tie.Need-shape_of-out-in-BusError
 shape_of-out-in-BusError c = search rules
 
 returns-in-BusError : tie.Need-returns-in-BusError
-returns-in-BusError c = rw c.before.before.before.before.before.item-in-BusError-1.given.1 c.before.before.error_line.ensures
+returns-in-BusError c = rw c.in-BusError.is c.error_line.ensures
 
 shape_of-out-in-Arinc : tie.Need-shape_of-out-in-Arinc
 shape_of-out-in-Arinc c = search rules
 
 returns-in-Arinc : tie.Need-returns-in-Arinc
-returns-in-Arinc c = rw c.before.before.before.before.before.item-in-Arinc-1.given.1 c.before.before.arinc_line.ensures
+returns-in-Arinc c = rw c.in-Arinc.is c.arinc_line.ensures
 
 shape_of-out-in-Notice : tie.Need-shape_of-out-in-Notice
 shape_of-out-in-Notice c = search rules
 
 returns-in-Notice : tie.Need-returns-in-Notice
-returns-in-Notice c = rw c.before.before.before.before.before.item-in-Notice-1.given.1 c.before.before.notice_line.ensures
+returns-in-Notice c = rw c.in-Notice.is c.notice_line.ensures
 
 shape_of-out-in-User : tie.Need-shape_of-out-in-User
 shape_of-out-in-User c = search rules
 
 returns-in-User : tie.Need-returns-in-User
-returns-in-User c = rw c.before.before.before.before.before.item-in-User-1.given.1 c.before.before.user_line.ensures
+returns-in-User c = rw c.in-User.is c.user_line.ensures
 
 shape_of-out-in-Overflow : tie.Need-shape_of-out-in-Overflow
 shape_of-out-in-Overflow c = search rules
 
 returns-in-Overflow : tie.Need-returns-in-Overflow
-returns-in-Overflow c = rw c.before.before.before.before.before.item-in-Overflow-1.given.1 c.before.before.overflow_line.ensures
+returns-in-Overflow c = rw c.in-Overflow.is c.overflow_line.ensures
 
 pub item_line_spec : {M : Type 1} → statement M
 item_line_spec =

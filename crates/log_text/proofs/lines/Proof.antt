@@ -39,7 +39,7 @@ Found = tie.In-Has-2 invariant-loop-item decreases-loop-item
 abbrev loop : Found → AtLoop
 loop c = c.before.before.before
 
-after : (c : Found) → Follows (start (loop c)).args.log.now (loop c).loop-item.place.at c.item-1.given.0.0 c.item-1.given.0.1.0.at
+after : (c : Found) → Follows (start (loop c)).args.log.now (loop c).loop-item.place.at c.in-Has.item c.in-Has.next.at
 after c =
     let i = c.before.before in
     let l = loop c in
@@ -49,7 +49,7 @@ after c =
 -- ---- the needs
 
 loop-item-init : tie.Need-loop-item-init invariant-loop-item decreases-loop-item
-loop-item-init c = let s = c.before.before in doing_start s.args.log.now s.args.out-1.now s.requires.0.1 s.requires.1
+loop-item-init c = let s = c.before.before in doing_start s.args.log.now s.args.out.now s.requires.0.1 s.requires.1
 
 item-requires : tie.Need-item-requires invariant-loop-item decreases-loop-item
 item-requires c κs = omega arith
@@ -60,7 +60,7 @@ enum_known-item c = search rules
 item_line-at-requires : tie.Need-item_line-at-requires invariant-loop-item decreases-loop-item
 item_line-at-requires c κs =
     let l = loop c.before.before in
-    doing_room l.loop-item.inv (start l).pre.0.2 (start l).pre.0.0
+    doing_room l.loop-item.invariant (start l).requires.0.2 (start l).requires.0.0
 
 loop-item-smaller : tie.Need-loop-item-smaller invariant-loop-item decreases-loop-item
 loop-item-smaller c = let f = after c.before.before.before.before.before in omega (arith, f.far, f.fits)
@@ -69,29 +69,29 @@ loop-item-preserved : tie.Need-loop-item-preserved invariant-loop-item decreases
 loop-item-preserved c =
     let p = c.before.before in
     let f = p.before.before.before in
-    doing_more f.item-1.given.0.0 _ (loop f).loop-item.invariant (after f).next p.item_line-at.ensures
+    doing_more f.in-Has.item _ (loop f).loop-item.invariant (after f).next p.item_line-at.ensures
 
 enum_told-1 : tie.Need-enum_told-1 invariant-loop-item decreases-loop-item
 enum_told-1 c = search rules
 
 shape_of-out-in-End : tie.Need-shape_of-out-in-End invariant-loop-item decreases-loop-item
-shape_of-out-in-End c = adds_long c.before.before.before.loop-item.invariant.adds
+shape_of-out-in-End c = adds_long c.loop-item.invariant.adds
 
 returns-in-End : tie.Need-returns-in-End invariant-loop-item decreases-loop-item
 returns-in-End c =
     let i = c.before.before in
-    doing_over i.before.loop-item.invariant (found_end (here i.before) (sym i.item.ensures ∙ c.enum_told-1.given.1))
+    doing_over i.loop-item.invariant (found_end (here i.before) (sym i.item.ensures ∙ c.in-End.is))
 
 enum_told-in-Wrong : tie.Need-enum_told-in-Wrong invariant-loop-item decreases-loop-item
 enum_told-in-Wrong c = search rules
 
 shape_of-out-in-Wrong : tie.Need-shape_of-out-in-Wrong invariant-loop-item decreases-loop-item
-shape_of-out-in-Wrong c = adds_long c.before.before.before.loop-item.invariant.adds
+shape_of-out-in-Wrong c = adds_long c.loop-item.invariant.adds
 
 returns-in-Wrong : tie.Need-returns-in-Wrong invariant-loop-item decreases-loop-item
 returns-in-Wrong c =
     let i = c.before.before in
-    absurd (doing_never i.before.loop-item.invariant (found_wrong (here i.before) (sym i.item.ensures ∙ c.enum_told-in-Wrong-1.given.1)))
+    absurd (doing_never i.loop-item.invariant (found_wrong (here i.before) (sym i.item.ensures ∙ c.in-Wrong.is)))
 
 pub lines_spec : {M : Type 1} → statement M
 lines_spec =

@@ -32,14 +32,14 @@ tally c = c.before.before.before
 
 -- ---- what was found, and that it is short
 
-parses : (c : tie.In-Items-2) → (parsed on_no_plan (log (parse c)) ≡ items (found c)) × (c.tally-1.given.0.0 ≡ length (found c))
+parses : (c : tie.In-Items-2) → (parsed on_no_plan (log (parse c)) ≡ items (found c)) × (c.in-Items.items ≡ length (found c))
 parses c =
     let p = parse c in
     let g = c.tally-1.given in
     tallied (log p) p.parse-tally.result g.0.0 g.0.1.0 p.parse-tally.ensures g.1
 
 sizes : (c : tie.In-Items-2) → (length (log (parse c)) ≤ 32768) × (length (flat_map item_line (found c)) ≤ 262144)
-sizes c = good (log (parse c)) (found c) (λ i. omega (arith, (parse c).before.shared_slice_known-1.given i)) (parses c).0
+sizes c = good (log (parse c)) (found c) (λ i. omega (arith, (parse c).shared_slice_known-1.given i)) (parses c).0
 
 -- ---- the needs
 
@@ -73,7 +73,7 @@ returns-in-Items c =
     let e = c.before.before in
     let p = e.before.before.before.before in
     let t = tally p in
-    adds_same (adds_then p.lines-at.ensures e.end_line.ensures) (listing_items (log (parse t)) t.tally-1.given.0.0 (parses t).0 (parses t).1)
+    adds_same (adds_then p.lines-at.ensures e.end_line.ensures) (listing_items (log (parse t)) t.in-Items.items (parses t).0 (parses t).1)
 
 shape_of-out-in-Fault : tie.Need-shape_of-out-in-Fault
 shape_of-out-in-Fault c = search rules

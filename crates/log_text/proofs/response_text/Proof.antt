@@ -50,13 +50,13 @@ overflow_cast-micro c = search rules
 number-requires : tie.Need-number-requires
 number-requires c κs =
     let p = c.before.before.before in
-    let n = (response (first p)).response-1.given.0.0 in
+    let n = (response (first p)).in-After.micro in
     short_room (length (decimal n)) (so_far_2 p) (omega (arith, decimal_few n))
 
 returns-in-Untimed : tie.Need-returns-in-Untimed
 returns-in-Untimed c =
-    let a = c.before.before.before.args in
-    rw c.enum_told-1.given.1 (adds_none a.out-1.now a.at (omega arith))
+    let a = c.args in
+    rw c.in-Untimed.is (adds_none a.out-1.now a.at (omega arith))
 
 shape_of-out : tie.Need-shape_of-out
 shape_of-out c = search rules
@@ -66,7 +66,7 @@ unfolding text list
 returns-in-After c =
     let n = c.before.before in
     let p = n.before.before.before.before in
-    rw (response (first p)).response-1.given.1 (adds_then (so_far_2 p).adds n.number.ensures)
+    rw (response (first p)).in-After.is (adds_then (so_far_2 p).adds n.number.ensures)
 
 pub response_text_spec : {M : Type 1} → statement M
 response_text_spec =

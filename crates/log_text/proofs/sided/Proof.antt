@@ -23,7 +23,7 @@ so_far_1 : (c : tie.After-start-n1) → let a = (start c).args in
 so_far_1 c = let a = (start c).args in named_short a.a a.b a.c a.bus c.start-n1.ensures
 
 so_far_2 : (c : tie.After-two-n2) → let a = (start (first c)).args in
-    Short (named a.a a.b a.c a.bus ++ (c.before.side_letter.result ∷ 32 ∷ [])) a.out-1.now a.at c.two-n2.new.0 c.two-n2.result 27
+    Short (named a.a a.b a.c a.bus ++ (c.side_letter.result ∷ 32 ∷ [])) a.out-1.now a.at c.two-n2.new.0 c.two-n2.result 27
 so_far_2 c = short_then 2 (so_far_1 (first c)) c.two-n2.ensures (omega arith)
 
 -- ---- the needs
@@ -49,7 +49,7 @@ returns c =
     let t = p.before.before.before.before in
     let a = (start (first t)).args in
     adds_same (adds_then (so_far_2 t).adds p.hex4.ensures)
-    (rw (← t.before.side_letter.ensures) (append_assoc (named a.a a.b a.c a.bus) (_ ∷ 32 ∷ []) (hex 4 a.word)))
+    (rw (← t.side_letter.ensures) (append_assoc (named a.a a.b a.c a.bus) (_ ∷ 32 ∷ []) (hex 4 a.word)))
 
 pub sided_spec : {M : Type 1} → statement M
 sided_spec = tie.close (tie.spec start-n1-requires side_letter-requires two-n2-requires hex4-requires shape_of-out returns)

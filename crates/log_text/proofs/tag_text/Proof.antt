@@ -23,12 +23,12 @@ microseconds_of-requires c κs = search rules
 number-requires : tie.Need-number-requires
 number-requires c κs =
     let n = c.microseconds_of.result in
-    short_room (length (decimal n)) (short 4 c.before.before.before.before.four-n1.ensures (omega arith)) (omega (arith, decimal_few n))
+    short_room (length (decimal n)) (short 4 c.four-n1.ensures (omega arith)) (omega (arith, decimal_few n))
 
 returns-in-Untagged : tie.Need-returns-in-Untagged
 returns-in-Untagged c =
-    let a = c.before.before.before.args in
-    rw c.enum_told-1.given.1 (adds_none a.out-1.now a.at (omega arith))
+    let a = c.args in
+    rw c.in-Untagged.is (adds_none a.out-1.now a.at (omega arith))
 
 shape_of-out : tie.Need-shape_of-out
 shape_of-out c = search rules
@@ -38,7 +38,7 @@ unfolding text list
 returns-in-At c =
     let n = c.before.before in
     let f = n.before.before.before.before.before in
-    rw (f.before.before.before.tag-1.given.1, ← n.before.microseconds_of.ensures) (adds_then f.four-n1.ensures n.number.ensures)
+    rw (f.in-At.is, ← n.microseconds_of.ensures) (adds_then f.four-n1.ensures n.number.ensures)
 
 pub tag_text_spec : {M : Type 1} → statement M
 tag_text_spec =

@@ -21,8 +21,8 @@ overflow_shr-result-2 c = search rules
 
 returns : tie.Need-returns
 returns c =
-    let a = c.before.before.args in
-    let q = c.before.before.requires in
+    let a = c.args in
+    let q = c.requires in
     tag_top a.log.now a.at a.bits (tag_ahead a.log.now a.at q.0 c.tag_filled-w.ensures.0) q.2 q.1
 
 pub behind_in_spec : {M : Type 1} → statement M

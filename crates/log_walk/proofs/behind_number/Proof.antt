@@ -29,8 +29,8 @@ overflow_shr-result c = search rules
 
 returns : tie.Need-returns
 returns c =
-    let a = c.before.before.before.args in
-    let q = c.before.before.before.requires in
+    let a = c.args in
+    let q = c.requires in
     sym (window_top (bytes_bits a.log.now) a.at c.window.result a.bits c.window.ensures (omega arith) q.1 (omega (arith, q.0, length_bytes a.log.now)))
 
 pub behind_number_spec : {M : Type 1} → statement M

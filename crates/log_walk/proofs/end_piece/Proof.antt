@@ -10,8 +10,8 @@ use Rattle.log_walk.proofs.end_piece.Lts as lts
 
 returns-then-left-ge12 : tie.Need-returns-then-left-ge12
 returns-then-left-ge12 c =
-    let a = c.before.args in
-    let q = c.before.requires in
+    let a = c.args in
+    let q = c.requires in
     sym (ap piece_of (end_far a.log.now a.at a.left a.w q.0 q.1.0 q.1.2 (omega arith) c.if-left-ge12.true))
 
 overflow_cast-left : tie.Need-overflow_cast-left
@@ -28,15 +28,15 @@ overflow_shr-w c = search rules
 
 returns-then-w-left-eq0 : tie.Need-returns-then-w-left-eq0
 returns-then-w-left-eq0 c =
-    let a = c.before.before.args in
-    let q = c.before.before.requires in
-    sym (ap piece_of (end_clean a.log.now a.at a.left a.w q.0 q.1.0 q.1.2 (omega arith) c.before.if-left-ge12.false q.1.3 c.if-w-left-eq0.true))
+    let a = c.args in
+    let q = c.requires in
+    sym (ap piece_of (end_clean a.log.now a.at a.left a.w q.0 q.1.0 q.1.2 (omega arith) c.if-left-ge12.false q.1.3 c.if-w-left-eq0.true))
 
 returns : tie.Need-returns
 returns c =
-    let a = c.before.before.args in
-    let q = c.before.before.requires in
-    sym (ap piece_of (end-dirty a.log.now a.at a.left a.w q.0 q.1.0 q.1.2 (omega arith) c.before.if-left-ge12.false q.1.3 c.if-w-left-eq0.false))
+    let a = c.args in
+    let q = c.requires in
+    sym (ap piece_of (end-dirty a.log.now a.at a.left a.w q.0 q.1.0 q.1.2 (omega arith) c.if-left-ge12.false q.1.3 c.if-w-left-eq0.false))
 
 pub end_piece_spec : {M : Type 1} → statement M
 end_piece_spec =

@@ -36,10 +36,10 @@ behind_in-requires c κs = search rules
 
 returns : tie.Need-returns
 returns c =
-    let a = c.before.before.before.before.args in
-    let q = c.before.before.before.before.requires in
-    let f = c.before.before.first_bits-first in
-    let b = c.before.behind_bits-behind in
+    let a = c.args in
+    let q = c.requires in
+    let f = c.first_bits-first in
+    let b = c.behind_bits-behind in
     whole_item a.log.now a.at a.w q.0 (omega arith) q.1.0 f.result b.result _ _ q.1.2 q.1.3 f.ensures.0 b.ensures.0
     f.ensures.2 b.ensures.1 refl c.behind_in.ensures
 

@@ -24,10 +24,10 @@ overflow_cast-first c = search rules
 
 returns-then-left-first : tie.Need-returns-then-left-first
 returns-then-left-first c =
-    let a = c.before.before.before.before.args in
-    let q = c.before.before.before.before.requires in
-    let f = c.before.before.first_bits-first in
-    let b = c.before.behind_bits-behind in
+    let a = c.args in
+    let q = c.requires in
+    let f = c.first_bits-first in
+    let b = c.behind_bits-behind in
     sym (item-cut a.log.now a.at a.left a.w q.0 q.1.0 (omega arith) q.1.2 a.kind f.result b.result q.1.3 q.1.4 q.1.5 f.ensures.0 b.ensures.0 c.if-left-first.true)
 
 overflow_sub-result : tie.Need-overflow_sub-result
@@ -50,10 +50,10 @@ behind_number-requires c κs = search rules
 
 returns : tie.Need-returns
 returns c =
-    let a = c.before.before.before.before.before.args in
-    let q = c.before.before.before.before.before.requires in
-    let f = c.before.before.before.first_bits-first in
-    let b = c.before.before.behind_bits-behind in
+    let a = c.args in
+    let q = c.requires in
+    let f = c.first_bits-first in
+    let b = c.behind_bits-behind in
     item-whole a.log.now a.at a.left a.w q.0 q.1.0 (omega arith) q.1.2 a.kind f.result b.result q.1.3 q.1.4 q.1.5 f.ensures.0 b.ensures.0 _ _ f.ensures.2 (omega arith) refl c.behind_number.ensures
 
 pub item_piece_spec : {M : Type 1} → statement M

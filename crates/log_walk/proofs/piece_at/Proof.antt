@@ -21,37 +21,37 @@ overflow_sub-left : tie.Need-overflow_sub-left
 overflow_sub-left c = search rules
 
 returns-then-left-lt4 : tie.Need-returns-then-left-lt4
-returns-then-left-lt4 c = let a = c.before.before.args in sym (ap piece_of (next_past a.log.now a.at (omega arith)))
+returns-then-left-lt4 c = let a = c.args in sym (ap piece_of (next_past a.log.now a.at (omega arith)))
 
 window-w-requires : tie.Need-window-w-requires
 window-w-requires c κs = search rules
 
 end_piece-requires : tie.Need-end_piece-requires
-end_piece-requires c κs = (c.before.window-w.ensures, (omega arith, c.before.before.before.before.requires.1, omega arith, c.if-kind-eq0.true))
+end_piece-requires c κs = (c.window-w.ensures, (omega arith, c.requires.1, omega arith, c.if-kind-eq0.true))
 
 returns-then-kind-eq0 : tie.Need-returns-then-kind-eq0
 returns-then-kind-eq0 c =
-    let a = c.before.before.before.before.before.args in
-    let q = c.before.before.before.before.before.requires in
+    let a = c.args in
+    let q = c.requires in
     let l = length a.log.now * 8 - a.at in
-    c.end_piece.ensures ∙ sym (ap piece_of (next_end a.log.now a.at l c.before.before.window-w.result c.before.before.window-w.ensures (omega arith) (omega arith) (omega arith) c.before.if-kind-eq0.true))
+    c.end_piece.ensures ∙ sym (ap piece_of (next_end a.log.now a.at l c.window-w.result c.window-w.ensures (omega arith) (omega arith) (omega arith) c.if-kind-eq0.true))
 
 returns-then-kind-gt8 : tie.Need-returns-then-kind-gt8
 returns-then-kind-gt8 c =
-    let a = c.before.before.before.before.before.args in
-    let q = c.before.before.before.before.before.requires in
+    let a = c.args in
+    let q = c.requires in
     let l = length a.log.now * 8 - a.at in
-    sym (ap piece_of (next_unknown a.log.now a.at l c.before.before.window-w.result c.before.before.window-w.ensures (omega arith) (omega arith) (omega arith) c.if-kind-gt8.true))
+    sym (ap piece_of (next_unknown a.log.now a.at l c.window-w.result c.window-w.ensures (omega arith) (omega arith) (omega arith) c.if-kind-gt8.true))
 
 item_piece-requires : tie.Need-item_piece-requires
-item_piece-requires c κs = (c.before.before.window-w.ensures, (omega arith, c.before.before.before.before.before.requires.1, omega arith, refl, omega (arith, pos_of _ c.before.if-kind-eq0.false), omega arith))
+item_piece-requires c κs = (c.window-w.ensures, (omega arith, c.requires.1, omega arith, refl, omega (arith, pos_of _ c.if-kind-eq0.false), omega arith))
 
 returns : tie.Need-returns
 returns c =
-    let a = c.before.before.before.before.before.before.args in
-    let q = c.before.before.before.before.before.before.requires in
+    let a = c.args in
+    let q = c.requires in
     let l = length a.log.now * 8 - a.at in
-    c.item_piece.ensures ∙ sym (ap piece_of (next_item a.log.now a.at l c.before.before.before.window-w.result c.before.before.before.window-w.ensures (omega arith) (omega arith) (omega arith) c.before.before.if-kind-eq0.false))
+    c.item_piece.ensures ∙ sym (ap piece_of (next_item a.log.now a.at l c.window-w.result c.window-w.ensures (omega arith) (omega arith) (omega arith) c.if-kind-eq0.false))
 
 pub piece_at_spec : {M : Type 1} → statement M
 piece_at_spec =

@@ -43,7 +43,7 @@ abbrev log : tie.At-loop-kinds invariant-loop-kinds decreases-loop-kinds → Lis
 log c = (entry c).args.log.now
 
 abbrev kinds : tie.At-loop-kinds invariant-loop-kinds decreases-loop-kinds → List Kind
-kinds c = (entry c).args.t1
+kinds c = (entry c).args.kinds
 
 -- where an item was laid: its head, and the turn
 abbrev head : tie.After-lay_item-laid invariant-loop-kinds decreases-loop-kinds → tie.After-head-head invariant-loop-kinds decreases-loop-kinds
@@ -52,8 +52,8 @@ head c = c.before.before.before.before
 abbrev turn : tie.After-head-head invariant-loop-kinds decreases-loop-kinds → tie.At-loop-kinds invariant-loop-kinds decreases-loop-kinds
 turn c = c.before.before
 
-ahead : (c : tie.After-head-head invariant-loop-kinds decreases-loop-kinds) → Ahead (bytes_bits (log (turn c))) (turn c).loop-kinds.at.at 57 0 c.before.filled-from.result
-ahead c = filled_ahead (log (turn c)) (turn c).loop-kinds.at.at c.before.filled-from.ensures.0
+ahead : (c : tie.After-head-head invariant-loop-kinds decreases-loop-kinds) → Ahead (bytes_bits (log (turn c))) (turn c).loop-kinds.at.at 57 0 c.filled-from.result
+ahead c = filled_ahead (log (turn c)) (turn c).loop-kinds.at.at c.filled-from.ensures.0
 
 here : (c : tie.After-head-head invariant-loop-kinds decreases-loop-kinds) → Heads (bytes_bits (log (turn c))) (turn c).loop-kinds.at.at c.head-head.result
 here c = head_read (ahead c) c.head-head.ensures.0
@@ -64,8 +64,8 @@ overflow_mul-total c = search rules
 loop-kinds-init : tie.Need-loop-kinds-init invariant-loop-kinds decreases-loop-kinds
 loop-kinds-init c =
     let a = c.before.before in
-    let ks = on_plan a.args.t1 in
-    (omega arith, omega arith, omega arith, refl, tally_start ks a.args.log.now a.requires.0, first_written (words_from ks a.args.log.now 0) a.args.words-1.now)
+    let ks = on_plan a.args.kinds in
+    (omega arith, omega arith, omega arith, refl, tally_start ks a.args.log.now a.requires.0, first_written (words_from ks a.args.log.now 0) a.args.words.now)
 
 filled-from-requires : tie.Need-filled-from-requires invariant-loop-kinds decreases-loop-kinds
 filled-from-requires c κs = search rules
@@ -83,7 +83,7 @@ lay_item-laid-requires : tie.Need-lay_item-laid-requires invariant-loop-kinds de
 lay_item-laid-requires c κs =
     let h = c.before.before.before in
     let o = turn h in
-    (omega (arith, o.loop-kinds.inv.2, o.loop-kinds.inv.3), h.head-head.ensures.2, omega arith, omega arith, (entry o).pre.0)
+    (omega (arith, o.loop-kinds.invariant.2, o.loop-kinds.invariant.3), h.head-head.ensures.2, omega arith, omega arith, (entry o).requires.0)
 
 ends-requires : tie.Need-ends-requires invariant-loop-kinds decreases-loop-kinds
 ends-requires c κs = search rules
@@ -93,20 +93,20 @@ shape_of-words-then-ends c =
     let d = c.before.before.before.before.before.before in
     let h = head d in
     let o = turn h in
-    let w = next_none (ahead h) h.head-head.ensures.0 (length (log o) * 8) (length_bytes (log o)) o.loop-kinds.inv.1 (sym c.before.ends.ensures ∙ c.if-ends.true) in
-    ap length (unlaid (d.lay_item-laid.ensures (kinds o) o.loop-kinds.at.at (here h) refl) w) ∙ o.loop-kinds.inv.3
+    let w = next_none (ahead h) h.head-head.ensures.0 (length (log o) * 8) (length_bytes (log o)) o.loop-kinds.invariant.1 (sym c.ends.ensures ∙ c.if-ends.true) in
+    ap length (unlaid (d.lay_item-laid.ensures (kinds o) o.loop-kinds.at.at (here h) refl) w) ∙ o.loop-kinds.invariant.3
 
 returns-then-ends : tie.Need-returns-then-ends invariant-loop-kinds decreases-loop-kinds
 returns-then-ends c =
     let d = c.before.before.before.before.before.before in
     let h = head d in
     let o = turn h in
-    let u = sym c.before.ends.ensures ∙ c.if-ends.true in
-    let w = next_none (ahead h) h.head-head.ensures.0 (length (log o) * 8) (length_bytes (log o)) o.loop-kinds.inv.1 u in
-    let e = ends_good (ahead h) (length (log o) * 8) (length_bytes (log o)) o.loop-kinds.inv.1 u in (
-      sym (o.loop-kinds.inv.4 ∙ closes (kinds o) (log o) o.loop-kinds.at.at o.loop-kinds.items o.loop-kinds.count o.loop-kinds.inv.0 o.loop-kinds.inv.1 e),
+    let u = sym c.ends.ensures ∙ c.if-ends.true in
+    let w = next_none (ahead h) h.head-head.ensures.0 (length (log o) * 8) (length_bytes (log o)) o.loop-kinds.invariant.1 u in
+    let e = ends_good (ahead h) (length (log o) * 8) (length_bytes (log o)) o.loop-kinds.invariant.1 u in (
+      sym (o.loop-kinds.invariant.4 ∙ closes (kinds o) (log o) o.loop-kinds.at.at o.loop-kinds.items o.loop-kinds.count o.loop-kinds.invariant.0 o.loop-kinds.invariant.1 e),
       unlaid (d.lay_item-laid.ensures (kinds o) o.loop-kinds.at.at (here h) refl) w
-          ∙ none_left (kinds o) (log o) o.loop-kinds.at.at o.loop-kinds.items o.loop-kinds.count o.loop-kinds.inv.0 o.loop-kinds.inv.1 o.loop-kinds.words-1 End (ap found_of e) tt ∙ o.loop-kinds.inv.5,
+          ∙ none_left (kinds o) (log o) o.loop-kinds.at.at o.loop-kinds.items o.loop-kinds.count o.loop-kinds.invariant.0 o.loop-kinds.invariant.1 o.loop-kinds.words-1 End (ap found_of e) tt ∙ o.loop-kinds.invariant.5,
     )
 
 overflow_cast-result : tie.Need-overflow_cast-result invariant-loop-kinds decreases-loop-kinds
@@ -114,9 +114,9 @@ overflow_cast-result c =
     let d = c.before.before.before.before.before.before.before in
     let h = head d in
     let o = turn h in
-    let n = next_other (ahead h) h.head-head.ensures.0 (length (log o) * 8) (length_bytes (log o)) o.loop-kinds.inv.1 (sym c.before.before.ends.ensures ∙ c.before.if-ends.false) in
-    let t = fault-told (kinds o) (log o) o.loop-kinds.at.at o.loop-kinds.items o.loop-kinds.count o.loop-kinds.inv.0 o.loop-kinds.inv.1
-    n (d.lay_item-laid.ensures (kinds o) o.loop-kinds.at.at (here h) refl) c.before.before.before.if-laid-ne0.true in
+    let n = next_other (ahead h) h.head-head.ensures.0 (length (log o) * 8) (length_bytes (log o)) o.loop-kinds.invariant.1 (sym c.ends.ensures ∙ c.if-ends.false) in
+    let t = fault-told (kinds o) (log o) o.loop-kinds.at.at o.loop-kinds.items o.loop-kinds.count o.loop-kinds.invariant.0 o.loop-kinds.invariant.1
+    n (d.lay_item-laid.ensures (kinds o) o.loop-kinds.at.at (here h) refl) c.if-laid-ne0.true in
     omega (arith, t.small)
 
 shape_of-words-then-laid-ne0 : tie.Need-shape_of-words-then-laid-ne0 invariant-loop-kinds decreases-loop-kinds
@@ -127,10 +127,10 @@ returns-then-laid-ne0 c =
     let d = c.before.before.before.before.before.before.before in
     let h = head d in
     let o = turn h in
-    let n = next_other (ahead h) h.head-head.ensures.0 (length (log o) * 8) (length_bytes (log o)) o.loop-kinds.inv.1 (sym c.before.before.ends.ensures ∙ c.before.if-ends.false) in
-    let t = fault-told (kinds o) (log o) o.loop-kinds.at.at o.loop-kinds.items o.loop-kinds.count o.loop-kinds.inv.0 o.loop-kinds.inv.1
-    n (d.lay_item-laid.ensures (kinds o) o.loop-kinds.at.at (here h) refl) c.before.before.before.if-laid-ne0.true in
-    (sym (o.loop-kinds.inv.4 ∙ t.tally), t.row ∙ o.loop-kinds.inv.5)
+    let n = next_other (ahead h) h.head-head.ensures.0 (length (log o) * 8) (length_bytes (log o)) o.loop-kinds.invariant.1 (sym c.ends.ensures ∙ c.if-ends.false) in
+    let t = fault-told (kinds o) (log o) o.loop-kinds.at.at o.loop-kinds.items o.loop-kinds.count o.loop-kinds.invariant.0 o.loop-kinds.invariant.1
+    n (d.lay_item-laid.ensures (kinds o) o.loop-kinds.at.at (here h) refl) c.if-laid-ne0.true in
+    (sym (o.loop-kinds.invariant.4 ∙ t.tally), t.row ∙ o.loop-kinds.invariant.5)
 
 overflow_add-items : tie.Need-overflow_add-items invariant-loop-kinds decreases-loop-kinds
 overflow_add-items c = search rules
@@ -141,9 +141,9 @@ loop-kinds-smaller c =
     let h = head d in
     let o = turn h in
     let l = d.lay_item-laid.ensures (kinds o) o.loop-kinds.at.at (here h) refl in
-    let n = next_laid (ahead h) h.head-head.ensures.0 (length (log o) * 8) (length_bytes (log o)) o.loop-kinds.inv.1 l c.if-laid-ne0.false in
-    let b = behind (kinds o) (log o) o.loop-kinds.at.at o.loop-kinds.items o.loop-kinds.count o.loop-kinds.inv.0 o.loop-kinds.inv.1
-    n l c.if-laid-ne0.false (omega (arith, o.loop-kinds.inv.2, o.loop-kinds.inv.3)) in
+    let n = next_laid (ahead h) h.head-head.ensures.0 (length (log o) * 8) (length_bytes (log o)) o.loop-kinds.invariant.1 l c.if-laid-ne0.false in
+    let b = behind (kinds o) (log o) o.loop-kinds.at.at o.loop-kinds.items o.loop-kinds.count o.loop-kinds.invariant.0 o.loop-kinds.invariant.1
+    n l c.if-laid-ne0.false (omega (arith, o.loop-kinds.invariant.2, o.loop-kinds.invariant.3)) in
     omega (arith, b.far, b.within)
 
 loop-kinds-preserved : tie.Need-loop-kinds-preserved invariant-loop-kinds decreases-loop-kinds
@@ -152,10 +152,10 @@ loop-kinds-preserved c =
     let h = head d in
     let o = turn h in
     let l = d.lay_item-laid.ensures (kinds o) o.loop-kinds.at.at (here h) refl in
-    let n = next_laid (ahead h) h.head-head.ensures.0 (length (log o) * 8) (length_bytes (log o)) o.loop-kinds.inv.1 l c.if-laid-ne0.false in
-    let b = behind (kinds o) (log o) o.loop-kinds.at.at o.loop-kinds.items o.loop-kinds.count o.loop-kinds.inv.0 o.loop-kinds.inv.1
-    n l c.if-laid-ne0.false (omega (arith, o.loop-kinds.inv.2, o.loop-kinds.inv.3)) in
-    (omega (arith, b.far), b.within, omega (arith, b.dense), b.same ∙ o.loop-kinds.inv.3, o.loop-kinds.inv.4 ∙ b.tally, b.row ∙ o.loop-kinds.inv.5)
+    let n = next_laid (ahead h) h.head-head.ensures.0 (length (log o) * 8) (length_bytes (log o)) o.loop-kinds.invariant.1 l c.if-laid-ne0.false in
+    let b = behind (kinds o) (log o) o.loop-kinds.at.at o.loop-kinds.items o.loop-kinds.count o.loop-kinds.invariant.0 o.loop-kinds.invariant.1
+    n l c.if-laid-ne0.false (omega (arith, o.loop-kinds.invariant.2, o.loop-kinds.invariant.3)) in
+    (omega (arith, b.far), b.within, omega (arith, b.dense), b.same ∙ o.loop-kinds.invariant.3, o.loop-kinds.invariant.4 ∙ b.tally, b.row ∙ o.loop-kinds.invariant.5)
 
 pub lay_spec : {M : Type 1} → statement M
 lay_spec =

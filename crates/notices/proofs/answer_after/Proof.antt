@@ -27,11 +27,11 @@ bounds-row-i : tie.Need-bounds-row-i invariant-loop-d decreases-loop-d
 bounds-row-i c = search rules
 
 awaited_by-awaited-requires : tie.Need-awaited_by-awaited-requires invariant-loop-d decreases-loop-d
-awaited_by-awaited-requires c κs = c.before.before.requires.0 c.before.before.args.i c.before.before.requires.2
+awaited_by-awaited-requires c κs = c.requires.0 c.args.i c.requires.2
 
 loop-d-init : tie.Need-loop-d-init invariant-loop-d decreases-loop-d
 loop-d-init c =
-    let a = c.before.before.before.args in
+    let a = c.args in
     (omega arith, omega arith, answer_start a.parity c.awaited_by-awaited.result a.row.now a.i)
 
 abbrev entry : tie.At-loop-d invariant-loop-d decreases-loop-d → tie.Start invariant-loop-d decreases-loop-d
@@ -40,24 +40,24 @@ entry c = c.before.before.before.before
 -- what is settled where the loop begins
 settled : (c : tie.At-loop-d invariant-loop-d decreases-loop-d)
     → answer_in (entry c).args.parity (awaited (entry c).args.parity (get_or (entry c).args.row.now (entry c).args.i 0)) 8 (drop ((entry c).args.i + 1) (entry c).args.row.now)
-    ≡ answer_from (entry c).args.parity c.before.awaited_by-awaited.result (entry c).args.row.now (entry c).args.i c.loop-d.d
+    ≡ answer_from (entry c).args.parity c.awaited_by-awaited.result (entry c).args.row.now (entry c).args.i c.loop-d.d
 settled c =
     let a = (entry c).args in
-    ap (λ (n : ℕ). answer_in a.parity n 8 (drop (a.i + 1) a.row.now)) (sym c.before.awaited_by-awaited.ensures) ∙ c.loop-d.invariant.2
+    ap (λ (n : ℕ). answer_in a.parity n 8 (drop (a.i + 1) a.row.now)) (sym c.awaited_by-awaited.ensures) ∙ c.loop-d.invariant.2
 
 overflow_add-i : tie.Need-overflow_add-i invariant-loop-d decreases-loop-d
 overflow_add-i c = search rules
 
 -- the word that is looked at is there, and is one of the eight
-here : (c : tie.Else-d-eq9 invariant-loop-d decreases-loop-d) → (1 ≤ c.before.before.loop-d.d) × (c.before.before.loop-d.d < 9)
-    × ((entry c.before.before).args.i + c.before.before.loop-d.d < length (entry c.before.before).args.row.now)
-here c = (c.before.before.loop-d.invariant.0, omega (arith, c.if-d-eq9.false, c.before.before.loop-d.invariant.1), c.before.loop-d-test.true)
+here : (c : tie.Else-d-eq9 invariant-loop-d decreases-loop-d) → (1 ≤ c.loop-d.d) × (c.loop-d.d < 9)
+    × ((entry c.before.before).args.i + c.loop-d.d < length (entry c.before.before).args.row.now)
+here c = (c.loop-d.invariant.0, omega (arith, c.if-d-eq9.false, c.loop-d.invariant.1), c.loop-d-test.true)
 
 returns-then-d-eq9 : tie.Need-returns-then-d-eq9 invariant-loop-d decreases-loop-d
 returns-then-d-eq9 c =
     let l = c.before.before in
     let a = (entry l).args in
-    sym (settled l ∙ answer_far a.parity l.before.awaited_by-awaited.result a.row.now a.i l.loop-d.d c.if-d-eq9.true)
+    sym (settled l ∙ answer_far a.parity l.awaited_by-awaited.result a.row.now a.i l.loop-d.d c.if-d-eq9.true)
 
 overflow_add-next : tie.Need-overflow_add-next invariant-loop-d decreases-loop-d
 overflow_add-next c = search rules
@@ -77,8 +77,8 @@ returns-then-next_label-eq4 c =
     let a = (entry l).args in
     let h = here c.before.before.before in
     sym (settled l
-    ∙ answer-notice a.parity l.before.awaited_by-awaited.result a.row.now a.i l.loop-d.d h.0 h.1 h.2
-    c.before.label_of-next_label.result c.before.label_of-next_label.ensures c.if-next_label-eq4.true)
+    ∙ answer-notice a.parity l.awaited_by-awaited.result a.row.now a.i l.loop-d.d h.0 h.1 h.2
+    c.label_of-next_label.result c.label_of-next_label.ensures c.if-next_label-eq4.true)
 
 bus_of-requires : tie.Need-bus_of-requires invariant-loop-d decreases-loop-d
 bus_of-requires c κs = search rules
@@ -88,7 +88,7 @@ bus_there c =
     let l = c.before.before.before.before.before.before in
     let s = entry l in
     let o = l.loop-d in
-    omega (arith, c.bus_of.ensures, bus_low s.args.parity (get_or s.args.row.now (s.args.i + o.d) 0) (s.pre.0 (s.args.i + o.d) (here c.before.before.before.before).2))
+    omega (arith, c.bus_of.ensures, bus_low s.args.parity (get_or s.args.row.now (s.args.i + o.d) 0) (s.requires.0 (s.args.i + o.d) (here c.before.before.before.before).2))
 
 overflow_mul-bus_of : tie.Need-overflow_mul-bus_of invariant-loop-d decreases-loop-d
 overflow_mul-bus_of c = omega (arith, bus_there c)
@@ -98,17 +98,17 @@ overflow_add-bus_of c =
     let l = c.before.before.before.before.before.before in
     let s = entry l in
     let o = l.loop-d in
-    omega (arith, bus_there c, c.before.before.label_of-next_label.ensures, label_low (get_or s.args.row.now (s.args.i + o.d) 0))
+    omega (arith, bus_there c, c.label_of-next_label.ensures, label_low (get_or s.args.row.now (s.args.i + o.d) 0))
 
 returns-then-bus_of-next_label : tie.Need-returns-then-bus_of-next_label invariant-loop-d decreases-loop-d
 returns-then-bus_of-next_label c =
     let l = c.before.before.before.before.before.before.before in
     let a = (entry l).args in
     let h = here c.before.before.before.before.before in
-    let b = c.before.before.before.label_of-next_label in
+    let b = c.label_of-next_label in
     sym (settled l
-    ∙ answer-here a.parity l.before.awaited_by-awaited.result a.row.now a.i l.loop-d.d h.0 h.1 h.2 b.result b.ensures
-    c.before.bus_of.result c.before.bus_of.ensures c.before.before.if-next_label-eq4.false c.if-bus_of-next_label.true)
+    ∙ answer-here a.parity l.awaited_by-awaited.result a.row.now a.i l.loop-d.d h.0 h.1 h.2 b.result b.ensures
+    c.bus_of.result c.bus_of.ensures c.if-next_label-eq4.false c.if-bus_of-next_label.true)
 
 overflow_add-d : tie.Need-overflow_add-d invariant-loop-d decreases-loop-d
 overflow_add-d c = search rules
@@ -121,19 +121,19 @@ loop-d-preserved c =
     let l = c.before.before.before.before.before.before.before in
     let a = (entry l).args in
     let h = here c.before.before.before.before.before in
-    let b = c.before.before.before.label_of-next_label in (
+    let b = c.label_of-next_label in (
       omega arith,
       omega (arith, h.1),
       l.loop-d.invariant.2
-          ∙ answer-past a.parity l.before.awaited_by-awaited.result a.row.now a.i l.loop-d.d h.0 h.1 h.2 b.result b.ensures
-          c.before.bus_of.result c.before.bus_of.ensures c.before.before.if-next_label-eq4.false c.if-bus_of-next_label.false,
+          ∙ answer-past a.parity l.awaited_by-awaited.result a.row.now a.i l.loop-d.d h.0 h.1 h.2 b.result b.ensures
+          c.bus_of.result c.bus_of.ensures c.if-next_label-eq4.false c.if-bus_of-next_label.false,
     )
 
 returns : tie.Need-returns invariant-loop-d decreases-loop-d
 returns c =
     let l = c.before in
     let a = (entry l).args in
-    sym (settled l ∙ answer_end a.parity l.before.awaited_by-awaited.result a.row.now a.i l.loop-d.d (omega (arith, c.loop-d-test.false)))
+    sym (settled l ∙ answer_end a.parity l.awaited_by-awaited.result a.row.now a.i l.loop-d.d (omega (arith, c.loop-d-test.false)))
 
 pub answer_after_spec : {M : Type 1} → statement M
 answer_after_spec =

@@ -34,8 +34,8 @@ overflow_cast-count c = tt
 
 overflow_add-count : tie.Need-overflow_add-count invariant-loop-i decreases-loop-i
 overflow_add-count c =
-    let ws = c.before.before.before.args.row.now in
-    omega (arith, count_low (eqb (get_or ws c.before.before.loop-i.i 0 / 65536 % 16) 4) c.before.before.loop-i.count c.before.before.loop-i.i c.before.before.loop-i.invariant.1)
+    let ws = c.args.row.now in
+    omega (arith, count_low (eqb (get_or ws c.loop-i.i 0 / 65536 % 16) 4) c.loop-i.count c.loop-i.i c.loop-i.invariant.1)
 
 overflow_add-i : tie.Need-overflow_add-i invariant-loop-i decreases-loop-i
 overflow_add-i c = search rules
@@ -46,8 +46,8 @@ loop-i-smaller c = search rules
 loop-i-preserved : tie.Need-loop-i-preserved invariant-loop-i decreases-loop-i
 unfolding label_of
 loop-i-preserved c =
-    let o = c.before.before.loop-i in
-    let ws = c.before.before.before.args.row.now in (
+    let o = c.loop-i in
+    let ws = c.args.row.now in (
       omega arith,
       count_low (eqb (label_of (get_or ws o.i 0)) 4) o.count o.i o.invariant.1,
       o.invariant.2 ∙ ap (λ z. not (eqb o.count 0) || z) (notice_next ws o.i (omega arith))
@@ -56,8 +56,8 @@ loop-i-preserved c =
 
 returns : tie.Need-returns invariant-loop-i decreases-loop-i
 returns c =
-    let o = c.before.loop-i in
-    let ws = c.before.before.args.row.now in
+    let o = c.loop-i in
+    let ws = c.args.row.now in
     sym (o.invariant.2 ∙ ap (λ z. not (eqb o.count 0) || z) (notice_end ws o.i (omega arith)) ∙ or_none (not (eqb o.count 0)))
 
 pub any_notice_spec : {M : Type 1} → statement M

@@ -36,32 +36,32 @@ abbrev entry : tie.After-join-value → tie.Start
 entry c = c.before.before.before.before.before.before.before
 
 abbrev ones : tie.After-join-value → ℕ
-ones c = c.before.before.before.before.before.shared_bits-ones.result
+ones c = c.shared_bits-ones.result
 
 abbrev bits : tie.After-join-value → ℕ
-bits c = bit_or (ones c) c.before.before.before.before.shared_bits.result
+bits c = bit_or (ones c) c.shared_bits.result
 
-mask_is : (c : tie.After-join-value) → c.before.before.join-mask.result ≡ in_word (entry c).args.parity (bits c) 15
+mask_is : (c : tie.After-join-value) → c.join-mask.result ≡ in_word (entry c).args.parity (bits c) 15
 mask_is c =
-    let i = c.before.before.before.in_code in
-    joined (entry c).args.parity (bits c) 15 i.result c.before.before.join-mask.result i.ensures.0 c.before.before.join-mask.ensures
+    let i = c.in_code in
+    joined (entry c).args.parity (bits c) 15 i.result c.join-mask.result i.ensures.0 c.join-mask.ensures
 
 value_is : (c : tie.After-join-value) → c.join-value.result ≡ in_word (entry c).args.parity (ones c) 4
 value_is c =
-    let i = c.before.in_code-2 in
+    let i = c.in_code-2 in
     joined (entry c).args.parity (ones c) 4 i.result c.join-value.result i.ensures.0 c.join-value.ensures
 
 unanswered-requires : tie.Need-unanswered-requires
 unanswered-requires c κs =
     let s = entry c in
-    (s.pre.0, s.pre.1, s.pre.2, λ w e. marked_label s.args.parity (bits c) (ones c) w (sym (ap₂ (λ m v. marked m v w) (mask_is c) (value_is c)) ∙ e))
+    (s.requires.0, s.requires.1, s.requires.2, λ w e. marked_label s.args.parity (bits c) (ones c) w (sym (ap₂ (λ m v. marked m v w) (mask_is c) (value_is c)) ∙ e))
 
 returns : tie.Need-returns
 returns c =
     let d = c.before in
     let s = (entry d).args in
-    let o = d.before.before.before.before.before.shared_bits-ones.ensures.0 in
-    let z = d.before.before.before.before.shared_bits.ensures.0 in
+    let o = d.shared_bits-ones.ensures.0 in
+    let z = d.shared_bits.ensures.0 in
     let m = mask_is d ∙ ap₂ (λ x y. in_word s.parity (bit_or x y) 15) o z in
     let v = value_is d ∙ ap (λ x. in_word s.parity x 4) o in
     c.unanswered.ensures ∙ ap₂ (λ x y. unanswered x y s.parity s.row.now) m v

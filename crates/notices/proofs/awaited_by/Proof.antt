@@ -13,10 +13,10 @@ bus_of-requires : tie.Need-bus_of-requires
 bus_of-requires c κs = search rules
 
 overflow_mul-result : tie.Need-overflow_mul-result
-overflow_mul-result c = omega (arith, c.bus_of.ensures, bus_low c.before.args.parity c.before.args.notice c.before.requires)
+overflow_mul-result c = omega (arith, c.bus_of.ensures, bus_low c.args.parity c.args.notice c.requires)
 
 overflow_add-result : tie.Need-overflow_add-result
-overflow_add-result c = omega (arith, c.bus_of.ensures, bus_low c.before.args.parity c.before.args.notice c.before.requires)
+overflow_add-result c = omega (arith, c.bus_of.ensures, bus_low c.args.parity c.args.notice c.requires)
 
 information_of-requires : tie.Need-information_of-requires
 information_of-requires c κs = search rules
@@ -25,11 +25,11 @@ overflow_mul-result-2 : tie.Need-overflow_mul-result-2
 overflow_mul-result-2 c = search rules
 
 overflow_add-result-2 : tie.Need-overflow_add-result-2
-overflow_add-result-2 c = omega (arith, c.before.bus_of.ensures, bus_low c.before.before.args.parity c.before.before.args.notice c.before.before.requires)
+overflow_add-result-2 c = omega (arith, c.bus_of.ensures, bus_low c.args.parity c.args.notice c.requires)
 
 returns : tie.Need-returns
 unfolding awaited
-returns c = rw (c.before.bus_of.ensures, c.information_of.ensures) (omega arith)
+returns c = rw (c.bus_of.ensures, c.information_of.ensures) (omega arith)
 
 pub awaited_by_spec : {M : Type 1} → statement M
 awaited_by_spec =

@@ -29,9 +29,9 @@ decreases-loop-i parity row from table₀ kinds first₀ i₀ table first i = le
 
 loop-i-init : tie.Need-loop-i-init invariant-loop-i decreases-loop-i
 loop-i-init c =
-    let a = c.before.before.args in
+    let a = c.args in
     let z : a.from + 0 ≡ a.from = omega arith in
-    (omega arith, c.before.before.requires.2, ap (λ (n : ℕ). watched_of (roles_in a.t1 a.parity (counted n a.row.now)) (0, a.table-1.now)) (sym z))
+    (omega arith, c.requires.2, ap (λ (n : ℕ). watched_of (roles_in a.kinds a.parity (counted n a.row.now)) (0, a.table.now)) (sym z))
 
 offset_bounds-row-i : tie.Need-offset_bounds-row-i invariant-loop-i decreases-loop-i
 offset_bounds-row-i c = search rules
@@ -47,9 +47,9 @@ overflow_cast-bus c = search rules
 
 bounds-kinds-bus : tie.Need-bounds-kinds-bus invariant-loop-i decreases-loop-i
 bounds-kinds-bus c =
-    let o = c.before.before.before.loop-i in
+    let o = c.loop-i in
     let s = c.before.before.before.before.before.before in
-    let b = bus_low s.args.parity (get_or s.args.row.now o.i 0) (s.requires.0 o.i c.before.before.loop-i-test.true) in
+    let b = bus_low s.args.parity (get_or s.args.row.now o.i 0) (s.requires.0 o.i c.loop-i-test.true) in
     omega (arith, c.bus_of-bus.ensures, b)
 
 label_of-requires : tie.Need-label_of-requires invariant-loop-i decreases-loop-i
@@ -64,10 +64,10 @@ overflow_add-from c = search rules
 on_word-shown-requires : tie.Need-on_word-shown-requires invariant-loop-i decreases-loop-i
 on_word-shown-requires c κs =
     let t = c.before.before.before.before.before.before in
-    let o = t.before.loop-i in
+    let o = t.loop-i in
     let s = t.before.before.before.before in
     let b = bus_low s.args.parity (get_or s.args.row.now o.i 0) (s.requires.0 o.i t.loop-i-test.true) in
-    (omega (arith, c.before.before.before.before.bus_of-bus.ensures, b), o.invariant.1, omega (arith, s.requires.1, t.loop-i-test.true))
+    (omega (arith, c.bus_of-bus.ensures, b), o.invariant.1, omega (arith, s.requires.1, t.loop-i-test.true))
 
 or_first-first-requires : tie.Need-or_first-first-requires invariant-loop-i decreases-loop-i
 or_first-first-requires c κs = search rules
@@ -81,29 +81,29 @@ loop-i-smaller c = search rules
 loop-i-preserved : tie.Need-loop-i-preserved invariant-loop-i decreases-loop-i
 loop-i-preserved c =
     let u = c.before.before.before.before.before.before.before.before.before.before in
-    let o = u.before.loop-i in
-    let a = u.before.before.before.before.args in
+    let o = u.loop-i in
+    let a = u.args in
     let i = u.loop-i-test.true in
-    let t = c.before.before.before.on_word-shown in
-    let table : List ℕ = t.new.1.1.1.1.1.0 in
-    let q = word_noted a.t1 a.parity (get_or a.row.now o.i 0) _ _ _ (a.from + o.i) (0, o.table-1) (t.result, table)
-    c.before.before.before.before.before.before.before.before.bus_of-bus.ensures c.before.before.before.before.before.before.label_of.ensures
-    c.before.before.before.before.before.information_of.ensures t.ensures in (
+    let t = c.on_word-shown in
+    let table : List ℕ = t.new.table.1.1.1.1.0 in
+    let q = word_noted a.kinds a.parity (get_or a.row.now o.i 0) _ _ _ (a.from + o.i) (0, o.table-1) (t.result, table)
+    c.bus_of-bus.ensures c.label_of.ensures
+    c.information_of.ensures t.ensures in (
       omega (arith, i),
-      c.before.before.table-1.given ∙ o.invariant.1,
-      o.invariant.2 ∙ watched_next a.t1 a.parity a.row.now a.from o.i i (o.first, o.table-1)
-          ∙ ap (watched_of (roles_in a.t1 a.parity (counted (a.from + (o.i + 1)) (drop (o.i + 1) a.row.now))))
+      c.table-1.given ∙ o.invariant.1,
+      o.invariant.2 ∙ watched_next a.kinds a.parity a.row.now a.from o.i i (o.first, o.table-1)
+          ∙ ap (watched_of (roles_in a.kinds a.parity (counted (a.from + (o.i + 1)) (drop (o.i + 1) a.row.now))))
           (ap (λ (s : Notes). (or_first o.first s.0, s.1)) q ∙ ap (λ (n : ℕ). (n, table)) (sym c.or_first-first.ensures)),
     )
 
 shape_of-table : tie.Need-shape_of-table invariant-loop-i decreases-loop-i
-shape_of-table c = c.before.loop-i.invariant.1 ∙ sym c.before.before.before.before.requires.2
+shape_of-table c = c.loop-i.invariant.1 ∙ sym c.requires.2
 
 returns : tie.Need-returns invariant-loop-i decreases-loop-i
 returns c =
-    let a = c.before.before.before.before.args in
-    let o = c.before.loop-i in
-    sym (o.invariant.2 ∙ watched_end a.t1 a.parity a.row.now _ o.i (omega (arith, c.loop-i-test.false)) _)
+    let a = c.args in
+    let o = c.loop-i in
+    sym (o.invariant.2 ∙ watched_end a.kinds a.parity a.row.now _ o.i (omega (arith, c.loop-i-test.false)) _)
 
 pub first_shown_spec : {M : Type 1} → statement M
 first_shown_spec =

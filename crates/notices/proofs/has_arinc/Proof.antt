@@ -30,10 +30,10 @@ is_arinc-requires c κs = search rules
 
 returns-then-is_arinc : tie.Need-returns-then-is_arinc invariant-loop-bus decreases-loop-bus
 returns-then-is_arinc c =
-    let o = c.before.before.before.before.loop-bus in
-    let ks = c.before.before.before.before.before.args.t1 in
-    sym (o.invariant.1 ∙ arinc_next ks o.bus (omega (arith, c.before.before.before.before.before.well_formed.0, c.before.before.before.loop-bus-test.true))
-    ∙ ap (λ (b : Bool). b || has_arinc (drop (o.bus + 1) ks)) (sym c.before.is_arinc.ensures ∙ c.if-is_arinc.true))
+    let o = c.loop-bus in
+    let ks = c.args.kinds in
+    sym (o.invariant.1 ∙ arinc_next ks o.bus (omega (arith, c.well_formed.0, c.loop-bus-test.true))
+    ∙ ap (λ (b : Bool). b || has_arinc (drop (o.bus + 1) ks)) (sym c.is_arinc.ensures ∙ c.if-is_arinc.true))
 
 overflow_add-bus : tie.Need-overflow_add-bus invariant-loop-bus decreases-loop-bus
 overflow_add-bus c = search rules
@@ -43,19 +43,19 @@ loop-bus-smaller c = search rules
 
 loop-bus-preserved : tie.Need-loop-bus-preserved invariant-loop-bus decreases-loop-bus
 loop-bus-preserved c =
-    let o = c.before.before.before.before.loop-bus in
-    let ks = c.before.before.before.before.before.args.t1 in (
-      omega (arith, c.before.before.before.loop-bus-test.true),
-      o.invariant.1 ∙ arinc_next ks o.bus (omega (arith, c.before.before.before.before.before.well_formed.0, c.before.before.before.loop-bus-test.true))
-          ∙ ap (λ (b : Bool). b || has_arinc (drop (o.bus + 1) ks)) (sym c.before.is_arinc.ensures ∙ c.if-is_arinc.false),
+    let o = c.loop-bus in
+    let ks = c.args.kinds in (
+      omega (arith, c.loop-bus-test.true),
+      o.invariant.1 ∙ arinc_next ks o.bus (omega (arith, c.well_formed.0, c.loop-bus-test.true))
+          ∙ ap (λ (b : Bool). b || has_arinc (drop (o.bus + 1) ks)) (sym c.is_arinc.ensures ∙ c.if-is_arinc.false),
     )
 
 returns : tie.Need-returns invariant-loop-bus decreases-loop-bus
 returns c =
-    let o = c.before.loop-bus in
-    let ks = c.before.before.args.t1 in
+    let o = c.loop-bus in
+    let ks = c.args.kinds in
     let e : o.bus ≡ 16 = omega (arith, c.loop-bus-test.false, o.invariant.0) in
-    sym (o.invariant.1 ∙ ap (λ n. has_arinc (drop n ks)) e ∙ arinc_end ks (omega (arith, c.before.before.well_formed.0)))
+    sym (o.invariant.1 ∙ ap (λ n. has_arinc (drop n ks)) e ∙ arinc_end ks (omega (arith, c.well_formed.0)))
 
 pub has_arinc_spec : {M : Type 1} → statement M
 has_arinc_spec =

@@ -37,8 +37,8 @@ loop-i-smaller c = search rules
 
 loop-i-preserved : tie.Need-loop-i-preserved invariant-loop-i decreases-loop-i
 loop-i-preserved c =
-    let o = c.before.before.loop-i in
-    let t = c.before.before.before.args.table.now in (
+    let o = c.loop-i in
+    let t = c.args.table.now in (
       omega arith,
       o.invariant.1 ∙ ap (λ z. cond (eqb o.waiting 0) z false) (zero_next t o.i (omega arith))
           ∙ none_either o.waiting (get_or t o.i 0) (all_zero (drop (o.i + 1) t)),
@@ -46,8 +46,8 @@ loop-i-preserved c =
 
 returns : tie.Need-returns invariant-loop-i decreases-loop-i
 returns c =
-    let o = c.before.loop-i in
-    let t = c.before.before.args.table.now in
+    let o = c.loop-i in
+    let t = c.args.table.now in
     sym (o.invariant.1 ∙ ap (λ z. cond (eqb o.waiting 0) z false) (zero_end t o.i (omega arith)) ∙ whole (eqb o.waiting 0))
   where
     whole : (b : Bool) → cond b true false ≡ b

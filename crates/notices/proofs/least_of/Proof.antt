@@ -37,14 +37,14 @@ loop-i-smaller c = search rules
 
 loop-i-preserved : tie.Need-loop-i-preserved invariant-loop-i decreases-loop-i
 loop-i-preserved c =
-    let o = c.before.before.before.loop-i in
-    let t = c.before.before.before.before.before.args.table.now in
+    let o = c.loop-i in
+    let t = c.args.table.now in
     (omega arith, o.invariant.1 ∙ earliest_next o.first t o.i (omega arith) ∙ ap (λ f. earliest_of f (drop (o.i + 1) t)) (sym c.earlier-first.ensures))
 
 returns : tie.Need-returns invariant-loop-i decreases-loop-i
 returns c =
-    let o = c.before.loop-i in
-    sym (o.invariant.1 ∙ earliest_end o.first c.before.before.before.args.table.now o.i (omega arith))
+    let o = c.loop-i in
+    sym (o.invariant.1 ∙ earliest_end o.first c.args.table.now o.i (omega arith))
 
 pub least_of_spec : {M : Type 1} → statement M
 least_of_spec =

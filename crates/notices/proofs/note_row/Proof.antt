@@ -23,8 +23,8 @@ Looked = tie.After-quiet_words-quiet
 abbrev entry : Looked → tie.Start
 entry c = c.before.before.before.before
 
-told : (c : Looked) → c.quiet_words-quiet.result ≡ quiet_words (entry c).args.kinds (entry c).args.parity (entry c).args.row.now (all_zero (entry c).args.table-1.now)
-told c = let s = entry c in c.quiet_words-quiet.ensures ∙ ap (quiet_words s.args.kinds s.args.parity s.args.row.now) s.pre.5
+told : (c : Looked) → c.quiet_words-quiet.result ≡ quiet_words (entry c).args.kinds (entry c).args.parity (entry c).args.row.now (all_zero (entry c).args.table.now)
+told c = let s = entry c in c.quiet_words-quiet.ensures ∙ ap (quiet_words s.args.kinds s.args.parity s.args.row.now) s.requires.5
 
 overflow_add-rest : tie.Need-overflow_add-rest
 overflow_add-rest c = search rules
@@ -46,7 +46,7 @@ over_row-found-requires c κs =
     let l = c.before.before.before in
     let s = entry l in
     let q = l.quiet_words-quiet.result in
-    (part_words q s.args.row.now s.pre.1, omega (arith, part_length q s.args.row.now (omega (arith, c.before.before.if-quiet-row.true)), s.pre.3), s.pre.4)
+    (part_words q s.args.row.now s.requires.1, omega (arith, part_length q s.args.row.now (omega (arith, c.if-quiet-row.true)), s.requires.3), s.requires.4)
 
 is_clear-clear-requires : tie.Need-is_clear-clear-requires
 is_clear-clear-requires c κs = search rules
@@ -58,8 +58,8 @@ returns-then-quiet-row : tie.Need-returns-then-quiet-row
 returns-then-quiet-row c =
     let l = c.before.before.before.before.before.before.before.before in
     let s = entry l in
-    let o = c.before.before.before.before.over_row-found in (
-      quiet_noted s.args.kinds s.args.parity s.args.from s.args.row.now s.args.table-1.now l.quiet_words-quiet.result (told l) s.args.noted.found o.result
+    let o = c.over_row-found in (
+      quiet_noted s.args.kinds s.args.parity s.args.from s.args.row.now s.args.table.now l.quiet_words-quiet.result (told l) s.args.noted.found o.result
           o.new.1.1.1.1.0 (rw (part_rest l.quiet_words-quiet.result s.args.row.now) at o.ensures),
       c.is_clear-clear.ensures,
     )
@@ -68,8 +68,8 @@ returns-else-quiet-row : tie.Need-returns-else-quiet-row
 returns-else-quiet-row c =
     let l = c.before in
     let s = entry l in (
-      all_quiet_noted s.args.kinds s.args.parity s.args.from s.args.row.now s.args.table-1.now l.quiet_words-quiet.result (told l) s.args.noted.found c.if-quiet-row.false,
-      s.pre.5,
+      all_quiet_noted s.args.kinds s.args.parity s.args.from s.args.row.now s.args.table.now l.quiet_words-quiet.result (told l) s.args.noted.found c.if-quiet-row.false,
+      s.requires.5,
     )
 
 returns-else-arinc : tie.Need-returns-else-arinc

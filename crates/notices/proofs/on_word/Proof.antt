@@ -46,10 +46,10 @@ shape_of-table-then-label-eq4 : tie.Need-shape_of-table-then-label-eq4
 shape_of-table-then-label-eq4 c = search rules
 
 abbrev kind : tie.After-is_arinc → Kind
-kind c = c.before.before.args.kind
+kind c = c.args.kind
 
 arinc : (c : tie.Then-is_arinc) → is_arinc (kind c.before) ≡ true
-arinc c = sym c.before.is_arinc.ensures ∙ c.if-is_arinc.true
+arinc c = sym c.is_arinc.ensures ∙ c.if-is_arinc.true
 
 returns-then-label-eq4 : tie.Need-returns-then-label-eq4
 returns-then-label-eq4 c =
@@ -82,16 +82,16 @@ returns-then-is_syllable : tie.Need-returns-then-is_syllable
 returns-then-is_syllable c =
     let l = c.before.before in
     let k = l.before in
-    sym (word_noted _ _ _ _ _ _ (kind k.before) (arinc k) l.if-label-eq4.false (sym c.before.is_syllable.ensures ∙ c.if-is_syllable.true))
+    sym (word_noted _ _ _ _ _ _ (kind k.before) (arinc k) l.if-label-eq4.false (sym c.is_syllable.ensures ∙ c.if-is_syllable.true))
 
 returns-else-is_syllable : tie.Need-returns-else-is_syllable
 returns-else-is_syllable c =
     let l = c.before.before in
     let k = l.before in
-    sym (rest_noted _ _ _ _ _ _ (kind k.before) (arinc k) l.if-label-eq4.false (sym c.before.is_syllable.ensures ∙ c.if-is_syllable.false))
+    sym (rest_noted _ _ _ _ _ _ (kind k.before) (arinc k) l.if-label-eq4.false (sym c.is_syllable.ensures ∙ c.if-is_syllable.false))
 
 returns-else-is_arinc : tie.Need-returns-else-is_arinc
-returns-else-is_arinc c = sym (none_noted _ _ _ _ _ _ (kind c.before) (sym c.before.is_arinc.ensures ∙ c.if-is_arinc.false))
+returns-else-is_arinc c = sym (none_noted _ _ _ _ _ _ (kind c.before) (sym c.is_arinc.ensures ∙ c.if-is_arinc.false))
 
 pub on_word_spec : {M : Type 1} → statement M
 on_word_spec =

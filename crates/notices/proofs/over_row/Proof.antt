@@ -28,9 +28,9 @@ decreases-loop-i parity row from table₀ found kinds found₀ i₀ table found'
 
 loop-i-init : tie.Need-loop-i-init invariant-loop-i decreases-loop-i
 loop-i-init c =
-    let a = c.before.before.args in
+    let a = c.args in
     let z : a.from + 0 ≡ a.from = omega arith in
-    (omega arith, c.before.before.requires.2, ap (λ (n : ℕ). notes_of (roles_in a.t1 a.parity (counted n a.row.now)) (a.found, a.table-1.now)) (sym z))
+    (omega arith, c.requires.2, ap (λ (n : ℕ). notes_of (roles_in a.kinds a.parity (counted n a.row.now)) (a.found, a.table.now)) (sym z))
 
 offset_bounds-row-i : tie.Need-offset_bounds-row-i invariant-loop-i decreases-loop-i
 offset_bounds-row-i c = search rules
@@ -46,9 +46,9 @@ overflow_cast-bus c = search rules
 
 bounds-kinds-bus : tie.Need-bounds-kinds-bus invariant-loop-i decreases-loop-i
 bounds-kinds-bus c =
-    let o = c.before.before.before.loop-i in
-    let a = c.before.before.before.before.before.before.args in
-    let b = bus_low a.parity (get_or a.row.now o.i 0) (c.before.before.before.before.before.before.requires.0 o.i c.before.before.loop-i-test.true) in
+    let o = c.loop-i in
+    let a = c.args in
+    let b = bus_low a.parity (get_or a.row.now o.i 0) (c.requires.0 o.i c.loop-i-test.true) in
     omega (arith, c.bus_of-bus.ensures, b)
 
 label_of-requires : tie.Need-label_of-requires invariant-loop-i decreases-loop-i
@@ -62,10 +62,10 @@ overflow_add-from c = search rules
 
 on_word-found-requires : tie.Need-on_word-found-requires invariant-loop-i decreases-loop-i
 on_word-found-requires c κs =
-    let o = c.before.before.before.before.before.before.before.loop-i in
+    let o = c.loop-i in
     let s = c.before.before.before.before.before.before.before.before.before.before in
-    let b = bus_low s.args.parity (get_or s.args.row.now o.i 0) (s.requires.0 o.i c.before.before.before.before.before.before.loop-i-test.true) in
-    (omega (arith, c.before.before.before.before.bus_of-bus.ensures, b), o.invariant.1, omega (arith, s.requires.1, c.before.before.before.before.before.before.loop-i-test.true))
+    let b = bus_low s.args.parity (get_or s.args.row.now o.i 0) (s.requires.0 o.i c.loop-i-test.true) in
+    (omega (arith, c.bus_of-bus.ensures, b), o.invariant.1, omega (arith, s.requires.1, c.loop-i-test.true))
 
 overflow_add-i : tie.Need-overflow_add-i invariant-loop-i decreases-loop-i
 overflow_add-i c = search rules
@@ -75,27 +75,27 @@ loop-i-smaller c = search rules
 
 loop-i-preserved : tie.Need-loop-i-preserved invariant-loop-i decreases-loop-i
 loop-i-preserved c =
-    let o = c.before.before.before.before.before.before.before.before.before.before.loop-i in
-    let a = c.before.before.before.before.before.before.before.before.before.before.before.before.before.args in
-    let i = c.before.before.before.before.before.before.before.before.before.loop-i-test.true in
-    let t = c.before.before.on_word-found in (
+    let o = c.loop-i in
+    let a = c.args in
+    let i = c.loop-i-test.true in
+    let t = c.on_word-found in (
       omega (arith, i),
-      c.before.table-1.given ∙ o.invariant.1,
-      o.invariant.2 ∙ notes_next a.t1 a.parity a.row.now a.from o.i i (o.found, o.table-1)
-          ∙ ap (notes_of (roles_in a.t1 a.parity (counted (a.from + (o.i + 1)) (drop (o.i + 1) a.row.now))))
-          (word_noted a.t1 a.parity (get_or a.row.now o.i 0) _ _ _ (a.from + o.i) (o.found, o.table-1) (t.result, t.new.1.1.1.1.1.0)
-          c.before.before.before.before.before.before.before.bus_of-bus.ensures c.before.before.before.before.before.label_of.ensures
-          c.before.before.before.before.information_of.ensures t.ensures),
+      c.table-1.given ∙ o.invariant.1,
+      o.invariant.2 ∙ notes_next a.kinds a.parity a.row.now a.from o.i i (o.found, o.table)
+          ∙ ap (notes_of (roles_in a.kinds a.parity (counted (a.from + (o.i + 1)) (drop (o.i + 1) a.row.now))))
+          (word_noted a.kinds a.parity (get_or a.row.now o.i 0) _ _ _ (a.from + o.i) (o.found, o.table) (t.result, t.new.table.1.1.1.1.0)
+          c.bus_of-bus.ensures c.label_of.ensures
+          c.information_of.ensures t.ensures),
     )
 
 shape_of-table : tie.Need-shape_of-table invariant-loop-i decreases-loop-i
-shape_of-table c = c.before.loop-i.invariant.1 ∙ sym c.before.before.before.before.requires.2
+shape_of-table c = c.loop-i.invariant.1 ∙ sym c.requires.2
 
 returns : tie.Need-returns invariant-loop-i decreases-loop-i
 returns c =
-    let a = c.before.before.before.before.args in
-    let o = c.before.loop-i in
-    sym (o.invariant.2 ∙ notes_end a.t1 a.parity a.row.now _ o.i (omega (arith, c.loop-i-test.false)) _)
+    let a = c.args in
+    let o = c.loop-i in
+    sym (o.invariant.2 ∙ notes_end a.kinds a.parity a.row.now _ o.i (omega (arith, c.loop-i-test.false)) _)
 
 pub over_row_spec : {M : Type 1} → statement M
 over_row_spec =

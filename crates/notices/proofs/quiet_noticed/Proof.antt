@@ -20,7 +20,7 @@ returns-then-any_unanswered c = search rules
 returns : tie.Need-returns
 returns c =
     let s = c.before.before.before in
-    sym (look_quiet s.args.kinds s.args.parity s.args.row.now s.requires.0 (sym c.before.any_unanswered.ensures ∙ c.if-any_unanswered.false))
+    sym (look_quiet s.args.kinds s.args.parity s.args.row.now s.requires.0 (sym c.any_unanswered.ensures ∙ c.if-any_unanswered.false))
 
 pub quiet_noticed_spec : {M : Type 1} → statement M
 quiet_noticed_spec = tie.close (tie.spec any_unanswered-requires quiet_part-requires returns-then-any_unanswered returns)

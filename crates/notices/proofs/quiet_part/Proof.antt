@@ -44,8 +44,8 @@ overflow_cast-bus_of c = search rules
 bounds-kinds-bus_of : tie.Need-bounds-kinds-bus_of invariant-loop-i decreases-loop-i
 bounds-kinds-bus_of c =
     let s = c.before.before.before.before.before.before.before in
-    let o = c.before.before.before.before.before.loop-i in
-    omega (arith, c.bus_of.ensures, bus_low s.args.parity (get_or s.args.row.now o.i 0) (s.requires.0 o.i c.before.before.before.before.loop-i-test.true))
+    let o = c.loop-i in
+    omega (arith, c.bus_of.ensures, bus_low s.args.parity (get_or s.args.row.now o.i 0) (s.requires.0 o.i c.loop-i-test.true))
 
 is_arinc-requires : tie.Need-is_arinc-requires invariant-loop-i decreases-loop-i
 is_arinc-requires c κs = search rules
@@ -64,54 +64,54 @@ here c = get_or (entry c).args.row.now c.loop-i.i 0
 abbrev turn : tie.After-is_arinc invariant-loop-i decreases-loop-i → tie.In-loop-i invariant-loop-i decreases-loop-i
 turn c = c.before.before.before.before.before.before
 
-told : (c : tie.After-is_arinc invariant-loop-i decreases-loop-i) → is_notice (entry (turn c).before).args.t1 (entry (turn c).before).args.parity (here (turn c).before) ≡ c.is_arinc.result
+told : (c : tie.After-is_arinc invariant-loop-i decreases-loop-i) → is_notice (entry (turn c).before).args.kinds (entry (turn c).before).args.parity (here (turn c).before) ≡ c.is_arinc.result
 told c =
     let l = (turn c).before in
-    notice_told (entry l).args.t1 (entry l).args.parity (here l) c.before.before.before.before.label_of.result c.before.before.before.before.label_of.ensures
-    c.before.before.bus_of.result c.is_arinc.result c.before.before.bus_of.ensures c.is_arinc.ensures c.before.before.before.if-label_of-eq4.true
+    notice_told (entry l).args.kinds (entry l).args.parity (here l) c.label_of.result c.label_of.ensures
+    c.bus_of.result c.is_arinc.result c.bus_of.ensures c.is_arinc.ensures c.if-label_of-eq4.true
 
-fits : (c : tie.After-answer_after-further invariant-loop-i decreases-loop-i) → (turn c.before.before).before.loop-i.i + c.answer_after-further.result < length (entry (turn c.before.before).before).args.row.now
+fits : (c : tie.After-answer_after-further invariant-loop-i decreases-loop-i) → (turn c.before.before).loop-i.i + c.answer_after-further.result < length (entry (turn c.before.before).before).args.row.now
 fits c =
     let t = turn c.before.before in
     let l = t.before in
-    quiet-fits (entry l).args.t1 (entry l).args.parity (entry l).args.row.now l.loop-i.i c.answer_after-further.result t.loop-i-test.taken
-    (told c.before.before ∙ c.before.if-is_arinc.true) c.answer_after-further.ensures
+    quiet-fits (entry l).args.kinds (entry l).args.parity (entry l).args.row.now l.loop-i.i c.answer_after-further.result t.loop-i-test.true
+    (told c.before.before ∙ c.if-is_arinc.true) c.answer_after-further.ensures
 
 returns-then-further-eq0 : tie.Need-returns-then-further-eq0 invariant-loop-i decreases-loop-i
 returns-then-further-eq0 c =
     let t = turn c.before.before.before in
     let l = t.before in
-    sym (l.loop-i.inv.1
-    ∙ quiet-stop (entry l).args.t1 (entry l).args.parity (entry l).args.row.now l.loop-i.i c.before.answer_after-further.result t.loop-i-test.taken
-    (told c.before.before.before ∙ c.before.before.if-is_arinc.true) c.before.answer_after-further.ensures c.if-further-eq0.true)
+    sym (l.loop-i.invariant.1
+    ∙ quiet-stop (entry l).args.kinds (entry l).args.parity (entry l).args.row.now l.loop-i.i c.answer_after-further.result t.loop-i-test.true
+    (told c.before.before.before ∙ c.if-is_arinc.true) c.answer_after-further.ensures c.if-further-eq0.true)
 
 overflow_add-i : tie.Need-overflow_add-i invariant-loop-i decreases-loop-i
-overflow_add-i c = omega (arith, fits c.before, (entry (turn c.before.before.before).before).pre.1)
+overflow_add-i c = omega (arith, fits c.before, (entry (turn c.before.before.before).before).requires.1)
 
 -- the word n is the last of what is found quiet
 abbrev Moved : tie.At-loop-i invariant-loop-i decreases-loop-i → ℕ → Type 0
 Moved c n =
     (c.loop-i.i ≤ n) × (n < length (entry c).args.row.now)
-    × (quiet_part (entry c).args.t1 (entry c).args.parity 0 (entry c).args.row.now
-    ≡ n + 1 + quiet_part (entry c).args.t1 (entry c).args.parity 0 (drop (n + 1) (entry c).args.row.now))
+    × (quiet_part (entry c).args.kinds (entry c).args.parity 0 (entry c).args.row.now
+    ≡ n + 1 + quiet_part (entry c).args.kinds (entry c).args.parity 0 (drop (n + 1) (entry c).args.row.now))
 
-answered : (c : tie.Else-further-eq0 invariant-loop-i decreases-loop-i) → Moved (turn c.before.before.before).before ((turn c.before.before.before).before.loop-i.i + c.before.answer_after-further.result)
+answered : (c : tie.Else-further-eq0 invariant-loop-i decreases-loop-i) → Moved (turn c.before.before.before).before ((turn c.before.before.before).loop-i.i + c.answer_after-further.result)
 answered c =
     let t = turn c.before.before.before in
     let l = t.before in (
       omega arith,
       fits c.before,
-      l.loop-i.inv.1
-          ∙ quiet-answered (entry l).args.t1 (entry l).args.parity (entry l).args.row.now l.loop-i.i c.before.answer_after-further.result t.loop-i-test.taken
-          (told c.before.before.before ∙ c.before.before.if-is_arinc.true) c.before.answer_after-further.ensures c.if-further-eq0.false,
+      l.loop-i.invariant.1
+          ∙ quiet-answered (entry l).args.kinds (entry l).args.parity (entry l).args.row.now l.loop-i.i c.answer_after-further.result t.loop-i-test.true
+          (told c.before.before.before ∙ c.if-is_arinc.true) c.answer_after-further.ensures c.if-further-eq0.false,
     )
 
-no_notice : (c : tie.In-loop-i invariant-loop-i decreases-loop-i) → is_notice (entry c.before).args.t1 (entry c.before).args.parity (here c.before) ≡ false → Moved c.before c.before.loop-i.i
+no_notice : (c : tie.In-loop-i invariant-loop-i decreases-loop-i) → is_notice (entry c.before).args.kinds (entry c.before).args.parity (here c.before) ≡ false → Moved c.before c.loop-i.i
 no_notice c e =
     let l = c.before in (
       omega arith,
       c.loop-i-test.true,
-      l.loop-i.invariant.1 ∙ quiet_next (entry l).args.t1 (entry l).args.parity (entry l).args.row.now l.loop-i.i c.loop-i-test.true e,
+      l.loop-i.invariant.1 ∙ quiet_next (entry l).args.kinds (entry l).args.parity (entry l).args.row.now l.loop-i.i c.loop-i-test.true e,
     )
 
 -- where the ways meet
@@ -129,13 +129,13 @@ moved c =
     (λ v.
     let b : tie.After-bus_of invariant-loop-i decreases-loop-i = record { before = record { before = c.before; if1 = v.0 }; bus_of = v.1 } in
     let k : tie.After-is_arinc invariant-loop-i decreases-loop-i = record { before = record { before = b; is-arinc-arg = v.2 }; is_arinc_lem = v.3 } in
-    rw v.5 (no_notice t (told k ∙ v.4.left)))
-    (λ v. rw v.1 (no_notice t (other_told s.args.t1 s.args.parity (here t.before) c.before.label_of.result c.before.label_of.ensures v.0.left)))
+    rw v.5 (no_notice t (told k ∙ v.4.false)))
+    (λ v. rw v.1 (no_notice t (other_told s.args.kinds s.args.parity (here t.before) c.label_of.result c.label_of.ensures v.0.false)))
     w)
     c.if-label_of-eq4.branch
 
 overflow_add-i-in-loop-i : tie.Need-overflow_add-i-in-loop-i invariant-loop-i decreases-loop-i
-overflow_add-i-in-loop-i c = omega (arith, (moved c.before).1, (entry c.before.before.before.before.before).pre.1)
+overflow_add-i-in-loop-i c = omega (arith, (moved c.before).1, (entry c.before.before.before.before.before).requires.1)
 
 loop-i-smaller : tie.Need-loop-i-smaller invariant-loop-i decreases-loop-i
 loop-i-smaller c = omega (arith, (moved c.before).0, (moved c.before).1)
@@ -146,8 +146,8 @@ loop-i-preserved c = (omega (arith, (moved c.before).1), (moved c.before).2)
 returns : tie.Need-returns invariant-loop-i decreases-loop-i
 returns c =
     let s = c.before.before.before in
-    let o = c.before.loop-i in
-    sym (o.invariant.1 ∙ quiet_end s.args.t1 s.args.parity s.args.row.now o.i c.loop-i-test.false)
+    let o = c.loop-i in
+    sym (o.invariant.1 ∙ quiet_end s.args.kinds s.args.parity s.args.row.now o.i c.loop-i-test.false)
 
 pub quiet_part_spec : {M : Type 1} → statement M
 quiet_part_spec =

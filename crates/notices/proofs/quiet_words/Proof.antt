@@ -15,16 +15,16 @@ any_notice-requires c κs = search rules
 quiet_noticed-requires : tie.Need-quiet_noticed-requires
 quiet_noticed-requires c κs =
     let s = c.before.before.before.before in
-    (s.requires.0, any_some s.args.row.now (sym c.before.any_notice.ensures ∙ c.if-any_notice.true), s.requires.1)
+    (s.requires.0, any_some s.args.row.now (sym c.any_notice.ensures ∙ c.if-any_notice.true), s.requires.1)
 
 returns-then-any_notice : tie.Need-returns-then-any_notice
-returns-then-any_notice c = rw c.before.before.before.if-clear.true c.quiet_noticed.ensures
+returns-then-any_notice c = rw c.if-clear.true c.quiet_noticed.ensures
 
 returns-then-clear : tie.Need-returns-then-clear
 returns-then-clear c =
     let s = c.before.before.before.before in
-    rw c.before.before.if-clear.true
-    (sym (quiet_all s.args.kinds s.args.parity s.args.row.now (sym c.before.any_notice.ensures ∙ c.if-any_notice.false)))
+    rw c.if-clear.true
+    (sym (quiet_all s.args.kinds s.args.parity s.args.row.now (sym c.any_notice.ensures ∙ c.if-any_notice.false)))
 
 returns : tie.Need-returns
 returns c = rw c.if-clear.false

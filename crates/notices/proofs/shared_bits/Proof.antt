@@ -37,22 +37,22 @@ loop-number-smaller c = search rules
 
 loop-number-preserved : tie.Need-loop-number-preserved invariant-loop-number decreases-loop-number
 loop-number-preserved c =
-    let o = c.before.before.before.loop-number in
-    let a = c.before.before.before.before.args in
+    let o = c.loop-number in
+    let a = c.args in
     let w = c.with_bus-bits in (
       omega arith,
       w.ensures.1,
       o.invariant.2
-          ∙ shared_next a.ones o.bits a.t1 o.number (omega (arith, c.before.before.before.before.well_formed.0, c.before.before.loop-number-test.true))
-          ∙ ap (λ n. shared a.ones n (o.number + 1) (drop (o.number + 1) a.t1)) (sym w.ensures.0),
+          ∙ shared_next a.ones o.bits a.kinds o.number (omega (arith, c.well_formed.0, c.loop-number-test.true))
+          ∙ ap (λ n. shared a.ones n (o.number + 1) (drop (o.number + 1) a.kinds)) (sym w.ensures.0),
     )
 
 returns : tie.Need-returns invariant-loop-number decreases-loop-number
 returns c =
-    let o = c.before.loop-number in
+    let o = c.loop-number in
     let s = c.before.before in
     let e : o.number ≡ 16 = omega (arith, c.loop-number-test.false, o.invariant.0) in
-    (sym (o.invariant.2 ∙ rw e (shared_end s.args.ones o.bits s.args.t1 (omega (arith, s.well_formed.0)))), o.invariant.1)
+    (sym (o.invariant.2 ∙ rw e (shared_end s.args.ones o.bits s.args.kinds (omega (arith, s.well_formed.0)))), o.invariant.1)
 
 pub shared_bits_spec : {M : Type 1} → statement M
 shared_bits_spec =

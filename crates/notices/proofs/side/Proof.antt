@@ -9,7 +9,7 @@ overflow_sub-result : tie.Need-overflow_sub-result
 overflow_sub-result c = search rules
 
 returns-then-ones : tie.Need-returns-then-ones
-returns-then-ones c = (rw c.if-ones.true, c.before.requires)
+returns-then-ones c = (rw c.if-ones.true, c.requires)
 
 returns-else-ones : tie.Need-returns-else-ones
 returns-else-ones c = (rw c.if-ones.false, omega arith)

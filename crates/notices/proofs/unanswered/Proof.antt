@@ -32,7 +32,7 @@ abbrev entry : tie.At-loop-i invariant-loop-i decreases-loop-i → tie.Start inv
 entry c = c.before.before.before
 
 loop-i-init : tie.Need-loop-i-init invariant-loop-i decreases-loop-i
-loop-i-init c = (c.before.before.requires.1, omega arith, refl)
+loop-i-init c = (c.requires.1, omega arith, refl)
 
 overflow_add-i : tie.Need-overflow_add-i invariant-loop-i decreases-loop-i
 overflow_add-i c = search rules
@@ -53,7 +53,7 @@ bounds-row-i-in-loop-i : tie.Need-bounds-row-i-in-loop-i invariant-loop-i decrea
 bounds-row-i-in-loop-i c = search rules
 
 changed-requires : tie.Need-changed-requires invariant-loop-i decreases-loop-i
-changed-requires c κs = (entry c.before.before.before).pre.0 c.before.before.before.loop-i.i c.before.before.before.loop-i.invariant.0
+changed-requires c κs = (entry c.before.before.before).requires.0 c.loop-i.i c.loop-i.invariant.0
 
 overflow_cast-count : tie.Need-overflow_cast-count invariant-loop-i decreases-loop-i
 overflow_cast-count c = tt
@@ -69,13 +69,13 @@ abbrev isMarked : tie.After-changed invariant-loop-i decreases-loop-i → Bool
 isMarked c = marked (entry (here c)).args.mask (entry (here c)).args.value (get_or (entry (here c)).args.row.now (here c).loop-i.i 0)
 
 abbrev isOther : tie.After-changed invariant-loop-i decreases-loop-i → Bool
-isOther c = not (eqb (bit_and (bit_xor (get_or (entry (here c)).args.row.now ((here c).loop-i.i + 1) 0) c.changed.result) (here c).before.code_bits-codes.result) 0)
+isOther c = not (eqb (bit_and (bit_xor (get_or (entry (here c)).args.row.now ((here c).loop-i.i + 1) 0) c.changed.result) (here c).code_bits-codes.result) 0)
 
 counted : (c : tie.After-changed invariant-loop-i decreases-loop-i) → (here c).loop-i.count + bool_byte (isMarked c && isOther c) ≤ (here c).loop-i.i + 1
 counted c = count_low (isMarked c && isOther c) (here c).loop-i.count (here c).loop-i.i (here c).loop-i.invariant.1
 
 overflow_add-count : tie.Need-overflow_add-count invariant-loop-i decreases-loop-i
-overflow_add-count c = rw (both_hold (isMarked c) (isOther c)) (omega (arith, counted c, (entry (here c)).pre.2))
+overflow_add-count c = rw (both_hold (isMarked c) (isOther c)) (omega (arith, counted c, (entry (here c)).requires.2))
 
 overflow_add-i-in-loop-i : tie.Need-overflow_add-i-in-loop-i invariant-loop-i decreases-loop-i
 overflow_add-i-in-loop-i c = search rules
@@ -88,12 +88,12 @@ loop-i-preserved c =
     let o = (here c).loop-i in
     let s = entry (here c) in
     let a = s.args in
-    let l : o.i + 1 < length a.row.now = c.before.before.before.loop-i-test.true in
+    let l : o.i + 1 < length a.row.now = c.loop-i-test.true in
     rw (both_hold (isMarked c) (isOther c)) (
       l,
       counted c,
-      o.inv.2 ∙ ap (λ t. not (eqb o.count 0) || t) (unanswered_next a.mask a.value a.parity a.row.now o.i s.pre.0 s.pre.3 l
-          ∙ rw (← c.changed.ensures, ← (here c).before.code_bits-codes.ensures) refl)
+      o.invariant.2 ∙ ap (λ t. not (eqb o.count 0) || t) (unanswered_next a.mask a.value a.parity a.row.now o.i s.requires.0 s.requires.3 l
+          ∙ rw (← c.changed.ensures, ← (here c).code_bits-codes.ensures) refl)
           ∙ any_count o.count (isMarked c && isOther c) (unanswered a.mask a.value a.parity (drop (o.i + 1) a.row.now)),
     )
 
@@ -106,15 +106,15 @@ bounds-row-i-2 c = search rules
 -- behind the loop the last word is left
 told : (c : tie.After-loop-i invariant-loop-i decreases-loop-i)
     → unanswered (entry c.before).args.mask (entry c.before).args.value (entry c.before).args.parity (entry c.before).args.row.now
-    ≡ (not (eqb c.before.loop-i.count 0) || marked (entry c.before).args.mask (entry c.before).args.value (get_or (entry c.before).args.row.now c.before.loop-i.i 0))
+    ≡ (not (eqb c.loop-i.count 0) || marked (entry c.before).args.mask (entry c.before).args.value (get_or (entry c.before).args.row.now c.loop-i.i 0))
 told c =
-    let o = c.before.loop-i in
+    let o = c.loop-i in
     let a = (entry c.before).args in
     o.invariant.2 ∙ ap (λ t. not (eqb o.count 0) || t) (unanswered_last a.mask a.value a.parity a.row.now o.i (omega (arith, c.loop-i-test.false, o.invariant.0)))
 
 returns-then-row-i : tie.Need-returns-then-row-i invariant-loop-i decreases-loop-i
 returns-then-row-i c =
-    let n = not (eqb c.before.before.before.loop-i.count 0) in
+    let n = not (eqb c.loop-i.count 0) in
     sym (told c.before.before ∙ ap (λ t. n || t) (eq-eqb _ _ c.if-row-i.true) ∙ either n)
   where
     either : (t : Bool) → (t || true) ≡ true
@@ -123,7 +123,7 @@ returns-then-row-i c =
 
 returns : tie.Need-returns invariant-loop-i decreases-loop-i
 returns c =
-    let n = not (eqb c.before.before.before.loop-i.count 0) in
+    let n = not (eqb c.loop-i.count 0) in
     sym (told c.before.before ∙ ap (λ t. n || t) (ne_eqb _ _ c.if-row-i.false) ∙ or_none n)
 
 pub unanswered_spec : {M : Type 1} → statement M

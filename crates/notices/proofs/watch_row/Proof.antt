@@ -25,7 +25,7 @@ abbrev entry : tie.After-quiet_words-quiet → tie.Start
 entry c = c.before.before.before.before.before.before
 
 here : (c : tie.After-quiet_words-quiet) → c.quiet_words-quiet.result ≤ length (entry c).args.row.now
-here c = omega (arith, c.quiet_words-quiet.ensures, quiet_most (entry c).args.kinds (entry c).args.parity (entry c).args.row.now c.before.is_clear.result)
+here c = omega (arith, c.quiet_words-quiet.ensures, quiet_most (entry c).args.kinds (entry c).args.parity (entry c).args.row.now c.is_clear.result)
 
 offset_bounds-row-quiet : tie.Need-offset_bounds-row-quiet
 offset_bounds-row-quiet c = omega (arith, here c, (entry c).requires.2)
@@ -45,8 +45,8 @@ overflow_add-from c = omega (arith, here c.before, (entry c.before).requires.2, 
 first_shown-requires : tie.Need-first_shown-requires
 first_shown-requires c κs =
     let s = entry c.before.before in
-    let q = c.before.before.quiet_words-quiet.result in
-    (part_words q s.args.row.now s.pre.1, omega (arith, part_length q s.args.row.now (here c.before.before), s.pre.3), s.pre.4)
+    let q = c.quiet_words-quiet.result in
+    (part_words q s.args.row.now s.requires.1, omega (arith, part_length q s.args.row.now (here c.before.before), s.requires.3), s.requires.4)
 
 shape_of-table-then-arinc : tie.Need-shape_of-table-then-arinc
 shape_of-table-then-arinc c = search rules
@@ -54,16 +54,16 @@ shape_of-table-then-arinc c = search rules
 returns-then-arinc : tie.Need-returns-then-arinc
 returns-then-arinc c =
     let s = entry c.before.before.before.before.before in
-    let q = c.before.before.before.before.before.quiet_words-quiet in
-    let z = ap (quiet_words s.args.kinds s.args.parity s.args.row.now) c.before.before.before.before.before.before.is_clear.ensures in
-    let o = c.before.before.first_shown in
-    quiet_watched s.args.kinds s.args.parity s.args.from s.args.row.now s.args.table-1.now q.result (q.ensures ∙ z) o.result o.new.1.1.1.1.0
+    let q = c.quiet_words-quiet in
+    let z = ap (quiet_words s.args.kinds s.args.parity s.args.row.now) c.is_clear.ensures in
+    let o = c.first_shown in
+    quiet_watched s.args.kinds s.args.parity s.args.from s.args.row.now s.args.table.now q.result (q.ensures ∙ z) o.result o.new.1.1.1.1.0
     (rw (part_rest q.result s.args.row.now) at o.ensures)
 
 returns : tie.Need-returns
 returns c =
     let s = c.before.before.before in
-    sym (watched_same _ s.args.table-1.now s.args.table-1.now (no_arinc s.args.kinds s.args.parity (sym s.requires.0 ∙ c.if-arinc.false) _ _))
+    sym (watched_same _ s.args.table.now s.args.table.now (no_arinc s.args.kinds s.args.parity (sym s.requires.0 ∙ c.if-arinc.false) _ _))
 
 pub watch_row_spec : {M : Type 1} → statement M
 watch_row_spec =

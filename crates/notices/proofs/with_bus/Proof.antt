@@ -17,10 +17,10 @@ side-requires c κs = search rules
 
 returns-then-is_arinc : tie.Need-returns-then-is_arinc
 returns-then-is_arinc c =
-    let a = c.before.before.before.args in
+    let a = c.args in
     let n = c.side.result in (
-      rw (← c.before.before.is_arinc.ensures, c.before.if-is_arinc.true) (ap (bit_and a.bits) c.side.ensures.0),
-      omega (arith, and_le_l a.bits n, c.before.before.before.requires.0),
+      rw (← c.is_arinc.ensures, c.if-is_arinc.true) (ap (bit_and a.bits) c.side.ensures.0),
+      omega (arith, and_le_l a.bits n, c.requires.0),
     )
 
 returns : tie.Need-returns

@@ -137,40 +137,40 @@ stands_arinc i Arinc429 e f = refl
 
 item_tells : (ks : List Kind) (i : Item) → Lawful ks i → Tells ks i
 unfolding stands_on bus_of_item
-item_tells ks (Command bus b Untagged w) l = record { first = _; others = _; is = refl; told = mil (kind_on ks bus) _ (stands_mil _ _ l.stands refl); quiet = nil }
+item_tells ks (Command bus b Untagged w) l = record { first = _; others = _; is = refl; told = mil (kind_on ks bus) _ (stands_mil (Command bus b Untagged w) _ l.stands refl); quiet = nil }
 item_tells ks (Command bus b (At t) w) l = record {
   first = _;
   others = _;
   is = refl;
-  told = mil (kind_on ks bus) _ (stands_mil _ _ l.stands refl);
+  told = mil (kind_on ks bus) _ (stands_mil (Command bus b (At t) w) _ l.stands refl);
   quiet = cons (time_role (kind_on ks bus) bus t.high).0 (cons (time_role (kind_on ks bus) bus t.low).1 (cons (time_role (kind_on ks bus) bus t.micro).2 nil));
 }
-item_tells ks (Status bus b Untimed w) l = record { first = _; others = _; is = refl; told = mil (kind_on ks bus) _ (stands_mil _ _ l.stands refl); quiet = nil }
+item_tells ks (Status bus b Untimed w) l = record { first = _; others = _; is = refl; told = mil (kind_on ks bus) _ (stands_mil (Status bus b Untimed w) _ l.stands refl); quiet = nil }
 item_tells ks (Status bus b (After r) w) l = record {
   first = _;
   others = _;
   is = refl;
-  told = mil (kind_on ks bus) _ (stands_mil _ _ l.stands refl);
-  quiet = cons (mil (kind_on ks bus) _ (stands_mil _ _ l.stands refl)) nil;
+  told = mil (kind_on ks bus) _ (stands_mil (Status bus b (After r) w) _ l.stands refl);
+  quiet = cons (mil (kind_on ks bus) _ (stands_mil (Status bus b (After r) w) _ l.stands refl)) nil;
 }
-item_tells ks (Data bus b w) l = record { first = _; others = _; is = refl; told = mil (kind_on ks bus) _ (stands_mil _ _ l.stands refl); quiet = nil }
-item_tells ks (BusError bus b w) l = record { first = _; others = _; is = refl; told = mil (kind_on ks bus) _ (stands_mil _ _ l.stands refl); quiet = nil }
+item_tells ks (Data bus b w) l = record { first = _; others = _; is = refl; told = mil (kind_on ks bus) _ (stands_mil (Data bus b w) _ l.stands refl); quiet = nil }
+item_tells ks (BusError bus b w) l = record { first = _; others = _; is = refl; told = mil (kind_on ks bus) _ (stands_mil (BusError bus b w) _ l.stands refl); quiet = nil }
 item_tells ks (Arinc bus c Untagged w) l = record {
   first = _;
   others = _;
   is = refl;
-  told = high_role (kind_on ks bus) bus c _ (stands_arinc _ _ l.stands refl) l.sized.0;
-  quiet = cons (low_role (kind_on ks bus) bus c _ (stands_arinc _ _ l.stands refl) l.sized.0) nil;
+  told = high_role (kind_on ks bus) bus c _ (stands_arinc (Arinc bus c Untagged w) _ l.stands refl) l.sized.0;
+  quiet = cons (low_role (kind_on ks bus) bus c _ (stands_arinc (Arinc bus c Untagged w) _ l.stands refl) l.sized.0) nil;
 }
 item_tells ks (Arinc bus c (At t) w) l = record {
   first = _;
   others = _;
   is = refl;
-  told = high_role (kind_on ks bus) bus c _ (stands_arinc _ _ l.stands refl) l.sized.0;
-  quiet = cons (low_role (kind_on ks bus) bus c _ (stands_arinc _ _ l.stands refl) l.sized.0)
+  told = high_role (kind_on ks bus) bus c _ (stands_arinc (Arinc bus c (At t) w) _ l.stands refl) l.sized.0;
+  quiet = cons (low_role (kind_on ks bus) bus c _ (stands_arinc (Arinc bus c (At t) w) _ l.stands refl) l.sized.0)
       (cons (time_role (kind_on ks bus) bus t.high).0 (cons (time_role (kind_on ks bus) bus t.low).1 (cons (time_role (kind_on ks bus) bus t.micro).2 nil)));
 }
-item_tells ks (Notice bus c diag) l = record { first = _; others = _; is = refl; told = notice_role (kind_on ks bus) bus c diag (stands_arinc _ _ l.stands refl) l.sized.0 l.sized.1; quiet = nil }
+item_tells ks (Notice bus c diag) l = record { first = _; others = _; is = refl; told = notice_role (kind_on ks bus) bus c diag (stands_arinc (Notice bus c diag) _ l.stands refl) l.sized.0 l.sized.1; quiet = nil }
 item_tells ks (User bus true w) l = record { first = _; others = _; is = refl; told = (either_role (kind_on ks bus) bus w).0; quiet = nil }
 item_tells ks (User bus false w) l = record { first = _; others = _; is = refl; told = (either_role (kind_on ks bus) bus w).1; quiet = nil }
 item_tells ks (Overflow bus w) l = record { first = _; others = _; is = refl; told = (either_role (kind_on ks bus) bus w).2; quiet = nil }

@@ -17,7 +17,7 @@ quotient-requires c κs = search rules
 
 returns : tie.Need-returns
 unfolding groups_for
-returns c = rw (c.quotient.ensures, c.before.slots-slots.ensures.0)
+returns c = rw (c.quotient.ensures, c.slots-slots.ensures.0)
 
 pub groups_for_spec : {M : Type 1} → statement M
 groups_for_spec = tie.close (tie.spec slots-slots-requires overflow_add-words overflow_sub-words quotient-requires returns)

@@ -22,7 +22,7 @@ limited : (c : Limited) (fit : Bool) → c.tracks_fit.result ≡ fit
     && leb p.crc_label 7 && leb p.fill_bus 15 && (not p.parity || leb p.fill_bus 7))
 unfolding legal
 limited c fit e =
-    rw (le-leb _ _ c.before.before.before.before.before.before.before.if-plan-lt-LEAST_WORDS.false, le-leb _ _ c.before.before.before.before.before.if-plan-gt-MOST_WORDS.false, le-leb _ _ c.before.before.before.if-plan-lt1.false, le-leb _ _ c.before.if-plan-gt4.false, sym c.tracks_fit.ensures ∙ e)
+    rw (le-leb _ _ c.if-plan-lt-LEAST_WORDS.false, le-leb _ _ c.if-plan-gt-MOST_WORDS.false, le-leb _ _ c.if-plan-lt1.false, le-leb _ _ c.if-plan-gt4.false, sym c.tracks_fit.ensures ∙ e)
 
 returns-then-plan-lt-LEAST_WORDS : tie.Need-returns-then-plan-lt-LEAST_WORDS
 unfolding legal
@@ -30,15 +30,15 @@ returns-then-plan-lt-LEAST_WORDS c = rw (lt-leb _ _ c.if-plan-lt-LEAST_WORDS.tru
 
 returns-then-plan-gt-MOST_WORDS : tie.Need-returns-then-plan-gt-MOST_WORDS
 unfolding legal
-returns-then-plan-gt-MOST_WORDS c = rw (le-leb _ _ c.before.before.if-plan-lt-LEAST_WORDS.false, lt-leb _ _ c.if-plan-gt-MOST_WORDS.true)
+returns-then-plan-gt-MOST_WORDS c = rw (le-leb _ _ c.if-plan-lt-LEAST_WORDS.false, lt-leb _ _ c.if-plan-gt-MOST_WORDS.true)
 
 returns-then-plan-lt1 : tie.Need-returns-then-plan-lt1
 unfolding legal
-returns-then-plan-lt1 c = rw (le-leb _ _ c.before.before.before.before.if-plan-lt-LEAST_WORDS.false, le-leb _ _ c.before.before.if-plan-gt-MOST_WORDS.false, lt-leb _ _ c.if-plan-lt1.true)
+returns-then-plan-lt1 c = rw (le-leb _ _ c.if-plan-lt-LEAST_WORDS.false, le-leb _ _ c.if-plan-gt-MOST_WORDS.false, lt-leb _ _ c.if-plan-lt1.true)
 
 returns-then-plan-gt4 : tie.Need-returns-then-plan-gt4
 unfolding legal
-returns-then-plan-gt4 c = rw (le-leb _ _ c.before.before.before.before.before.before.if-plan-lt-LEAST_WORDS.false, le-leb _ _ c.before.before.before.before.if-plan-gt-MOST_WORDS.false, le-leb _ _ c.before.before.if-plan-lt1.false, lt-leb _ _ c.if-plan-gt4.true)
+returns-then-plan-gt4 c = rw (le-leb _ _ c.if-plan-lt-LEAST_WORDS.false, le-leb _ _ c.if-plan-gt-MOST_WORDS.false, le-leb _ _ c.if-plan-lt1.false, lt-leb _ _ c.if-plan-gt4.true)
 
 tracks_fit-requires : tie.Need-tracks_fit-requires
 tracks_fit-requires c κs = search rules
@@ -52,12 +52,12 @@ label_and_code_fit-requires c κs = search rules
 returns-then-parity_fits : tie.Need-returns-then-parity_fits
 returns-then-parity_fits c =
     let fitted = c.before.before in
-    c.label_and_code_fit.ensures ∙ sym (limited fitted.before.before true fitted.before.if-tracks_fit.true ∙ rw (← fitted.parity_fits.ensures, c.before.if-parity_fits.true))
+    c.label_and_code_fit.ensures ∙ sym (limited fitted.before.before true fitted.if-tracks_fit.true ∙ rw (← fitted.parity_fits.ensures, c.if-parity_fits.true))
 
 returns-else-parity_fits : tie.Need-returns-else-parity_fits
 returns-else-parity_fits c =
     let fitted = c.before in
-    sym (limited fitted.before.before true fitted.before.if-tracks_fit.true ∙ rw (← fitted.parity_fits.ensures, c.if-parity_fits.false))
+    sym (limited fitted.before.before true fitted.if-tracks_fit.true ∙ rw (← fitted.parity_fits.ensures, c.if-parity_fits.false))
 
 returns-else-tracks_fit : tie.Need-returns-else-tracks_fit
 returns-else-tracks_fit c = sym (limited c.before false c.if-tracks_fit.false)

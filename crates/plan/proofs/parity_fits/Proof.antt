@@ -6,7 +6,7 @@ used_buses-requires : tie.Need-used_buses-requires
 used_buses-requires c κs = search rules
 
 returns-then-parity : tie.Need-returns-then-parity
-returns-then-parity c = rw (c.before.if-parity.true, c.used_buses.ensures)
+returns-then-parity c = rw (c.if-parity.true, c.used_buses.ensures)
 
 returns : tie.Need-returns
 returns c = search rules

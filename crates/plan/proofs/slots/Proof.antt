@@ -11,16 +11,16 @@ use Rattle.plan.proofs.slots.Tie as tie
 
 -- the rows are known
 abbrev plan : tie.After-rows → Plan
-plan c = c.before.args.plan
+plan c = c.args.plan
 
 sizes : (c : tie.After-rows) → (least_rows ≤ (plan c).tracks * rows (plan c)) × ((plan c).tracks * rows (plan c) ≤ most_dealt)
-sizes c = (dealt_least (plan c) c.before.requires, dealt_most (plan c) c.before.requires)
+sizes c = (dealt_least (plan c) c.requires, dealt_most (plan c) c.requires)
 
 rows-requires : tie.Need-rows-requires
 rows-requires c κs = search rules
 
 overflow_mul-dealt : tie.Need-overflow_mul-dealt
-overflow_mul-dealt c = rw c.before.rows.ensures (omega (arith, sizes c.before))
+overflow_mul-dealt c = rw c.rows.ensures (omega (arith, sizes c.before))
 
 overflow_sub-result : tie.Need-overflow_sub-result
 overflow_sub-result c = let r = c.before.before in rw r.rows.ensures (omega (arith, sizes r))

@@ -10,7 +10,7 @@ used_buses-requires : tie.Need-used_buses-requires
 used_buses-requires c κs = search rules
 
 returns : tie.Need-returns
-returns c = rw (ne_eqb _ _ c.before.if-tracks-eq1.false, c.used_buses.ensures)
+returns c = rw (ne_eqb _ _ c.if-tracks-eq1.false, c.used_buses.ensures)
 
 pub tracks_fit_spec : {M : Type 1} → statement M
 tracks_fit_spec = tie.close (tie.spec returns-then-tracks-eq1 used_buses-requires returns)

@@ -36,17 +36,17 @@ loop-bus-smaller c = search rules
 
 loop-bus-preserved : tie.Need-loop-bus-preserved invariant-loop-bus decreases-loop-bus
 loop-bus-preserved c =
-    let o = c.before.before.before.before.loop-bus in
-    let a = c.before.before.before.before.before.args in
-    let g = c.before.before.before.before.before.well_formed.0 in
-    let e = sym (c.before.is_used.ensures ∙ ap is_used c.before.before.kind_at.ensures) in
+    let o = c.loop-bus in
+    let a = c.args in
+    let g = c.well_formed.0 in
+    let e = sym (c.is_used.ensures ∙ ap is_used c.kind_at.ensures) in
     ⊎_elim
-    (λ w. (omega (arith, w.1), omega arith, omega (arith, w.1, o.invariant.2, bus_counted a.kinds o.bus true (e ∙ w.0.taken) (omega (arith, g)))))
-    (λ w. (omega (arith, w.1), omega arith, omega (arith, w.1, o.invariant.2, bus_counted a.kinds o.bus false (e ∙ w.0.left) (omega (arith, g)))))
-    c.if-is_used.branch
+    (λ w. (omega (arith, w.used-is), omega arith, omega (arith, w.used-is, o.invariant.2, bus_counted a.kinds o.bus true (e ∙ w.if-is_used.true) (omega (arith, g)))))
+    (λ w. (omega (arith, w.used-is), omega arith, omega (arith, w.used-is, o.invariant.2, bus_counted a.kinds o.bus false (e ∙ w.if-is_used.false) (omega (arith, g)))))
+    c.if-is_used.branch-raw
 
 returns : tie.Need-returns invariant-loop-bus decreases-loop-bus
-returns c = omega (arith, c.before.loop-bus.invariant.2, all_counted c.before.before.args.kinds c.before.loop-bus.bus (omega (arith, c.before.before.well_formed.0)))
+returns c = omega (arith, c.loop-bus.invariant.2, all_counted c.args.kinds c.loop-bus.bus (omega (arith, c.well_formed.0)))
 
 pub used_buses_spec : {M : Type 1} → statement M
 used_buses_spec =

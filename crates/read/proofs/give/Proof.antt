@@ -33,19 +33,19 @@ abbrev n : Measured → ℕ
 n c = (start c).args.n
 
 abbrev log : Measured → List ℕ
-log c = (start c).args.log-1.now
+log c = (start c).args.log.now
 
 abbrev times : Measured → List ℕ
-times c = (start c).args.times-1.now
+times c = (start c).args.times.now
 
 abbrev bytes : Measured → ℕ
 bytes c = (start c).args.bytes
 
 abbrev need : Measured → ℕ
-need c = c.before.times_of-need.result
+need c = c.times_of-need.result
 
 need_is : (c : Measured) → need c ≡ times_needed (plan c) (n c)
-need_is c = c.before.times_of-need.ensures
+need_is c = c.times_of-need.ensures
 
 number_is : (c : Measured) (whole : List ℕ) → Built whole (start c).args.built.now (bytes c)
     → c.room_number-number.result ≡ room_number (length whole) (length (log c)) (times_needed (plan c) (n c)) (length (times c))
@@ -61,7 +61,7 @@ measured c = c.before.before
 fits : (c : Fitting) → let m = measured c in (bytes m ≤ 32768) × (bytes m ≤ length (log m)) × (need m ≤ length (times m))
 fits c =
     let m = measured c in
-    fit (bytes m) (length (log m)) (need m) (length (times m)) (λ z. c.before.if-number-eq6.false (m.room_number-number.ensures ∙ z)) (λ z. c.if-number-eq7.false (m.room_number-number.ensures ∙ z))
+    fit (bytes m) (length (log m)) (need m) (length (times m)) (λ z. c.if-number-eq6.false (m.room_number-number.ensures ∙ z)) (λ z. c.if-number-eq7.false (m.room_number-number.ensures ∙ z))
 
 built_room : (c : Fitting) → let m = measured c in bytes m + 7 ≤ length (start m).args.built.now
 built_room c = (start (measured c)).requires.1 (fits c).0 (fits c).1
@@ -81,7 +81,7 @@ returns-then-number-eq6 : tie.Need-returns-then-number-eq6
 returns-then-number-eq6 c = λ whole b.
     let m = c.before.before in
     given_refused (log m) (times m)
-    (log_beyond (plan m) (capture m) (n m) (length (log m)) (length (times m)) whole (sym (number_is m whole b) ∙ c.before.if-number-eq6.true)
+    (log_beyond (plan m) (capture m) (n m) (length (log m)) (length (times m)) whole (sym (number_is m whole b) ∙ c.if-number-eq6.true)
     ∙ ap (λ (k : ℕ). refuses 6 k 0) (sym b.size))
     c.refusal.ensures
 
@@ -92,7 +92,7 @@ returns-then-number-eq7 : tie.Need-returns-then-number-eq7
 returns-then-number-eq7 c = λ whole b.
     let m = c.before.before.before in
     given_refused (log m) (times m)
-    (times_beyond (plan m) (capture m) (n m) (length (log m)) (length (times m)) whole (sym (number_is m whole b) ∙ c.before.if-number-eq7.true)
+    (times_beyond (plan m) (capture m) (n m) (length (log m)) (length (times m)) whole (sym (number_is m whole b) ∙ c.if-number-eq7.true)
     ∙ ap (λ (k : ℕ). refuses 7 k 0) (sym (need_is m)))
     c.refusal-then-number-eq7.ensures
 
@@ -105,7 +105,7 @@ write_times-requires c κs =
     let m = measured e in
     let s = start m in
     let a = mul-le-mul_right (group_words (plan m)) (times_few (plan m) (n m)) in
-    (s.pre.0.0, rw (need_is m) (omega (arith, a, s.pre.0.1)), s.pre.0.2, (fits e).2)
+    (s.requires.0.0, rw (need_is m) (omega (arith, a, s.requires.0.1)), s.requires.0.2, (fits e).2)
 
 shape_of-log : tie.Need-shape_of-log
 shape_of-log c = search rules
@@ -119,7 +119,7 @@ returns c =
     let m = measured e in
     λ whole b.
     given_copied (plan m) (capture m) (n m) whole (start m).args.built.now (bytes m) (need m) (log m) _ (times m) _ b (fits e).0 (fits e).1 (built_room e) (need_is m) (fits e).2
-    c.before.before.before.before.before.before.copy.ensures c.before.before.write_times.ensures
+    c.copy.ensures c.write_times.ensures
 
 pub give_spec : {M : Type 1} → statement M
 give_spec =

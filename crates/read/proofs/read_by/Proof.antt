@@ -31,10 +31,10 @@ abbrev capture : Read → List ℕ
 capture c = (start c).args.capture.now
 
 abbrev log : Read → List ℕ
-log c = (start c).args.log-1.now
+log c = (start c).args.log.now
 
 abbrev times : Read → List ℕ
-times c = (start c).args.times-1.now
+times c = (start c).args.times.now
 
 abbrev groups : Read → ℕ
 groups c = length (capture c) / (3 * group_words (plan c))
@@ -42,8 +42,8 @@ groups c = length (capture c) / (3 * group_words (plan c))
 abbrev built : Read → List ℕ
 built c = c.read_groups-end.new.1.1.1.1.1.0
 
-counted : (c : Read) → c.before.before.before.groups_in-n.result ≡ groups c
-counted c = c.before.before.before.groups_in-n.ensures
+counted : (c : Read) → c.groups_in-n.result ≡ groups c
+counted c = c.groups_in-n.ensures
 
 ended : (c : Read) → Ended (start c).args.kinds (plan c) (capture c) (groups c) c.read_groups-end.result (built c)
 ended c =
@@ -80,7 +80,7 @@ few : (c : Asked) → c.asked-misplaced.result ≤ 349525
 few c =
     let r = read (brought (answered c)) in
     fill-few (plan r) (capture r) (groups r) (length (log r)) (length (times r)) (start r).args.closed (logged (brought (answered c))) (answered c).if-end-ne0-2.false c.asked-misplaced.result c.asked-misplaced.ensures
-    (length (capture r)) (whole r) (start r).pre.0.1 (start r).pre.0.0
+    (length (capture r)) (whole r) (start r).requires.0.1 (start r).requires.0.0
 
 -- ---- the needs
 
@@ -94,7 +94,7 @@ read_groups-end-requires : tie.Need-read_groups-end-requires
 read_groups-end-requires c κs =
     let w = c.before.before in
     let s = w.before.before.before.before.before in (
-      (s.requires.0.0, c.before.slots-count.ensures.0),
+      (s.requires.0.0, c.slots-count.ensures.0),
       (rw w.groups_in-n.ensures (whole_groups s.args.plan (length s.args.capture.now) s.requires.0.2), s.requires.0.1),
     )
 
@@ -112,15 +112,15 @@ returns-then-end-ne0 c =
     (stops_settled (plan r) (capture r) (groups r) (length (log r)) (length (times r)) (start r).args.closed (ended r) t.if-end-ne0.true) c.refusal.ensures
 
 overflow_sub-end : tie.Need-overflow_sub-end
-overflow_sub-end c = omega (arith, c.before.if-end-ne0-2.true)
+overflow_sub-end c = omega (arith, c.if-end-ne0-2.true)
 
 stored_place-requires : tie.Need-stored_place-requires
 stored_place-requires c κs =
     let l = c.before.before.before in
     let r = read l in (
-      (start r).pre.0.0,
-      r.before.before.slots-count.ensures.0,
-      omega (arith, open_few (plan r) (capture r) (groups r) (length (log r)) (length (times r)) (start r).args.closed (logged l) (length (capture r)) (whole r) (start r).pre.0.1 (start r).pre.0.0),
+      (start r).requires.0.0,
+      r.slots-count.ensures.0,
+      omega (arith, open_few (plan r) (capture r) (groups r) (length (log r)) (length (times r)) (start r).args.closed (logged l) (length (capture r)) (whole r) (start r).requires.0.1 (start r).requires.0.0),
     )
 
 refusal-requires-then-end-ne0-2 : tie.Need-refusal-requires-then-end-ne0-2
@@ -135,7 +135,7 @@ returns-then-end-ne0-2 c =
     let l = t.before.before in
     let r = read l in
     given_refused (log r) (times r)
-    (open-settled (plan r) (capture r) (groups r) (length (log r)) (length (times r)) (start r).args.closed (logged l) t.if-end-ne0-2.true c.before.stored_place.ensures)
+    (open-settled (plan r) (capture r) (groups r) (length (log r)) (length (times r)) (start r).args.closed (logged l) t.if-end-ne0-2.true c.stored_place.ensures)
     c.refusal-then-end-ne0-2.ensures
 
 asked-misplaced-requires : tie.Need-asked-misplaced-requires
@@ -148,7 +148,7 @@ stored_place-requires-then-misplaced-ne0 : tie.Need-stored_place-requires-then-m
 stored_place-requires-then-misplaced-ne0 c κs =
     let a = c.before in
     let r = read (brought (answered a)) in
-    ((start r).pre.0.0, r.before.before.slots-count.ensures.0, omega (arith, few a))
+    ((start r).requires.0.0, r.slots-count.ensures.0, omega (arith, few a))
 
 refusal-requires-then-misplaced-ne0 : tie.Need-refusal-requires-then-misplaced-ne0
 refusal-requires-then-misplaced-ne0 c κs = search rules
@@ -164,7 +164,7 @@ returns-then-misplaced-ne0 c =
     let r = read l in
     given_refused (log r) (times r)
     (fill-settled (plan r) (capture r) (groups r) (length (log r)) (length (times r)) (start r).args.closed (logged l) (answered a).if-end-ne0-2.false a.asked-misplaced.result a.asked-misplaced.ensures
-    t.if-misplaced-ne0.true c.before.stored_place-then-misplaced-ne0.ensures)
+    t.if-misplaced-ne0.true c.stored_place-then-misplaced-ne0.ensures)
     c.refusal-then-misplaced-ne0.ensures
 
 give-requires : tie.Need-give-requires
@@ -173,10 +173,10 @@ give-requires c κs =
     let r = read l in
     let s = start r in
     let g = logged l in (
-      (s.pre.0.0, rw (counted r) (omega (arith, whole r)), s.pre.0.1),
+      (s.requires.0.0, rw (counted r) (omega (arith, whole r)), s.requires.0.1),
       λ h k.
-          let w = s.pre.1.room g.items g.is (omega (arith, g.bytes, h)) (omega (arith, g.bytes, k)) in
-          let e : length (built r) ≡ length s.args.built-1.now = l.before.before.before.built-1.given in
+          let w = s.requires.1.room g.items g.is (omega (arith, g.bytes, h)) (omega (arith, g.bytes, k)) in
+          let e : length (built r) ≡ length s.args.built.now = l.built-1.given in
           omega (arith, w, e, g.bytes),
     )
 

@@ -12,7 +12,7 @@ shape_of-times : tie.Need-shape_of-times
 shape_of-times c = search rules
 
 returns : tie.Need-returns
-returns c = c.before.before.before.before.read_either.ensures
+returns c = c.read_either.ensures
 
 pub read_closed_spec : {M : Type 1} → statement M
 read_closed_spec = tie.close (tie.spec read_either-requires shape_of-log shape_of-times returns)

@@ -34,7 +34,7 @@ abbrev Legal : Type 0
 Legal = tie.Else-not-legal
 
 is_legal : (c : Legal) → legal (start c.before).args.plan (start c.before).args.kinds ≡ true
-is_legal c = sym c.before.legal.ensures ∙ not-false _ c.if-not-legal.false
+is_legal c = sym c.legal.ensures ∙ not-false _ c.if-not-legal.false
 
 shape : (c : Legal) → Shape (start c.before).args.plan
 shape c = shape_of _ _ (is_legal c)
@@ -47,19 +47,19 @@ abbrev is_judged : Whole → Judged
 is_judged c = c.before.before.before.before
 
 whole : (c : Whole) → length (capture (is_judged c)) % (3 * group_words (start (is_judged c)).args.plan) ≡ 0
-whole c = eqb-true _ _ (sym c.before.is_whole.ensures ∙ not-false _ c.if-not-is_whole.false)
+whole c = eqb-true _ _ (sym c.is_whole.ensures ∙ not-false _ c.if-not-is_whole.false)
 
 -- what a reading of one of the sizes asks
 asked : (c : Whole) → Shape (start (is_judged c)).args.plan × (length (capture (is_judged c)) ≤ 1048576)
     × (length (capture (is_judged c)) % (3 * group_words (start (is_judged c)).args.plan) ≡ 0)
-asked c = (shape c.before.before.before, c.before.before.if-length-gt1048576.false, whole c)
+asked c = (shape c.before.before.before, c.if-length-gt1048576.false, whole c)
 
 -- and the array has room for the capture's log
 enough : (c : Whole) (built : ℕ) → 13 * length (capture (is_judged c)) + 89 ≤ 12 * built
-    → Enough (start (is_judged c)).args.plan (start (is_judged c)).args.kinds (capture (is_judged c)) built (length (start (is_judged c)).args.log-1.now)
+    → Enough (start (is_judged c)).args.plan (start (is_judged c)).args.kinds (capture (is_judged c)) built (length (start (is_judged c)).args.log.now)
 enough c built h =
     let j = is_judged c in
-    small_enough _ (capture j) (λ i. omega (arith, j.before.before.before.shared_slice_known-1.given i)) _ built _ (shape c.before.before.before) (whole c) h
+    small_enough _ (capture j) (λ i. omega (arith, j.shared_slice_known-1.given i)) _ built _ (shape c.before.before.before) (whole c) h
 
 -- ---- the needs
 
@@ -73,8 +73,8 @@ returns-then-not-legal : tie.Need-returns-then-not-legal
 returns-then-not-legal c =
     let j = c.before.before in
     let s = start j in
-    given_refused s.args.log-1.now s.args.times-1.now
-    (illegal_refused s.args.closed s.args.plan s.args.kinds (capture j) _ _ (sym j.legal.ensures ∙ not-true _ c.before.if-not-legal.true))
+    given_refused s.args.log.now s.args.times.now
+    (illegal_refused s.args.closed s.args.plan s.args.kinds (capture j) _ _ (sym j.legal.ensures ∙ not-true _ c.if-not-legal.true))
     c.refusal.ensures
 
 refusal-requires-then-length-gt1048576 : tie.Need-refusal-requires-then-length-gt1048576
@@ -84,8 +84,8 @@ returns-then-length-gt1048576 : tie.Need-returns-then-length-gt1048576
 returns-then-length-gt1048576 c =
     let l = c.before.before in
     let s = start l.before in
-    given_refused s.args.log-1.now s.args.times-1.now
-    (long_refused s.args.closed s.args.plan s.args.kinds (capture l.before) _ _ (is_legal l) c.before.if-length-gt1048576.true)
+    given_refused s.args.log.now s.args.times.now
+    (long_refused s.args.closed s.args.plan s.args.kinds (capture l.before) _ _ (is_legal l) c.if-length-gt1048576.true)
     c.refusal-then-length-gt1048576.ensures
 
 is_whole-requires : tie.Need-is_whole-requires
@@ -99,9 +99,9 @@ returns-then-not-is_whole c =
     let w = c.before.before in
     let l = w.before.before in
     let s = start l.before in
-    given_refused s.args.log-1.now s.args.times-1.now
-    (ragged_refused s.args.closed s.args.plan s.args.kinds (capture l.before) _ _ (is_legal l) w.before.if-length-gt1048576.false
-    (sym w.is_whole.ensures ∙ not-true _ c.before.if-not-is_whole.true))
+    given_refused s.args.log.now s.args.times.now
+    (ragged_refused s.args.closed s.args.plan s.args.kinds (capture l.before) _ _ (is_legal l) w.if-length-gt1048576.false
+    (sym w.is_whole.ensures ∙ not-true _ c.if-not-is_whole.true))
     c.refusal-then-not-is_whole.ensures
 
 -- the reading is that of the groups
@@ -109,18 +109,18 @@ abbrev groups : Whole → ℕ
 groups c = length (capture (is_judged c)) / (3 * group_words (start (is_judged c)).args.plan)
 
 read_is : (c : Whole) → (let j = is_judged c in let s = start j in
-    reading s.args.closed s.args.plan s.args.kinds (capture j) (length s.args.log-1.now) (length s.args.times-1.now)
-    ≡ settled s.args.plan (capture j) (groups c) (length s.args.log-1.now) (length s.args.times-1.now) s.args.closed
+    reading s.args.closed s.args.plan s.args.kinds (capture j) (length s.args.log.now) (length s.args.times.now)
+    ≡ settled s.args.plan (capture j) (groups c) (length s.args.log.now) (length s.args.times.now) s.args.closed
     (read_groups s.args.plan s.args.kinds (capture j) (groups c) 0 Nothing 0))
 read_is c =
     let j = is_judged c in
     let s = start j in
     let l = c.before.before.before in
-    read_on s.args.closed s.args.plan s.args.kinds (capture j) (length s.args.log-1.now) (length s.args.times-1.now) (is_legal l) c.before.before.if-length-gt1048576.false
+    read_on s.args.closed s.args.plan s.args.kinds (capture j) (length s.args.log.now) (length s.args.times.now) (is_legal l) c.if-length-gt1048576.false
     (whole c)
 
 read_tiny-requires : tie.Need-read_tiny-requires
-read_tiny-requires c κs = let w = c.before.before.before in (asked w, enough w 552 (omega (arith, c.before.before.if-length-le501.true)))
+read_tiny-requires c κs = let w = c.before.before.before in (asked w, enough w 552 (omega (arith, c.if-length-le501.true)))
 
 shape_of-log-then-length-le501 : tie.Need-shape_of-log-then-length-le501
 shape_of-log-then-length-le501 c = search rules
@@ -132,7 +132,7 @@ returns-then-length-le501 : tie.Need-returns-then-length-le501
 returns-then-length-le501 c = let r = c.before.before.before.before in rw (read_is r.before.before.before.before) r.read_tiny.ensures
 
 read_small-requires : tie.Need-read_small-requires
-read_small-requires c κs = let w = c.before.before.before.before in (asked w, enough w 2056 (omega (arith, c.before.before.if-length-le1884.true)))
+read_small-requires c κs = let w = c.before.before.before.before in (asked w, enough w 2056 (omega (arith, c.if-length-le1884.true)))
 
 shape_of-log-then-length-le1884 : tie.Need-shape_of-log-then-length-le1884
 shape_of-log-then-length-le1884 c = search rules
@@ -144,7 +144,7 @@ returns-then-length-le1884 : tie.Need-returns-then-length-le1884
 returns-then-length-le1884 c = let r = c.before.before.before.before in rw (read_is r.before.before.before.before.before) r.read_small.ensures
 
 read_small-requires-then-log-le2048 : tie.Need-read_small-requires-then-log-le2048
-read_small-requires-then-log-le2048 c κs = (asked c.before.before.before.before.before, room_enough _ _ _ _ c.before.before.if-log-le2048.true)
+read_small-requires-then-log-le2048 c κs = (asked c.before.before.before.before.before, room_enough _ _ _ _ c.if-log-le2048.true)
 
 shape_of-log-then-log-le2048 : tie.Need-shape_of-log-then-log-le2048
 shape_of-log-then-log-le2048 c = search rules
@@ -156,7 +156,7 @@ returns-then-log-le2048 : tie.Need-returns-then-log-le2048
 returns-then-log-le2048 c = let r = c.before.before.before.before in rw (read_is r.before.before.before.before.before.before) r.read_small-then-log-le2048.ensures
 
 read_middle-requires : tie.Need-read_middle-requires
-read_middle-requires c κs = let w = c.before.before.before.before.before.before in (asked w, enough w 8200 (omega (arith, c.before.before.if-length-le7560.true)))
+read_middle-requires c κs = let w = c.before.before.before.before.before.before in (asked w, enough w 8200 (omega (arith, c.if-length-le7560.true)))
 
 shape_of-log-then-length-le7560 : tie.Need-shape_of-log-then-length-le7560
 shape_of-log-then-length-le7560 c = search rules

@@ -22,7 +22,7 @@ earlier-requires-2 c κs = search rules
 
 returns : tie.Need-returns
 unfolding room_number
-returns c = c.earlier-2.ensures ∙ ap₂ earlier c.before.before.before.before.short_of-long.ensures (c.before.earlier.ensures ∙ ap₂ earlier c.before.before.before.short_of-log.ensures c.before.before.short_of-times.ensures)
+returns c = c.earlier-2.ensures ∙ ap₂ earlier c.short_of-long.ensures (c.earlier.ensures ∙ ap₂ earlier c.short_of-log.ensures c.short_of-times.ensures)
 
 pub room_number_spec : {M : Type 1} → statement M
 room_number_spec =

@@ -23,10 +23,10 @@ abbrev entries : Lent → ℕ
 entries c = c.least-entries.result
 
 abbrev row : Lent → List ℕ
-row c = (start c).args.row-1.now
+row c = (start c).args.row.now
 
 abbrev time_room : Lent → ℕ
-time_room c = length (start c).args.times-1.now / 8
+time_room c = length (start c).args.times.now / 8
 
 both : (c : Lent) → (entries c ≤ time_room c) × (entries c ≤ length (row c))
 both c = least_both (time_room c) (length (row c)) (entries c) c.least-entries.ensures
@@ -45,7 +45,7 @@ same_reading : (c : Lent) → reading_in c (time_room c) ≡ reading_in c (lengt
 same_reading c =
     let s = start c in
     let a = s.args in
-    least_enough a.closed a.plan a.kinds a.capture.now (length a.log-1.now) (time_room c) (length (row c)) (entries c) s.pre c.least-entries.ensures
+    least_enough a.closed a.plan a.kinds a.capture.now (length a.log-1.now) (time_room c) (length (row c)) (entries c) s.requires c.least-entries.ensures
     ∙ ap (reading_in c) (sym (part_long c))
 
 -- the capture is read
@@ -72,7 +72,7 @@ few c =
 there : (c : Read) → c.read_either-answer.result.times-1 ≤ length (part_after c)
 there c =
     let l = lent c in
-    given_there c.read_either-answer.result (start l).args.log-1.now (log_after c) (part l) (part_after c) (reading_in l (length (part l))) c.read_either-answer.ensures
+    given_there c.read_either-answer.result (start l).args.log.now (log_after c) (part l) (part_after c) (reading_in l (length (part l))) c.read_either-answer.ensures
 
 -- its times are put
 abbrev read : tie.After-put_times-arg2 → Read

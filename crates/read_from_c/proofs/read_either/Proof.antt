@@ -12,7 +12,7 @@ shape_of-times-then-closed : tie.Need-shape_of-times-then-closed
 shape_of-times-then-closed c = search rules
 
 returns-then-closed : tie.Need-returns-then-closed
-returns-then-closed c = rw c.before.before.before.before.before.before.before.if-closed.true c.before.before.before.before.read_closed.ensures
+returns-then-closed c = rw c.if-closed.true c.read_closed.ensures
 
 read-requires : tie.Need-read-requires
 read-requires c κs = search rules
@@ -24,7 +24,7 @@ shape_of-times : tie.Need-shape_of-times
 shape_of-times c = search rules
 
 returns : tie.Need-returns
-returns c = rw c.before.before.before.before.before.before.before.if-closed.false c.before.before.before.before.read.ensures
+returns c = rw c.if-closed.false c.read.ensures
 
 pub read_either_spec : {M : Type 1} → statement M
 read_either_spec =

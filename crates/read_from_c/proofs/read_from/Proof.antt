@@ -15,8 +15,8 @@ plan_from-plan-requires c κs = search rules
 
 kinds_from-requires : tie.Need-kinds_from-requires
 kinds_from-requires c κs =
-    let a = c.before.before.before.before.before.before.before.args in
-    sixteen a.frame_time a.crc a.parity a.kinds.now (sym c.before.before.named.ensures ∙ c.before.if-named.true)
+    let a = c.args in
+    sixteen a.frame_time a.crc a.parity a.kinds.now (sym c.named.ensures ∙ c.if-named.true)
 
 read_bytes-requires : tie.Need-read_bytes-requires
 read_bytes-requires c κs = search rules
@@ -32,22 +32,22 @@ returns-then-named c =
     let k = c.before.before.before.before.before.before.before in
     let p = k.before in
     let t = p.before in
-    let a = t.before.before.before.before.before.before.args in
-    let e = sym t.before.named.ensures ∙ t.if-named.true in
+    let a = t.args in
+    let e = sym t.named.ensures ∙ t.if-named.true in
     rw
     (read_named a.words a.tracks a.frame_time a.crc a.parity a.crc_label a.fill_bus a.kinds.now p.plan_from-plan.result k.kinds_from.result e
     p.plan_from-plan.ensures k.kinds_from.ensures a.closed a.capture.now (length a.log-1.now) (length a.times-1.now))
-    c.before.before.before.before.read_bytes.ensures
+    c.read_bytes.ensures
 
 unnamed-requires : tie.Need-unnamed-requires
 unnamed-requires c κs = search rules
 
 returns : tie.Need-returns
 returns c =
-    let a = c.before.before.before.before.before.before.before.args in
+    let a = c.args in
     rw
     (read_unnamed a.words a.tracks a.frame_time a.crc a.parity a.crc_label a.fill_bus a.kinds.now a.closed a.capture.now (length a.log-1.now)
-    (length a.times-1.now) (sym c.before.before.named.ensures ∙ c.before.if-named.false))
+    (length a.times-1.now) (sym c.named.ensures ∙ c.if-named.false))
     (given_none _ a.log-1.now a.times-1.now 1 0 0 c.unnamed.ensures)
 
 pub read_from_spec : {M : Type 1} → statement M

@@ -13,7 +13,7 @@ stored_place-second-requires : tie.Need-stored_place-second-requires
 stored_place-second-requires c κs = let s = c.before in (s.requires.0, s.requires.1, s.requires.4)
 
 returns : tie.Need-returns
-returns c = rw (c.before.stored_place-place.ensures, c.stored_place-second.ensures) refl
+returns c = rw (c.stored_place-place.ensures, c.stored_place-second.ensures) refl
 
 pub broken_spec : {M : Type 1} → statement M
 broken_spec = tie.close (tie.spec overflow_sub-bad stored_place-place-requires stored_place-second-requires returns)

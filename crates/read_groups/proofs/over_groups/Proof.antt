@@ -55,16 +55,16 @@ all c = (start c).requires.1.0
 abbrev InLoop : Type 0
 InLoop = tie.In-loop-g invariant-loop-g decreases-loop-g
 
-room : (c : InLoop) → c.before.loop-g.g * (3 * group_words (plan c.before)) + 3 * group_words (plan c.before) ≤ length (capture c.before)
+room : (c : InLoop) → c.loop-g.g * (3 * group_words (plan c.before)) + 3 * group_words (plan c.before) ≤ length (capture c.before)
 room c = let l = c.before in group_room (plan l) (shape l) (start l).args.groups l.loop-g.g (length (capture l)) (all l) c.loop-g-test.true
 
 bytes : (c : AtLoop) (i : ℕ) → get_or (capture c) i 0 < 2 ^ 8
-bytes c i = omega (arith, c.before.before.before.before.before.before.before.shared_slice_known-1.given i)
+bytes c i = omega (arith, c.shared_slice_known-1.given i)
 
 size : (c : AtLoop) → group_words (plan c) ≤ most_group_words
 size c = group_most (plan c) (shape c)
 
-over : (c : AtLoop) → Over (start c).args.kinds (plan c) (capture c) (start c).args.groups (start c).args.out-1.now c.loop-g.g c.loop-g.pass c.loop-g.out-1
+over : (c : AtLoop) → Over (start c).args.kinds (plan c) (capture c) (start c).args.groups (start c).args.out.now c.loop-g.g c.loop-g.pass c.loop-g.out-1
 over c = c.loop-g.invariant.3
 
 -- it is dealt
@@ -93,22 +93,22 @@ dealt c = c.before.before.before.before
 abbrev group : Sound-group → AtLoop
 group c = loop (dealt c)
 
-first : (c : Sound-group) → (group c).before.before.before.lead-first.result ≡ lead (plan (group c))
-first c = (group c).before.before.before.lead-first.ensures
+first : (c : Sound-group) → (group c).lead-first.result ≡ lead (plan (group c))
+first c = (group c).lead-first.ensures
 
 abbrev words : Sound-group → List ℕ
 words c = words_in (group_slots (plan (group c)) (capture (group c)) ((group c).loop-g.g * group_words (plan (group c))))
 
 abbrev part : Sound-group → List ℕ
 part c =
-    let n = (group c).before.before.before.lead-first.result in
+    let n = (group c).lead-first.result in
     take (n + (start (group c)).args.count - n) (drop n (row (dealt c)))
 
 part_is : (c : Sound-group) → part c ≡ words c
 part_is c =
     let l = group c in
-    dealt_words (plan l) (shape l) (capture l) l.loop-g.g (dealt c).deal-fault.ensures l.before.before.before.lead-first.result (start l).args.count c.if-fault-ne0.false (first c)
-    (start l).pre.0.1
+    dealt_words (plan l) (shape l) (capture l) l.loop-g.g (dealt c).deal-fault.ensures l.lead-first.result (start l).args.count c.if-fault-ne0.false (first c)
+    (start l).requires.0.1
 
 part_length_is : (c : Sound-group) → length (part c) ≡ slots (plan (group c))
 part_length_is c = ap (λ (l : List ℕ). length l) (part_is c) ∙ words_length (plan (group c)) (capture (group c)) ((group c).loop-g.g * group_words (plan (group c)))
@@ -116,8 +116,8 @@ part_length_is c = ap (λ (l : List ℕ). length l) (part_is c) ∙ words_length
 numbers : (c : Sound-group) → ((group c).loop-g.g + 1) * slots (plan (group c)) ≤ 349525
 numbers c =
     let l = group c in
-    let k : l.loop-g.g + 1 ≤ (start l).args.groups = omega (arith, (in_loop (dealt c)).loop-g-test.taken) in
-    omega (arith, numbers_few (plan l) (shape l) (start l).args.groups (length (capture l)) (all l) (start l).pre.1.1, mul-le-mul_right (slots (plan l)) k)
+    let k : l.loop-g.g + 1 ≤ (start l).args.groups = omega (arith, (in_loop (dealt c)).loop-g-test.true) in
+    omega (arith, numbers_few (plan l) (shape l) (start l).args.groups (length (capture l)) (all l) (start l).requires.1.1, mul-le-mul_right (slots (plan l)) k)
 
 counted_is : (c : Sound-group) → counted (group c).loop-g.from (part c) ≡ numbers_of (plan (group c)) (capture (group c)) (group c).loop-g.g
 counted_is c = ap₂ counted (group c).loop-g.invariant.1 (part_is c)
@@ -130,11 +130,11 @@ words_of_row c i h =
     let l = group c in
     rw (part_is c) (words_low (plan l) (capture l) (l.loop-g.g * group_words (plan l)) (bytes l) i (rw (part_is c) at h))
 
-part_room : (c : Sound-group) → (group c).before.before.before.lead-first.result + (start (group c)).args.count ≤ length (row (dealt c))
+part_room : (c : Sound-group) → (group c).lead-first.result + (start (group c)).args.count ≤ length (row (dealt c))
 part_room c =
     let l = group c in
-    let r = (start l).pre.0.2 (omega (arith, (in_loop (dealt c)).loop-g-test.taken)) in
-    omega (arith, first c, (start l).pre.0.1, (dealt c).deal-fault.ensures.long, l.loop-g.inv.2, r, dealt_all (plan l) (shape l))
+    let r = (start l).requires.0.2 (omega (arith, (in_loop (dealt c)).loop-g-test.true)) in
+    omega (arith, first c, (start l).requires.0.1, (dealt c).deal-fault.ensures.long, l.loop-g.invariant.2, r, dealt_all (plan l) (shape l))
 
 -- its row was read
 abbrev Ran-row : Type 0
@@ -151,7 +151,7 @@ told_few c =
     let e = of_row c in
     let l = group e in
     let t =
-    told-low (start l).args.kinds (plan l) (capture l) (start l).args.groups (start l).args.out-1.now (shape l) l.loop-g.g (in_loop (dealt e)).loop-g-test.taken
+    told-low (start l).args.kinds (plan l) (capture l) (start l).args.groups (start l).args.out.now (shape l) l.loop-g.g (in_loop (dealt e)).loop-g-test.true
     l.loop-g.pass l.loop-g.out-1 (over l) (counted l.loop-g.from (part e)) (counted_is e) (sound e) c.on_Row.result (out c) c.on_Row.ensures.0 in
     (omega (arith, t.0, numbers e), omega (arith, t.1, numbers e))
 
@@ -185,15 +185,15 @@ noted_next : (c : Noted-row)
 noted_next c =
     let e = good_group (noted c) in
     let l = group e in
-    noted_more (start l).args.kinds (plan l) (capture l) (start l).args.groups l.loop-g.g (in_loop (dealt e)).loop-g-test.taken l.loop-g.inv.5 l.loop-g.from (part e)
-    l.loop-g.inv.1 (part_is e) c.note_row-noted.ensures.0
+    noted_more (start l).args.kinds (plan l) (capture l) (start l).args.groups l.loop-g.g (in_loop (dealt e)).loop-g-test.true l.loop-g.invariant.5 l.loop-g.from (part e)
+    l.loop-g.invariant.1 (part_is e) c.note_row-noted.ensures.0
 
 -- all groups were passed
 abbrev Passed : Type 0
 Passed = tie.After-loop-g invariant-loop-g decreases-loop-g
 
-last : (c : Passed) → c.before.loop-g.g ≡ (start c.before).args.groups
-last c = omega (arith, c.loop-g-test.false, c.before.loop-g.invariant.0)
+last : (c : Passed) → c.loop-g.g ≡ (start c.before).args.groups
+last c = omega (arith, c.loop-g-test.false, c.loop-g.invariant.0)
 
 earliest : (c : Passed) → let l = c.before in earliest_of l.loop-g.noted.found l.loop-g.table-1 ≡ open_number (start l).args.kinds (plan l) (capture l) (start l).args.groups
 earliest c =
@@ -221,19 +221,19 @@ has_arinc-arinc-requires c κs = search rules
 
 loop-g-init : tie.Need-loop-g-init invariant-loop-g decreases-loop-g
 unfolding all_zero
-loop-g-init c = (omega arith, omega arith, refl, over_none _ _ _ _ _ c.before.start_pass-start.ensures, refl, noted_none _ _ _ _, refl)
+loop-g-init c = (omega arith, omega arith, refl, over_none _ _ _ _ _ c.start_pass-start.ensures, refl, noted_none _ _ _ _, refl)
 
 overflow_mul-begin : tie.Need-overflow_mul-begin invariant-loop-g decreases-loop-g
 overflow_mul-begin c = omega (arith, size c.before)
 
 overflow_mul-begin-in-loop-g : tie.Need-overflow_mul-begin-in-loop-g invariant-loop-g decreases-loop-g
-overflow_mul-begin-in-loop-g c = omega (arith, room c, (start c.before).pre.1.1)
+overflow_mul-begin-in-loop-g c = omega (arith, room c, (start c.before).requires.1.1)
 
 overflow_mul-end : tie.Need-overflow_mul-end invariant-loop-g decreases-loop-g
 overflow_mul-end c = omega (arith, size c.before)
 
 overflow_add-end : tie.Need-overflow_add-end invariant-loop-g decreases-loop-g
-overflow_add-end c = omega (arith, room c, (start c.before).pre.1.1)
+overflow_add-end c = omega (arith, room c, (start c.before).requires.1.1)
 
 slice_bounds-deal-count : tie.Need-slice_bounds-deal-count invariant-loop-g decreases-loop-g
 slice_bounds-deal-count c = search rules
@@ -254,10 +254,10 @@ deal-fault-requires c κs =
     )
 
 overflow_mul-place : tie.Need-overflow_mul-place invariant-loop-g decreases-loop-g
-overflow_mul-place c = let d = c.before.before.before.before in omega (arith, room (in_loop d), (start (loop d)).pre.1.1)
+overflow_mul-place c = let d = c.before.before.before.before in omega (arith, room (in_loop d), (start (loop d)).requires.1.1)
 
 overflow_add-place : tie.Need-overflow_add-place invariant-loop-g decreases-loop-g
-overflow_add-place c = let d = c.before.before.before.before.before in omega (arith, low d, room (in_loop d), (start (loop d)).pre.1.1)
+overflow_add-place c = let d = c.before.before.before.before.before in omega (arith, low d, room (in_loop d), (start (loop d)).requires.1.1)
 
 shape_of-row-then-fault-ne0 : tie.Need-shape_of-row-then-fault-ne0 invariant-loop-g decreases-loop-g
 shape_of-row-then-fault-ne0 c = search rules
@@ -274,7 +274,7 @@ returns-then-fault-ne0 c =
       through = λ z. absurd (t.if-fault-ne0.true z);
       notice = λ z. absurd (t.if-fault-ne0.true z);
       stops = λ z.
-          over-fault (start l).args.kinds (plan l) (capture l) (start l).args.groups (start l).args.out-1.now (shape l) l.loop-g.g (in_loop d).loop-g-test.true l.loop-g.pass
+          over-fault (start l).args.kinds (plan l) (capture l) (start l).args.groups (start l).args.out.now (shape l) l.loop-g.g (in_loop d).loop-g-test.true l.loop-g.pass
           l.loop-g.out-1 (over l) (dealt-found (plan l) (shape l) (capture l) l.loop-g.g d.deal-fault.ensures z);
     }
 
@@ -296,8 +296,8 @@ on_row-pass-requires c κs =
     let l = group e in (
       (over l).brought.sound,
       words_of_row e,
-      rw l.loop-g.inv.1 (over l).few,
-      omega (arith, l.loop-g.inv.1, part_length_is e, numbers e),
+      rw l.loop-g.invariant.1 (over l).few,
+      omega (arith, l.loop-g.invariant.1, part_length_is e, numbers e),
       (shape l).filling,
     )
 
@@ -306,15 +306,15 @@ broken-requires c κs =
     let r = bad_row c in
     let l = group (of_row r) in
     let t = told_few r in
-    (shape l, (start l).pre.0.1, omega (arith, c.if-pass-ne0.true), t.1, t.0)
+    (shape l, (start l).requires.0.1, omega (arith, c.if-pass-ne0.true), t.1, t.0)
 
 shape_of-row-then-pass-ne0 : tie.Need-shape_of-row-then-pass-ne0 invariant-loop-g decreases-loop-g
 shape_of-row-then-pass-ne0 c =
     let e = of_row (bad_row c.before) in
-    (dealt e).deal-fault.ensures.long ∙ (group e).loop-g.inv.2
+    (dealt e).deal-fault.ensures.long ∙ (group e).loop-g.invariant.2
 
 shape_of-out-then-pass-ne0 : tie.Need-shape_of-out-then-pass-ne0 invariant-loop-g decreases-loop-g
-shape_of-out-then-pass-ne0 c = c.before.before.before.before.out-1.given ∙ (over (group (of_row (bad_row c.before)))).brought.long
+shape_of-out-then-pass-ne0 c = c.out-1.given ∙ (over (group (of_row (bad_row c.before)))).brought.long
 
 returns-then-pass-ne0 : tie.Need-returns-then-pass-ne0 invariant-loop-g decreases-loop-g
 returns-then-pass-ne0 c =
@@ -323,7 +323,7 @@ returns-then-pass-ne0 c =
     let e = of_row r in
     let l = group e in
     walked_bad _ _ _ _ _ r.on_Row.result.bad r.on_Row.result.since
-    (over-bad (start l).args.kinds (plan l) (capture l) (start l).args.groups (start l).args.out-1.now (shape l) l.loop-g.g (in_loop (dealt e)).loop-g-test.taken
+    (over-bad (start l).args.kinds (plan l) (capture l) (start l).args.groups (start l).args.out.now (shape l) l.loop-g.g (in_loop (dealt e)).loop-g-test.true
     l.loop-g.pass l.loop-g.out-1 (over l) (counted l.loop-g.from (part e)) (counted_is e) (sound e) r.on_Row.result (out r) r.on_Row.ensures.0 t.if-pass-ne0.true)
     c.broken.ensures
 
@@ -340,28 +340,28 @@ slice_bounds-note_row-end : tie.Need-slice_bounds-note_row-end invariant-loop-g 
 slice_bounds-note_row-end c = part_room (good_group c.before)
 
 slice_bounds-note_row-end-in-loop-g : tie.Need-slice_bounds-note_row-end-in-loop-g invariant-loop-g decreases-loop-g
-slice_bounds-note_row-end-in-loop-g c = sym (group (good_group c.before.before.before)).loop-g.inv.4
+slice_bounds-note_row-end-in-loop-g c = sym (group (good_group c.before.before.before)).loop-g.invariant.4
 
 note_row-noted-requires : tie.Need-note_row-noted-requires invariant-loop-g decreases-loop-g
 note_row-noted-requires c κs =
     let e = good_group c.before.before.before in
     let l = group e in (
-      l.before.has_arinc-arinc.ensures,
+      l.has_arinc-arinc.ensures,
       words_of_row e,
       omega (arith, part_length_is e, numbers e),
-      omega (arith, l.loop-g.inv.1, part_length_is e, numbers e),
-      l.loop-g.inv.4,
-      l.loop-g.inv.6,
+      omega (arith, l.loop-g.invariant.1, part_length_is e, numbers e),
+      l.loop-g.invariant.4,
+      l.loop-g.invariant.6,
     )
 
 overflow_add-from : tie.Need-overflow_add-from invariant-loop-g decreases-loop-g
-overflow_add-from c = let e = good_group (noted c.before) in omega (arith, (group e).loop-g.inv.1, (start (group e)).pre.0.1, numbers e)
+overflow_add-from c = let e = good_group (noted c.before) in omega (arith, (group e).loop-g.invariant.1, (start (group e)).requires.0.1, numbers e)
 
 overflow_add-g : tie.Need-overflow_add-g invariant-loop-g decreases-loop-g
-overflow_add-g c = let e = good_group (noted c.before) in omega (arith, (in_loop (dealt e)).loop-g-test.taken, (start (group e)).fits.groups)
+overflow_add-g c = let e = good_group (noted c.before) in omega (arith, (in_loop (dealt e)).loop-g-test.true, (start (group e)).fits.groups)
 
 loop-g-smaller : tie.Need-loop-g-smaller invariant-loop-g decreases-loop-g
-loop-g-smaller c = omega (arith, (in_loop (dealt (good_group (noted c.before)))).loop-g-test.taken)
+loop-g-smaller c = omega (arith, (in_loop (dealt (good_group (noted c.before)))).loop-g-test.true)
 
 loop-g-preserved : tie.Need-loop-g-preserved invariant-loop-g decreases-loop-g
 loop-g-preserved c =
@@ -369,15 +369,15 @@ loop-g-preserved c =
     let r = good q in
     let e = of_row r in
     let l = group e in (
-      omega (arith, (in_loop (dealt e)).loop-g-test.taken),
-      omega (arith, l.loop-g.inv.1, (start l).pre.0.1),
-      (dealt e).deal-fault.ensures.long ∙ l.loop-g.inv.2,
-      over-more (start l).args.kinds (plan l) (capture l) (start l).args.groups (start l).args.out-1.now (shape l) l.loop-g.g (in_loop (dealt e)).loop-g-test.taken
-          l.loop-g.pass l.loop-g.out-1 (over l) (counted l.loop-g.from (part e)) (counted_is e) (sound e) r.on_Row.result (out r) r.on_Row.ensures.0 q.if-pass-ne0.left
-          (omega (arith, r.on_Row.ensures.1 q.if-pass-ne0.left, l.loop-g.inv.1, part_length_is e)),
+      omega (arith, (in_loop (dealt e)).loop-g-test.true),
+      omega (arith, l.loop-g.invariant.1, (start l).requires.0.1),
+      (dealt e).deal-fault.ensures.long ∙ l.loop-g.invariant.2,
+      over-more (start l).args.kinds (plan l) (capture l) (start l).args.groups (start l).args.out.now (shape l) l.loop-g.g (in_loop (dealt e)).loop-g-test.true
+          l.loop-g.pass l.loop-g.out-1 (over l) (counted l.loop-g.from (part e)) (counted_is e) (sound e) r.on_Row.result (out r) r.on_Row.ensures.0 q.if-pass-ne0.false
+          (omega (arith, r.on_Row.ensures.1 q.if-pass-ne0.false, l.loop-g.invariant.1, part_length_is e)),
       c.table-in-loop-g-1.given,
       noted_next c.before,
-      c.before.note_row-noted.ensures.1,
+      c.note_row-noted.ensures.1,
     )
 
 slice_bounds-at_end-end : tie.Need-slice_bounds-at_end-end invariant-loop-g decreases-loop-g

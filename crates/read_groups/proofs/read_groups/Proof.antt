@@ -45,11 +45,11 @@ abbrev walked : All → Walked
 walked c = c.before.before.before.before
 
 through : (c : All) → Through (start (walked c)).args.kinds (plan (walked c)) (start (walked c)).args.capture.now (start (walked c)).args.groups
-    (start (walked c)).args.out-1.now (pass (walked c)) (out (walked c))
+    (start (walked c)).args.out.now (pass (walked c)) (out (walked c))
 through c = (walked c).walk_groups-walk.ensures.through c.if-walk-ne0.false
 
 few : (c : All) → (start (walked c)).args.groups * slots (plan (walked c)) ≤ 349525
-few c = let s = start (walked c) in numbers_few s.args.plan s.pre.0.0 s.args.groups _ s.pre.1.0 s.pre.1.1
+few c = let s = start (walked c) in numbers_few s.args.plan s.requires.0.0 s.args.groups _ s.requires.1.0 s.requires.1.1
 
 -- what is held is finished, or cut
 abbrev Finished : Type 0
@@ -85,7 +85,7 @@ shape_of-out-then-walk-ne0 : tie.Need-shape_of-out-then-walk-ne0
 shape_of-out-then-walk-ne0 c = search rules
 
 returns-then-walk-ne0 : tie.Need-returns-then-walk-ne0
-returns-then-walk-ne0 c = ends_stopped _ _ _ _ _ _ c.before.before.before.before.walk_groups-walk.ensures c.if-walk-ne0.true
+returns-then-walk-ne0 c = ends_stopped _ _ _ _ _ _ c.walk_groups-walk.ensures c.if-walk-ne0.true
 
 finish-step-requires : tie.Need-finish-step-requires
 finish-step-requires c κs = (through c.before).brought.sound.sane
@@ -94,7 +94,7 @@ stored_place-first-requires : tie.Need-stored_place-first-requires
 stored_place-first-requires c κs =
     let a = all c.before in
     let s = start (walked a) in
-    (s.pre.0.0, s.pre.0.1, omega (arith, (through a).low, few a))
+    (s.requires.0.0, s.requires.0.1, omega (arith, (through a).low, few a))
 
 shape_of-out-then-step : tie.Need-shape_of-out-then-step
 shape_of-out-then-step c = search rules
@@ -103,13 +103,13 @@ returns-then-step : tie.Need-returns-then-step
 returns-then-step c =
     let f = c.before.before in
     let a = all f in
-    ends_cut _ _ _ _ _ _ _ (through a) f.finish-step.result (closes f) _ c.before.if-step.true c.stored_place-first.ensures
+    ends_cut _ _ _ _ _ _ _ (through a) f.finish-step.result (closes f) _ c.if-step.true c.stored_place-first.ensures
 
 put_step-pen-requires : tie.Need-put_step-pen-requires
 put_step-pen-requires c κs =
     let f = c.before.before in
     let a = all f in
-    (omega (arith, (through a).few, few a), closing_fits (finish (held_of (pass (walked a)).held) (since f)) f.finish-step.result (closes f) c.before.if-step.false)
+    (omega (arith, (through a).few, few a), closing_fits (finish (held_of (pass (walked a)).held) (since f)) f.finish-step.result (closes f) c.if-step.false)
 
 close-bytes-requires : tie.Need-close-bytes-requires
 close-bytes-requires c κs =
@@ -130,8 +130,8 @@ returns c =
     let a = all f in
     let s = start (walked a) in
     let e = p.put_step-pen.ensures in
-    ends-log _ _ _ _ _ _ _ (through a) f.finish-step.result (closes f) (good p).if-step.false (free s.args.plan s.pre.0.0)
-    (all_bytes s.args.capture.now (λ i. omega (arith, (walked a).before.before.before.shared_slice_known-1.given i))) ((walked a).walk_groups-walk.ensures.notice a.if-walk-ne0.left)
+    ends-log _ _ _ _ _ _ _ (through a) f.finish-step.result (closes f) (good p).if-step.false (free s.args.plan s.requires.0.0)
+    (all_bytes s.args.capture.now (λ i. omega (arith, (walked a).shared_slice_known-1.given i))) ((walked a).walk_groups-walk.ensures.notice a.if-walk-ne0.false)
     (rw (← e.0) closed.close-bytes.ensures.0)
     (rw (← e.0, ← e.1) closed.close-bytes.ensures.1)
 

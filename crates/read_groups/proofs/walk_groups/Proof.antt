@@ -18,7 +18,7 @@ slice_bounds-over_groups-end c = search rules
 over_groups-requires : tie.Need-over_groups-requires
 over_groups-requires c κs =
     let s = c.before.before.before.before.before in
-    let l = c.before.before.if-capture-le768.true in
+    let l = c.if-capture-le768.true in
     ((s.requires.0.0, s.requires.0.1, λ h. omega (arith, in_row s h, l)), s.requires.1)
 
 shape_of-out-then-capture-le768 : tie.Need-shape_of-out-then-capture-le768
@@ -33,7 +33,7 @@ slice_bounds-over_groups-end-then-capture-le1884 c = search rules
 over_groups-requires-then-capture-le1884 : tie.Need-over_groups-requires-then-capture-le1884
 over_groups-requires-then-capture-le1884 c κs =
     let s = c.before.before.before.before.before.before in
-    let l = c.before.before.if-capture-le1884.true in
+    let l = c.if-capture-le1884.true in
     ((s.requires.0.0, s.requires.0.1, λ h. omega (arith, in_row s h, l)), s.requires.1)
 
 shape_of-out-then-capture-le1884 : tie.Need-shape_of-out-then-capture-le1884

@@ -27,14 +27,14 @@ start c = c.before.before.before.before.before
 
 -- the plan is legal
 is_legal : (c : tie.Else-not-legal) → legal (start c.before).args.plan (start c.before).args.kinds ≡ true
-is_legal c = sym c.before.legal.ensures ∙ not-false _ c.if-not-legal.false
+is_legal c = sym c.legal.ensures ∙ not-false _ c.if-not-legal.false
 
 shape : (c : tie.Else-not-legal) → Shape (start c.before).args.plan
 shape c = shape_of _ _ (is_legal c)
 
 -- and the capture has whole groups
 whole : (c : tie.Else-not-is_whole) → let a = (start c.before.before.before.before).args in eqb (length a.capture.now % (3 * group_words a.plan)) 0 ≡ true
-whole c = sym c.before.is_whole.ensures ∙ not-false _ c.if-not-is_whole.false
+whole c = sym c.is_whole.ensures ∙ not-false _ c.if-not-is_whole.false
 
 abbrev sound : tie.After-salvage_sized-arg-3-1 → tie.Else-not-is_whole
 sound c = c.before.before.before
@@ -49,7 +49,7 @@ returns-then-not-legal : tie.Need-returns-then-not-legal
 returns-then-not-legal c =
     let j = c.before.before in
     let a = (start j).args in
-    let e = sym j.legal.ensures ∙ not-true _ c.before.if-not-legal.true in
+    let e = sym j.legal.ensures ∙ not-true _ c.if-not-legal.true in
     denies_by _ 1 0 _ a.log-1.now a.times-1.now a.report-1.now (not_legal a.plan a.kinds a.capture.now _ _ _ e) c.forgo.ensures
 
 forgo-requires-then-length-gt1048576 : tie.Need-forgo-requires-then-length-gt1048576
@@ -60,7 +60,7 @@ returns-then-length-gt1048576 c =
     let l = c.before.before in
     let a = (start l.before).args in
     denies_by _ 8 (length a.capture.now) _ a.log-1.now a.times-1.now a.report-1.now
-    (too_long a.plan a.kinds a.capture.now _ _ _ (is_legal l) c.before.if-length-gt1048576.true) c.forgo-then-length-gt1048576.ensures
+    (too_long a.plan a.kinds a.capture.now _ _ _ (is_legal l) c.if-length-gt1048576.true) c.forgo-then-length-gt1048576.ensures
 
 is_whole-requires : tie.Need-is_whole-requires
 is_whole-requires c κs = (shape c.before, c.if-length-gt1048576.false)
@@ -74,7 +74,7 @@ returns-then-not-is_whole c =
     let f = t.before.before in
     let l = f.before in
     let a = (start l.before).args in
-    let e = sym t.before.is_whole.ensures ∙ not-true _ t.if-not-is_whole.true in
+    let e = sym t.is_whole.ensures ∙ not-true _ t.if-not-is_whole.true in
     denies_by _ 8 (length a.capture.now) _ a.log-1.now a.times-1.now a.report-1.now
     (not_whole a.plan a.kinds a.capture.now _ _ _ (is_legal l) f.if-length-gt1048576.false e) c.forgo-then-not-is_whole.ensures
 
@@ -82,7 +82,7 @@ salvage_sized-requires : tie.Need-salvage_sized-requires
 salvage_sized-requires c κs =
     let w = sound c in
     let f = w.before.before in
-    (shape f.before, f.if-length-gt1048576.left, eqb-true _ _ (whole w))
+    (shape f.before, f.if-length-gt1048576.false, eqb-true _ _ (whole w))
 
 shape_of-log : tie.Need-shape_of-log
 shape_of-log c = search rules
@@ -102,7 +102,7 @@ returns c =
     let y = z.salvage_sized.new.1.1.1 in
     subst (λ (m : Salvage). Saves m z.salvage_sized.result a.log-1.now y.0 a.times-1.now y.1.0 a.report-1.now y.1.1.0)
     (sym (is_saved a.plan a.kinds a.capture.now (length a.log-1.now) (length a.times-1.now) (length a.report-1.now)
-    (is_legal f.before) f.if-length-gt1048576.left (whole w)))
+    (is_legal f.before) f.if-length-gt1048576.false (whole w)))
     z.salvage_sized.ensures
 
 pub salvage_spec : {M : Type 1} → statement M

@@ -28,36 +28,36 @@ abbrev start : Judged → tie.Start
 start c = c.before.before.before.before.before.before.before.before.before.before.before.before.before.before.before.before
 
 abbrev groups : Judged → ℕ
-groups c = c.before.before.before.before.before.before.before.before.before.before.groups_in-groups.result
+groups c = c.groups_in-groups.result
 
-judged : (c : Judged) → Judges (start c).args.plan (start c).args.kinds (start c).args.capture.now (groups c) (length (start c).args.log-1.now) (length (start c).args.times-1.now)
-    (length (start c).args.report-1.now) c.before.before.before.before.before.salvage_groups-tally.result c.room_number-number.result
+judged : (c : Judged) → Judges (start c).args.plan (start c).args.kinds (start c).args.capture.now (groups c) (length (start c).args.log.now) (length (start c).args.times.now)
+    (length (start c).args.report.now) c.salvage_groups-tally.result c.room_number-number.result
 judged c =
     let a = (start c).args in
-    let m = c.before.before.before.before.before.salvage_groups-tally.ensures in
-    by a.plan a.kinds a.capture.now (groups c) (length a.log-1.now) (length a.times-1.now) (length a.report-1.now) c.before.before.before.before.before.salvage_groups-tally.result m.bytes m.number_times
+    let m = c.salvage_groups-tally.ensures in
+    by a.plan a.kinds a.capture.now (groups c) (length a.log-1.now) (length a.times-1.now) (length a.report-1.now) c.salvage_groups-tally.result m.bytes m.number_times
     m.number_entries c.room_number-number.result c.room_number-number.ensures
 
 denied : (c : Judged) (k q : ℕ) (r : Salvaged)
-    → saved_of (start c).args.plan (start c).args.kinds (start c).args.capture.now (groups c) (length (start c).args.log-1.now) (length (start c).args.times-1.now) (length (start c).args.report-1.now) ≡ forgoes k q
+    → saved_of (start c).args.plan (start c).args.kinds (start c).args.capture.now (groups c) (length (start c).args.log.now) (length (start c).args.times.now) (length (start c).args.report.now) ≡ forgoes k q
     → r ≡ salvage_answer (forgoes k q)
     → Saves (saved_of (start c).args.plan (start c).args.kinds (start c).args.capture.now (length (start c).args.capture.now / (3 * group_words (start c).args.plan))
-    (length (start c).args.log-1.now) (length (start c).args.times-1.now) (length (start c).args.report-1.now)) r (start c).args.log-1.now (start c).args.log-1.now (start c).args.times-1.now
-    (start c).args.times-1.now (start c).args.report-1.now (start c).args.report-1.now
+    (length (start c).args.log.now) (length (start c).args.times.now) (length (start c).args.report.now)) r (start c).args.log.now (start c).args.log.now (start c).args.times.now
+    (start c).args.times.now (start c).args.report.now (start c).args.report.now
 denied c k q r e f =
     let a = (start c).args in
     subst (λ (n : ℕ). Saves (saved_of a.plan a.kinds a.capture.now n (length a.log-1.now) (length a.times-1.now) (length a.report-1.now)) r a.log-1.now a.log-1.now a.times-1.now
-    a.times-1.now a.report-1.now a.report-1.now) c.before.before.before.before.before.before.before.before.before.before.groups_in-groups.ensures
+    a.times-1.now a.report-1.now a.report-1.now) c.groups_in-groups.ensures
     (denies_by _ k q r a.log-1.now a.times-1.now a.report-1.now e f)
 
 -- the log is in the array
-in_built : (c : Judged) → Enough c.before.before.before.before.before.salvage_groups-tally.result (length (start c).args.log-1.now) (length (start c).args.times-1.now) (length (start c).args.report-1.now)
-    → c.before.before.before.before.before.salvage_groups-tally.result.bytes + 7 ≤ length c.before.before.before.before.before.salvage_groups-tally.new.1.1.1.1.1.0
-in_built c h = go (dec_lt (length (start c).args.built-1.now) 32776)
+in_built : (c : Judged) → Enough c.salvage_groups-tally.result (length (start c).args.log.now) (length (start c).args.times.now) (length (start c).args.report.now)
+    → c.salvage_groups-tally.result.bytes + 7 ≤ length c.salvage_groups-tally.new.1.1.1.1.1.0
+in_built c h = go (dec_lt (length (start c).args.built.now) 32776)
   where
-    go : Dec (length (start c).args.built-1.now < 32776) → c.before.before.before.before.before.salvage_groups-tally.result.bytes + 7 ≤ length c.before.before.before.before.before.salvage_groups-tally.new.1.1.1.1.1.0
-    go (yes l) = omega (arith, h.log-1, (start c).requires.1 l, c.before.before.before.before.built-1.given)
-    go (no l) = omega (arith, h.short, c.before.before.before.before.built-1.given)
+    go : Dec (length (start c).args.built.now < 32776) → c.salvage_groups-tally.result.bytes + 7 ≤ length c.salvage_groups-tally.new.1.1.1.1.1.0
+    go (yes l) = omega (arith, h.log-1, (start c).requires.1 l, c.built-1.given)
+    go (no l) = omega (arith, h.short, c.built-1.given)
 
 groups_in-groups-requires : tie.Need-groups_in-groups-requires
 groups_in-groups-requires c κs = search rules
@@ -80,9 +80,9 @@ slice_bounds-salvage_groups-end-2 c = search rules
 salvage_groups-tally-requires : tie.Need-salvage_groups-tally-requires
 salvage_groups-tally-requires c κs =
     let s = c.before.before.before.before.before.before.before.before.before.before in (
-      (s.requires.0.0, c.before.before.before.slots-count.ensures.0),
+      (s.requires.0.0, c.slots-count.ensures.0),
       (
-        rw c.before.before.before.before.groups_in-groups.ensures (whole_groups s.args.plan s.requires.0.0 (length s.args.capture.now) s.requires.0.2),
+        rw c.groups_in-groups.ensures (whole_groups s.args.plan s.requires.0.0 (length s.args.capture.now) s.requires.0.2),
         s.requires.0.1,
       ),
     )
@@ -97,7 +97,7 @@ shape_of-built-then-number-eq6 : tie.Need-shape_of-built-then-number-eq6
 shape_of-built-then-number-eq6 c = search rules
 
 returns-then-number-eq6 : tie.Need-returns-then-number-eq6
-returns-then-number-eq6 c = denied c.before.before 6 _ c.forgo.result ((judged c.before.before).six c.before.if-number-eq6.true) c.forgo.ensures
+returns-then-number-eq6 c = denied c.before.before 6 _ c.forgo.result ((judged c.before.before).six c.if-number-eq6.true) c.forgo.ensures
 
 forgo-requires-then-number-eq7 : tie.Need-forgo-requires-then-number-eq7
 forgo-requires-then-number-eq7 c κs = search rules
@@ -106,7 +106,7 @@ shape_of-built-then-number-eq7 : tie.Need-shape_of-built-then-number-eq7
 shape_of-built-then-number-eq7 c = search rules
 
 returns-then-number-eq7 : tie.Need-returns-then-number-eq7
-returns-then-number-eq7 c = denied c.before.before.before 7 _ c.forgo-then-number-eq7.result ((judged c.before.before.before).seven c.before.if-number-eq7.true) c.forgo-then-number-eq7.ensures
+returns-then-number-eq7 c = denied c.before.before.before 7 _ c.forgo-then-number-eq7.result ((judged c.before.before.before).seven c.if-number-eq7.true) c.forgo-then-number-eq7.ensures
 
 forgo-requires-then-number-eq20 : tie.Need-forgo-requires-then-number-eq20
 forgo-requires-then-number-eq20 c κs = search rules
@@ -115,11 +115,11 @@ shape_of-built-then-number-eq20 : tie.Need-shape_of-built-then-number-eq20
 shape_of-built-then-number-eq20 c = search rules
 
 returns-then-number-eq20 : tie.Need-returns-then-number-eq20
-returns-then-number-eq20 c = denied c.before.before.before.before 20 _ c.forgo-then-number-eq20.result ((judged c.before.before.before.before).twenty c.before.if-number-eq20.true) c.forgo-then-number-eq20.ensures
+returns-then-number-eq20 c = denied c.before.before.before.before 20 _ c.forgo-then-number-eq20.result ((judged c.before.before.before.before).twenty c.if-number-eq20.true) c.forgo-then-number-eq20.ensures
 
 copy-requires : tie.Need-copy-requires
 copy-requires c κs =
-    let j = (judged c.before.before.before.before.before).enough c.before.before.before.before.if-number-eq6.false c.before.before.before.if-number-eq7.false c.before.before.if-number-eq20.false in
+    let j = (judged c.before.before.before.before.before).enough c.if-number-eq6.false c.if-number-eq7.false c.if-number-eq20.false in
     (j.log-1, omega (arith, in_built c.before.before.before.before.before j))
 
 slice_bounds-no_log-end : tie.Need-slice_bounds-no_log-end
@@ -131,9 +131,9 @@ slice_bounds-salvage_groups-end-3 c = search rules
 salvage_groups-requires : tie.Need-salvage_groups-requires
 salvage_groups-requires c κs =
     let s = c.before.before.before.before.before.before.before.before.before.before.before.before.before.before.before.before.before.before.before.before.before.before.before.before.before.before.before in (
-      (s.requires.0.0, c.before.before.before.before.before.before.before.before.before.before.before.before.before.before.before.before.before.before.before.before.slots-count.ensures.0),
+      (s.requires.0.0, c.slots-count.ensures.0),
       (
-        rw c.before.before.before.before.before.before.before.before.before.before.before.before.before.before.before.before.before.before.before.before.before.groups_in-groups.ensures (whole_groups s.args.plan s.requires.0.0 (length s.args.capture.now) s.requires.0.2),
+        rw c.groups_in-groups.ensures (whole_groups s.args.plan s.requires.0.0 (length s.args.capture.now) s.requires.0.2),
         s.requires.0.1,
       ),
     )

@@ -21,16 +21,16 @@ abbrev start : Lent → tie.Start
 start c = c.before.before.before.before.before.before
 
 abbrev log : Lent → List ℕ
-log c = (start c).args.log-1.now
+log c = (start c).args.log.now
 
 abbrev times : Lent → List ℕ
-times c = (start c).args.times-1.now
+times c = (start c).args.times.now
 
 abbrev report : Lent → List ℕ
-report c = (start c).args.report-1.now
+report c = (start c).args.report.now
 
 abbrev row : Lent → List ℕ
-row c = (start c).args.row-1.now
+row c = (start c).args.row.now
 
 abbrev entries : Lent → ℕ
 entries c = c.least-entries.result
@@ -114,7 +114,7 @@ returns c =
     let d = t.before.before.before.before.before.before.before.before.before in
     let l = lent d in
     let a = (start l).args in
-    let e = least_enough a.plan a.kinds a.capture.now (length (log l)) (length (report l)) (length (times l) / 8) (length (row l)) (entries l) (start l).pre l.least-entries.ensures
+    let e = least_enough a.plan a.kinds a.capture.now (length (log l)) (length (report l)) (length (times l) / 8) (length (row l)) (entries l) (start l).requires l.least-entries.ensures
     ∙ ap (with l) (sym (part_long l)) in
     rw e
     (saves_bytes d.salvage-answer.result (log l) (log' d) (part l) (part' d) (report l) (report' d) (times l) t.put_times.new.1.1.0 (drop (entries l) (row l)) (given l) d.salvage-answer.ensures

@@ -19,7 +19,7 @@ shape_of-report-then-times-lt520 : tie.Need-shape_of-report-then-times-lt520
 shape_of-report-then-times-lt520 c = search rules
 
 returns-then-times-lt520 : tie.Need-returns-then-times-lt520
-returns-then-times-lt520 c = c.before.before.before.before.before.before.before.salvage_by.ensures
+returns-then-times-lt520 c = c.salvage_by.ensures
 
 slice_bounds-salvage_by-end-then-capture-lt24960 : tie.Need-slice_bounds-salvage_by-end-then-capture-lt24960
 slice_bounds-salvage_by-end-then-capture-lt24960 c = search rules
@@ -37,7 +37,7 @@ shape_of-report-then-capture-lt24960 : tie.Need-shape_of-report-then-capture-lt2
 shape_of-report-then-capture-lt24960 c = search rules
 
 returns-then-capture-lt24960 : tie.Need-returns-then-capture-lt24960
-returns-then-capture-lt24960 c = c.before.before.before.before.before.before.before.salvage_by-then-capture-lt24960.ensures
+returns-then-capture-lt24960 c = c.salvage_by-then-capture-lt24960.ensures
 
 slice_bounds-salvage_by-end-2 : tie.Need-slice_bounds-salvage_by-end-2
 slice_bounds-salvage_by-end-2 c = search rules
@@ -55,7 +55,7 @@ shape_of-report : tie.Need-shape_of-report
 shape_of-report c = search rules
 
 returns : tie.Need-returns
-returns c = c.before.before.before.before.before.before.before.salvage_by-2.ensures
+returns c = c.salvage_by-2.ensures
 
 pub salvage_bytes_spec : {M : Type 1} → statement M
 salvage_bytes_spec =

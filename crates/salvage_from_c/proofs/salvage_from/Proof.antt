@@ -15,7 +15,7 @@ abbrev start : tie.After-named → tie.Start
 start c = c.before.before.before.before.before.before
 
 is_named : (c : tie.Then-named) → let a = (start c.before).args in named a.frame_time a.crc a.parity a.kinds.now ≡ true
-is_named c = sym c.before.named.ensures ∙ c.if-named.true
+is_named c = sym c.named.ensures ∙ c.if-named.true
 
 -- ---- the needs
 
@@ -59,7 +59,7 @@ returns c =
     let a = (start c.before).args in
     rw
     (salvage_unnamed a.words a.tracks a.frame_time a.crc a.parity a.crc_label a.fill_bus a.kinds.now a.capture.now
-    (length a.log-1.now) (length a.times-1.now) (length a.report-1.now) (sym c.before.named.ensures ∙ c.if-named.false))
+    (length a.log-1.now) (length a.times-1.now) (length a.report-1.now) (sym c.named.ensures ∙ c.if-named.false))
     (saves_none _ a.log-1.now a.times-1.now a.report-1.now 1 0 refl)
 
 pub salvage_from_spec : {M : Type 1} → statement M

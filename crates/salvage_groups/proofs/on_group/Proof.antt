@@ -52,21 +52,21 @@ abbrev start : Kept → tie.Start
 start c = c.before.before.before.before.before.before.before.before.before.before.before.before.before.before
 
 sound : (c : Kept) → group_fault (start c).args.plan (start c).args.capture.now ((start c).args.index * group_words (start c).args.plan) ≡ none
-sound c = let s = start c in dealt_none s.args.plan (shape s) s.args.capture.now s.args.index c.before.before.before.before.before.deal-fault.ensures c.before.if-fault-ne0.false
+sound c = let s = start c in dealt_none s.args.plan (shape s) s.args.capture.now s.args.index c.deal-fault.ensures c.if-fault-ne0.false
 
 abbrev part : Kept → List ℕ
-part c = take (c.lead-first.result + (start c).args.count - c.lead-first.result) (drop c.lead-first.result c.before.before.before.before.before.deal-fault.new.1.1.0)
+part c = take (c.lead-first.result + (start c).args.count - c.lead-first.result) (drop c.lead-first.result c.deal-fault.new.1.1.0)
 
 part_is : (c : Kept) → part c ≡ words_in (group_slots (start c).args.plan (start c).args.capture.now ((start c).args.index * group_words (start c).args.plan))
 part_is c =
     let s = start c in
-    dealt_words s.args.plan (shape s) s.args.capture.now s.args.index c.before.before.before.before.before.deal-fault.ensures c.lead-first.result s.args.count c.before.if-fault-ne0.false c.lead-first.ensures s.pre.0.1
+    dealt_words s.args.plan (shape s) s.args.capture.now s.args.index c.deal-fault.ensures c.lead-first.result s.args.count c.if-fault-ne0.false c.lead-first.ensures s.requires.0.1
 
 row_long : (c : Kept) → length (part c) ≡ slots (start c).args.plan
 row_long c = let s = start c in ap length (part_is c) ∙ words_length s.args.plan s.args.capture.now (s.args.index * group_words s.args.plan)
 
 bytes : (c : Kept) (i : ℕ) → get_or (start c).args.capture.now i 0 < 2 ^ 8
-bytes c i = omega (arith, c.before.before.before.before.before.before.before.before.before.before.before.before.before.shared_slice_known-1.given i)
+bytes c i = omega (arith, c.shared_slice_known-1.given i)
 
 words_of : (c : Kept) (i : ℕ) → i < length (part c) → get_or (part c) i 0 < 2 ^ 24
 words_of c i h =
@@ -114,21 +114,21 @@ drop_group-pass-requires c κs =
     )
 
 shape_of-row-then-fault-ne0 : tie.Need-shape_of-row-then-fault-ne0
-shape_of-row-then-fault-ne0 c = c.before.before.before.before.before.before.before.row-1.given
+shape_of-row-then-fault-ne0 c = c.row-1.given
 
 shape_of-report-then-fault-ne0 : tie.Need-shape_of-report-then-fault-ne0
-shape_of-report-then-fault-ne0 c = c.before.report-1.given
+shape_of-report-then-fault-ne0 c = c.report-1.given
 
 returns-then-fault-ne0 : tie.Need-returns-then-fault-ne0
 returns-then-fault-ne0 c =
     let s = c.before.before.before.before.before.before.before.before.before.before.before.before.before.before.before.before.before in
     let a = s.args in
-    let e = c.before.before.drop_group-pass.ensures in
-    let f = c.before.before.before.before.before.before.before.before.deal-fault.result in (
+    let e = c.drop_group-pass.ensures in
+    let f = c.deal-fault.result in (
       reel_dropped a.kinds a.plan a.capture.now a.index a.walk a.out-1.now a.times-1.now a.report-1.now f.number (a.index * group_words a.plan + f.place)
-          (dealt-found a.plan (shape s) a.capture.now a.index c.before.before.before.before.before.before.before.before.deal-fault.ensures c.before.before.before.before.if-fault-ne0.true) e,
+          (dealt-found a.plan (shape s) a.capture.now a.index c.deal-fault.ensures c.if-fault-ne0.true) e,
       record {
-        sound = dropped_sound a.plan (shape s) f.number a.index a.walk.pass c.before.before.drop_group-pass.result a.report-1.now c.before.before.drop_group-pass.new.1.1.1.1.1.0 s.requires.0.3.sound e;
+        sound = dropped_sound a.plan (shape s) f.number a.index a.walk.pass c.drop_group-pass.result a.report-1.now c.drop_group-pass.new.1.1.1.1.1.0 s.requires.0.3.sound e;
         few = omega (arith, s.requires.0.3.few);
       },
     )
@@ -154,7 +154,7 @@ slice_bounds-on_row-start c = search rules
 slice_bounds-on_row-end : tie.Need-slice_bounds-on_row-end
 slice_bounds-on_row-end c =
     let s = c.before.before.before.before.before.before.before.before.before.before.before.before.before.before.before in
-    omega (arith, c.before.lead-first.ensures, s.requires.0.1, c.before.before.before.before.before.before.deal-fault.ensures.long, s.requires.0.2, dealt_all s.args.plan (shape s))
+    omega (arith, c.lead-first.ensures, s.requires.0.1, c.deal-fault.ensures.long, s.requires.0.2, dealt_all s.args.plan (shape s))
 
 on_row-pass-requires : tie.Need-on_row-pass-requires
 on_row-pass-requires c κs =
@@ -187,30 +187,30 @@ keep_time-kept-requires c κs =
     )
 
 shape_of-row : tie.Need-shape_of-row
-shape_of-row c = c.before.before.before.before.before.before.before.before.before.before.before.before.before.before.before.before.before.before.row-1.given
+shape_of-row c = c.row-1.given
 
 shape_of-out : tie.Need-shape_of-out
-shape_of-out c = c.before.before.before.before.before.before.before.before.out-1.given
+shape_of-out c = c.out-1.given
 
 shape_of-times : tie.Need-shape_of-times
-shape_of-times c = c.before.times-1.given
+shape_of-times c = c.times-1.given
 
 shape_of-report : tie.Need-shape_of-report
-shape_of-report c = c.before.before.before.before.before.before.report-2-1.given
+shape_of-report c = c.report-2-1.given
 
 returns : tie.Need-returns
 returns c =
     let s = c.before.before.before.before.before.before.before.before.before.before.before.before.before.before.before.before.before.before.before.before.before.before.before.before.before.before.before.before in
     let a = s.args in
     let q = c.before.before.before.before.before.before.before.before.before.before.before.before.before.before in
-    let k = c.before.before.keep_time-kept.ensures in
-    let w = c.before.before.before.before.before.before.before.before.before.on_Row.ensures in
+    let k = c.keep_time-kept.ensures in
+    let w = c.on_Row.ensures in
     let e : a.index * a.count ≡ a.index * slots a.plan = ap (λ (n : ℕ). a.index * n) s.requires.0.1 in (
-      reel_kept a.kinds a.plan a.capture.now a.index a.walk a.out-1.now a.times-1.now a.report-1.now (a.index * a.count) (part q) c.before.before.keep_time-kept.result
+      reel_kept a.kinds a.plan a.capture.now a.index a.walk a.out-1.now a.times-1.now a.report-1.now (a.index * a.count) (part q) c.keep_time-kept.result
           (group_time a.plan (part_of a.plan (shape s) a.capture.now a.index) 0) (sound q) w.0 e (part_is q) k.0 k.1
           (time_is a.plan (shape s) a.capture.now a.index),
       record {
-        sound = subst (λ (n : ℕ). Sound n c.before.before.before.before.before.before.before.before.before.on_Row.result) (ap₂ ◌+◌ e (row_long q) ∙ more a.index (slots a.plan)) w.1;
+        sound = subst (λ (n : ℕ). Sound n c.on_Row.result) (ap₂ ◌+◌ e (row_long q) ∙ more a.index (slots a.plan)) w.1;
         few = kept_few a.plan a.index a.walk.times-1 k.0 s.requires.0.3.few;
       },
     )

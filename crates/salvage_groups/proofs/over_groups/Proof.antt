@@ -49,7 +49,7 @@ start_walk-walk-requires c κs = search rules
 
 loop-index-init : tie.Need-loop-index-init invariant-loop-index decreases-loop-index
 loop-index-init c =
-    let a = c.before.before.before.before.before.before.args in
+    let a = c.args in
     let r : Walk → Reel = λ w. reel w a.out-1.now a.times-1.now a.report-1.now in (
       omega arith,
       refl,
@@ -67,15 +67,15 @@ on_group-walk-requires c κs =
     let l = i.before in
     let s = start l in
     let h = i.loop-index-test.true in (
-      (s.pre.0.0, s.pre.0.1, omega (arith, l.loop-index.invariant.1, s.pre.0.2 (omega (arith, h))), l.loop-index.invariant.5),
-      (group_room s.args.plan s.pre.0.0 s.args.groups l.loop-index.index (length s.args.capture.now) s.pre.1.0 h, s.pre.1.1),
+      (s.requires.0.0, s.requires.0.1, omega (arith, l.loop-index.invariant.1, s.requires.0.2 (omega (arith, h))), l.loop-index.invariant.5),
+      (group_room s.args.plan s.requires.0.0 s.args.groups l.loop-index.index (length s.args.capture.now) s.requires.1.0 h, s.requires.1.1),
     )
 
 overflow_add-index : tie.Need-overflow_add-index invariant-loop-index decreases-loop-index
-overflow_add-index c = let i = in_loop (walked c) in omega (arith, i.loop-index-test.taken, (start i.before).fits.groups)
+overflow_add-index c = let i = in_loop (walked c) in omega (arith, i.loop-index-test.true, (start i.before).fits.groups)
 
 loop-index-smaller : tie.Need-loop-index-smaller invariant-loop-index decreases-loop-index
-loop-index-smaller c = omega (arith, (in_loop (walked c)).loop-index-test.taken)
+loop-index-smaller c = omega (arith, (in_loop (walked c)).loop-index-test.true)
 
 loop-index-preserved : tie.Need-loop-index-preserved invariant-loop-index decreases-loop-index
 loop-index-preserved c =
@@ -83,30 +83,30 @@ loop-index-preserved c =
     let i = in_loop g in
     let l = i.before in
     let a = (start l).args in
-    let h = i.loop-index-test.taken in
+    let h = i.loop-index-test.true in
     let t = c.before.before.before in
     let o = t.before.before in (
       omega (arith, h),
-      o.before.before.row-1.given ∙ l.loop-index.inv.1,
-      o.out-1.given ∙ l.loop-index.inv.2,
-      t.times-1.given ∙ l.loop-index.inv.3,
-      c.before.report-1.given ∙ l.loop-index.inv.4,
+      o.row-1.given ∙ l.loop-index.invariant.1,
+      o.out-1.given ∙ l.loop-index.invariant.2,
+      t.times-1.given ∙ l.loop-index.invariant.3,
+      c.report-1.given ∙ l.loop-index.invariant.4,
       g.on_group-walk.ensures.1,
-      l.loop-index.inv.6 ∙ over_next a.kinds a.plan a.capture.now a.groups l.loop-index.index (here l) h
+      l.loop-index.invariant.6 ∙ over_next a.kinds a.plan a.capture.now a.groups l.loop-index.index (here l) h
           ∙ ap (over_groups a.kinds a.plan a.capture.now (a.groups - (l.loop-index.index + 1)) (l.loop-index.index + 1)) (sym g.on_group-walk.ensures.0),
     )
 
 shape_of-row : tie.Need-shape_of-row invariant-loop-index decreases-loop-index
-shape_of-row c = c.before.loop-index.invariant.1
+shape_of-row c = c.loop-index.invariant.1
 
 shape_of-out : tie.Need-shape_of-out invariant-loop-index decreases-loop-index
-shape_of-out c = c.before.loop-index.invariant.2
+shape_of-out c = c.loop-index.invariant.2
 
 shape_of-times : tie.Need-shape_of-times invariant-loop-index decreases-loop-index
-shape_of-times c = c.before.loop-index.invariant.3
+shape_of-times c = c.loop-index.invariant.3
 
 shape_of-report : tie.Need-shape_of-report invariant-loop-index decreases-loop-index
-shape_of-report c = c.before.loop-index.invariant.4
+shape_of-report c = c.loop-index.invariant.4
 
 returns : tie.Need-returns invariant-loop-index decreases-loop-index
 returns c =

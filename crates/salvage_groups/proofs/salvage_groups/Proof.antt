@@ -21,7 +21,7 @@ slice_bounds-through_row-end c = search rules
 through_row-requires : tie.Need-through_row-requires
 through_row-requires c κs =
     let s = c.before.before.before.before.before.before.before.before.before in
-    ((s.requires.0.0, s.requires.0.1, λ h. omega (arith, in_row s h, c.before.before.before.before.if-capture-le1884.true)), s.requires.1)
+    ((s.requires.0.0, s.requires.0.1, λ h. omega (arith, in_row s h, c.if-capture-le1884.true)), s.requires.1)
 
 shape_of-out-then-capture-le1884 : tie.Need-shape_of-out-then-capture-le1884
 shape_of-out-then-capture-le1884 c = search rules
@@ -33,7 +33,7 @@ shape_of-report-then-capture-le1884 : tie.Need-shape_of-report-then-capture-le18
 shape_of-report-then-capture-le1884 c = search rules
 
 returns-then-capture-le1884 : tie.Need-returns-then-capture-le1884
-returns-then-capture-le1884 c = c.before.before.before.before.before.before.before.through_row.ensures
+returns-then-capture-le1884 c = c.through_row.ensures
 
 slice_bounds-through_row-end-2 : tie.Need-slice_bounds-through_row-end-2
 slice_bounds-through_row-end-2 c = search rules
@@ -53,7 +53,7 @@ shape_of-report : tie.Need-shape_of-report
 shape_of-report c = search rules
 
 returns : tie.Need-returns
-returns c = c.before.before.before.before.before.before.before.through_row-2.ensures
+returns c = c.through_row-2.ensures
 
 pub salvage_groups_spec : {M : Type 1} → statement M
 salvage_groups_spec =

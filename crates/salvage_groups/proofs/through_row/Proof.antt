@@ -24,13 +24,13 @@ abbrev start : Over → tie.Start
 start c = c.before.before.before.before.before.before.before.before.before.before
 
 bytes : (c : Over) (i : ℕ) → get_or (start c).args.capture.now i 0 < 2 ^ 8
-bytes c i = omega (arith, c.before.before.before.before.before.before.before.before.before.shared_slice_known-1.given i)
+bytes c i = omega (arith, c.shared_slice_known-1.given i)
 
 -- the data words of all groups
 all : (c : Over) → (start c).args.groups * slots (start c).args.plan ≤ 349525
 all c =
     let s = start c in
-    numbers_few s.args.plan s.pre.0.0 s.args.groups (length s.args.capture.now) s.pre.1.0 s.pre.1.1
+    numbers_few s.args.plan s.requires.0.0 s.args.groups (length s.args.capture.now) s.requires.1.0 s.requires.1.1
 
 -- what is held at the end is let go
 abbrev over : tie.After-let_go-arg-2-1 → Over
@@ -51,7 +51,7 @@ let_go-pass-requires c κs =
     let s = start o in
     let x = o.over_groups-walk.ensures.1.sound in
     let n = all o in
-    (s.pre.0.0, s.pre.0.1, x.sane, low_more (2 ^ 32) (omega arith) x.low, omega (arith, x.few_entries), omega (arith, x.few_bits))
+    (s.requires.0.0, s.requires.0.1, x.sane, low_more (2 ^ 32) (omega arith) x.low, omega (arith, x.few_entries), omega (arith, x.few_bits))
 
 close-bytes-requires : tie.Need-close-bytes-requires
 close-bytes-requires c κs =
@@ -80,7 +80,7 @@ returns c =
     let o = over g.before in
     let s = start o in
     let a = s.args in
-    tallied a.kinds a.plan s.pre.0.0 a.capture.now (bytes o) a.groups a.out-1.now a.times-1.now a.report-1.now
+    tallied a.kinds a.plan s.requires.0.0 a.capture.now (bytes o) a.groups a.out-1.now a.times-1.now a.report-1.now
     o.over_groups-walk.ensures.0 g.let_go-pass.ensures z.close-bytes.ensures.0 z.close-bytes.ensures.1
 
 pub through_row_spec : {M : Type 1} → statement M

@@ -27,7 +27,7 @@ put_at-requires c κs = search rules
 overflow_add-result : tie.Need-overflow_add-result
 overflow_add-result c =
     let s = c.before.before.before.before.before.before.before.before.before.before.before.before in
-    let n = ap (λ (t : Tape). t.pass.entries) (c.before.before.before.before.before.before.before.before.before.drop_held-free.ensures []) in
+    let n = ap (λ (t : Tape). t.pass.entries) (c.drop_held-free.ensures []) in
     omega (arith, n, places_few s.args.plan s.args.pass, s.requires.4)
 
 shape_of-report : tie.Need-shape_of-report
@@ -35,8 +35,8 @@ shape_of-report c = search rules
 
 returns : tie.Need-returns
 returns c = λ out.
-    let a = c.before.before.before.before.before.before.before.before.before.before.before.before.args in
-    rw c.before.before.put_at.ensures (tape_gap a.plan a.number a.index (tape a.pass out a.report-1.now) _ (c.before.before.before.before.before.before.before.before.before.drop_held-free.ensures out))
+    let a = c.args in
+    rw c.put_at.ensures (tape_gap a.plan a.number a.index (tape a.pass out a.report-1.now) _ (c.drop_held-free.ensures out))
 
 pub drop_group_spec : {M : Type 1} → statement M
 drop_group_spec =

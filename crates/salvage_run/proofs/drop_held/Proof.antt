@@ -20,7 +20,7 @@ held_words-words-requires c κs = search rules
 lose_last-entries-requires : tie.Need-lose_last-entries-requires
 lose_last-entries-requires c κs =
     let s = c.before.before.before.before.before in
-    (s.requires.0, s.requires.1, s.requires.3, omega (arith, c.before.held_words-words.ensures, held_few (held_of s.args.pass.held)), s.requires.4)
+    (s.requires.0, s.requires.1, s.requires.3, omega (arith, c.held_words-words.ensures, held_few (held_of s.args.pass.held)), s.requires.4)
 
 nothing-requires : tie.Need-nothing-requires
 nothing-requires c κs = search rules
@@ -32,9 +32,9 @@ returns : tie.Need-returns
 returns c = λ out.
     let s = c.before.before.before.before.before.before.before.before.before in
     let a = s.args in
-    let w = c.before.before.before.before.before.held_words-words.ensures in
-    tape_dropped a.plan a.pass out a.report-1.now c.nothing.ensures w c.before.before.before.lose_last-entries.ensures.0
-    (c.before.before.before.lose_last-entries.ensures.1 ∙ ap (λ (n : ℕ). put_all a.report-1.now a.pass.entries (places_of a.plan n a.pass.last-1)) w)
+    let w = c.held_words-words.ensures in
+    tape_dropped a.plan a.pass out a.report-1.now c.nothing.ensures w c.lose_last-entries.ensures.0
+    (c.lose_last-entries.ensures.1 ∙ ap (λ (n : ℕ). put_all a.report-1.now a.pass.entries (places_of a.plan n a.pass.last-1)) w)
 
 pub drop_held_spec : {M : Type 1} → statement M
 drop_held_spec =

@@ -45,7 +45,7 @@ bounds-numbers-index c = search rules
 stored_place-requires : tie.Need-stored_place-requires invariant-loop-index decreases-loop-index
 stored_place-requires c κs =
     let s = c.before.before.before.before in
-    (s.requires.0, s.requires.1, low_at (2 ^ 32) s.args.last s.requires.2 c.before.before.loop-index.index (omega arith))
+    (s.requires.0, s.requires.1, low_at (2 ^ 32) s.args.last s.requires.2 c.loop-index.index (omega arith))
 
 put_at-requires : tie.Need-put_at-requires invariant-loop-index decreases-loop-index
 put_at-requires c κs = search rules
@@ -64,12 +64,12 @@ loop-index-preserved c =
     let l = c.before.before.before.before.before.before in
     let s = l.before.before in
     let f : ℕ → ℕ = stored_at s.args.plan in
-    let e : c.before.before.put_at.new.0 ≡ put_at l.loop-index.report-1 l.loop-index.entries (f (get_or (numbers_of s.args.last) l.loop-index.index 0)) =
-    c.before.before.put_at.ensures ∙ ap (put_at l.loop-index.report-1 l.loop-index.entries) c.before.before.before.stored_place.ensures in (
+    let e : c.put_at.new.0 ≡ put_at l.loop-index.report-1 l.loop-index.entries (f (get_or (numbers_of s.args.last) l.loop-index.index 0)) =
+    c.put_at.ensures ∙ ap (put_at l.loop-index.report-1 l.loop-index.entries) c.stored_place.ensures in (
       omega arith,
       omega (arith, l.loop-index.invariant.1),
-      c.before.report-1.given ∙ l.loop-index.invariant.2,
-      l.loop-index.invariant.3 ∙ all_next f (numbers_of s.args.last) l.loop-index.report-1 l.loop-index.entries l.loop-index.index c.before.before.before.before.before.loop-index-test.true
+      c.report-1.given ∙ l.loop-index.invariant.2,
+      l.loop-index.invariant.3 ∙ all_next f (numbers_of s.args.last) l.loop-index.report-1 l.loop-index.entries l.loop-index.index c.loop-index-test.true
           ∙ ap (λ (r : List ℕ). put_all r (l.loop-index.entries + 1) (map f (drop (l.loop-index.index + 1) (numbers_of s.args.last)))) (sym e),
     )
 

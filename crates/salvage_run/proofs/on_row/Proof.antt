@@ -23,7 +23,7 @@ abbrev decreases-loop-i : tie.decreases-loop-i
 decreases-loop-i kinds plan count row from out₀ report₀ pass₀ i₀ out report pass i = length row - i
 
 abbrev before : tie.Start invariant-loop-i decreases-loop-i → Tape
-before s = tape s.args.pass s.args.out-1.now s.args.report-1.now
+before s = tape s.args.pass s.args.out.now s.args.report.now
 
 abbrev now : tie.At-loop-i invariant-loop-i decreases-loop-i → Tape
 now l = tape l.loop-i.pass l.loop-i.out-1 l.loop-i.report-1
@@ -57,12 +57,12 @@ loop-i-preserved-then-is_fill c =
     let l = c.before.before.before.before in
     let s = c.before.before.before.before.before.before.before.before in
     let a = s.args in
-    let h = c.before.before.before.loop-i-test.true in (
+    let h = c.loop-i-test.true in (
       omega (arith, h),
       l.loop-i.invariant.1,
       l.loop-i.invariant.2,
       subst (λ (n : ℕ). Sound n l.loop-i.pass) (further a.from l.loop-i.i) (fill_sound (a.from + l.loop-i.i) l.loop-i.pass l.loop-i.invariant.3),
-      l.loop-i.invariant.4 ∙ row_fill a.kinds a.plan a.from a.row.now l.loop-i.i (now l) h (sym c.before.is_fill.ensures ∙ c.if-is_fill.true),
+      l.loop-i.invariant.4 ∙ row_fill a.kinds a.plan a.from a.row.now l.loop-i.i (now l) h (sym c.is_fill.ensures ∙ c.if-is_fill.true),
     )
 
 overflow_add-from : tie.Need-overflow_add-from invariant-loop-i decreases-loop-i
@@ -72,7 +72,7 @@ on_word-pass-requires : tie.Need-on_word-pass-requires invariant-loop-i decrease
 on_word-pass-requires c κs =
     let l = c.before.before.before.before.before.before in
     let s = c.before.before.before.before.before.before.before.before.before.before in
-    let h = c.before.before.before.before.before.loop-i-test.true in
+    let h = c.loop-i-test.true in
     (s.requires.0, s.requires.1, l.loop-i.invariant.3, omega (arith, h, s.requires.4), s.requires.3 l.loop-i.i h)
 
 overflow_add-i-in-loop-i : tie.Need-overflow_add-i-in-loop-i invariant-loop-i decreases-loop-i
@@ -86,23 +86,23 @@ loop-i-preserved c =
     let l = c.before.before.before.before.before.before.before.before.before.before.before in
     let s = c.before.before.before.before.before.before.before.before.before.before.before.before.before.before.before in
     let a = s.args in
-    let h = c.before.before.before.before.before.before.before.before.before.before.loop-i-test.true in
-    let w = c.before.before.before.before.on_word-pass.ensures in (
+    let h = c.loop-i-test.true in
+    let w = c.on_word-pass.ensures in (
       omega (arith, h),
-      c.before.before.before.out-1.given ∙ l.loop-i.invariant.1,
-      c.before.report-1.given ∙ l.loop-i.invariant.2,
-      subst (λ (n : ℕ). Sound n c.before.before.before.before.on_word-pass.result) (further a.from l.loop-i.i)
+      c.out-1.given ∙ l.loop-i.invariant.1,
+      c.report-1.given ∙ l.loop-i.invariant.2,
+      subst (λ (n : ℕ). Sound n c.on_word-pass.result) (further a.from l.loop-i.i)
           (subst (λ (t : Tape). Sound (a.from + l.loop-i.i + 1) t.pass) (sym w)
           (word_sound a.plan a.kinds (a.from + l.loop-i.i) (get_or a.row.now l.loop-i.i 0) (s.requires.3 l.loop-i.i h) (now l) l.loop-i.invariant.3)),
-      l.loop-i.invariant.4 ∙ row_word a.kinds a.plan a.from a.row.now l.loop-i.i (now l) h (sym c.before.before.before.before.before.before.before.before.is_fill.ensures ∙ c.before.before.before.before.before.before.before.if-is_fill.false)
+      l.loop-i.invariant.4 ∙ row_word a.kinds a.plan a.from a.row.now l.loop-i.i (now l) h (sym c.is_fill.ensures ∙ c.if-is_fill.false)
           ∙ ap (on_row a.kinds a.plan (a.from + (l.loop-i.i + 1)) (drop (l.loop-i.i + 1) a.row.now)) (sym w),
     )
 
 shape_of-out : tie.Need-shape_of-out invariant-loop-i decreases-loop-i
-shape_of-out c = c.before.loop-i.invariant.1
+shape_of-out c = c.loop-i.invariant.1
 
 shape_of-report : tie.Need-shape_of-report invariant-loop-i decreases-loop-i
-shape_of-report c = c.before.loop-i.invariant.2
+shape_of-report c = c.loop-i.invariant.2
 
 returns : tie.Need-returns invariant-loop-i decreases-loop-i
 returns c =

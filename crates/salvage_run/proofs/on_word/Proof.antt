@@ -21,7 +21,7 @@ use Rattle.word.proofs.information_of.Reads as information-of-reads
 use Rattle.word.proofs.label_of.Reads as label-of-reads
 
 abbrev before : tie.Start → Tape
-before s = tape s.args.pass s.args.out-1.now s.args.report-1.now
+before s = tape s.args.pass s.args.out.now s.args.report.now
 
 -- the word was fed
 abbrev start : tie.After-feed-step → tie.Start
@@ -32,7 +32,7 @@ fed_step : (c : tie.After-feed-step)
 fed_step c =
     let a = (start c).args in
     word_step_lem a.kinds a.plan.parity (held_of a.pass.held) a.word
-    c.before.before.before.bus_of.ensures c.before.before.label_of.ensures c.before.information_of.ensures c.feed-step.ensures
+    c.bus_of.ensures c.label_of.ensures c.information_of.ensures c.feed-step.ensures
 
 -- it is bad, and what is held is let go
 abbrev bad : tie.After-let_go-arg-then-step-1 → tie.Then-step
@@ -54,8 +54,8 @@ feed-step-requires : tie.Need-feed-step-requires
 feed-step-requires c κs =
     let s = c.before.before.before.before.before.before in (
       (
-        rw c.before.before.bus_of.ensures (bus_low _ _ s.requires.4),
-        rw c.before.label_of.ensures (label_low _),
+        rw c.bus_of.ensures (bus_low _ _ s.requires.4),
+        rw c.label_of.ensures (label_low _),
         rw c.information_of.ensures (info_low _),
       ),
       s.requires.2.sane,
@@ -64,27 +64,27 @@ feed-step-requires c κs =
 let_go-free-requires : tie.Need-let_go-free-requires
 let_go-free-requires c κs =
     let s = start (bad c).before in
-    let x = s.pre.2 in (
-      s.pre.0,
-      s.pre.1,
+    let x = s.requires.2 in (
+      s.requires.0,
+      s.requires.1,
       x.sane,
-      low_more (2 ^ 32) (omega (arith, s.pre.3)) x.low,
-      omega (arith, s.pre.3, x.few_entries),
-      omega (arith, s.pre.3, x.few_bits),
+      low_more (2 ^ 32) (omega (arith, s.requires.3)) x.low,
+      omega (arith, s.requires.3, x.few_entries),
+      omega (arith, s.requires.3, x.few_bits),
     )
 
 try_start-requires : tie.Need-try_start-requires
 try_start-requires c κs =
     let l = gone c in
     let s = start (bad l.before).before in
-    let x = s.pre.2 in
+    let x = s.requires.2 in
     let g = gone_few s.args.plan (before s) x.sane l.let_go-free.ensures in (
-      s.pre.0,
-      s.pre.1,
-      omega (arith, s.pre.3),
-      s.pre.4,
-      omega (arith, s.pre.3, x.few_entries, g.few_entries),
-      omega (arith, s.pre.3, x.few_bits, g.few_bits),
+      s.requires.0,
+      s.requires.1,
+      omega (arith, s.requires.3),
+      s.requires.4,
+      omega (arith, s.requires.3, x.few_entries, g.few_entries),
+      omega (arith, s.requires.3, x.few_bits, g.few_bits),
     )
 
 shape_of-out-then-step : tie.Need-shape_of-out-then-step
@@ -101,7 +101,7 @@ returns-then-step c =
     let s = start b.before in
     let a = s.args in
     t.try_start.ensures ∙ ap (try_start a.kinds a.plan a.number a.word) l.let_go-free.ensures
-    ∙ word-broken a.plan (before s) a.kinds a.number a.word (fed_step b.before) b.if-step.taken
+    ∙ word-broken a.plan (before s) a.kinds a.number a.word (fed_step b.before) b.if-step.true
 
 next-requires : tie.Need-next-requires
 next-requires c κs = search rules
@@ -110,9 +110,9 @@ put_items-requires : tie.Need-put_items-requires
 put_items-requires c κs =
     let e = c.before.before in
     let s = start e.before in
-    let x = s.pre.2 in (
-      omega (arith, s.pre.3, x.few_bits),
-      word_fits s.args.kinds s.args.plan.parity s.args.pass.held s.args.word s.pre.4 x.sane (fed_step e.before) e.if-step.false,
+    let x = s.requires.2 in (
+      omega (arith, s.requires.3, x.few_bits),
+      word_fits s.args.kinds s.args.plan.parity s.args.pass.held s.args.word s.requires.4 x.sane (fed_step e.before) e.if-step.false,
     )
 
 shape_of-out : tie.Need-shape_of-out

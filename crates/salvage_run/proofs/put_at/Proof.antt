@@ -15,10 +15,10 @@ shape_of-row : tie.Need-shape_of-row
 shape_of-row c = search rules
 
 returns-then-at-row : tie.Need-returns-then-at-row
-returns-then-at-row c = put_in c.before.args.row.now c.before.args.at c.before.args.number c.if-at-row.true
+returns-then-at-row c = put_in c.args.row.now c.args.at c.args.number c.if-at-row.true
 
 returns-else-at-row : tie.Need-returns-else-at-row
-returns-else-at-row c = put_out c.before.args.row.now c.before.args.at c.before.args.number c.if-at-row.false
+returns-else-at-row c = put_out c.args.row.now c.args.at c.args.number c.if-at-row.false
 
 pub put_at_spec : {M : Type 1} → statement M
 put_at_spec = tie.close (tie.spec offset_bounds-row-at bounds-row-at shape_of-row returns-then-at-row returns-else-at-row)

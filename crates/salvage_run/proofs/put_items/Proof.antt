@@ -13,7 +13,7 @@ shape_of-out : tie.Need-shape_of-out
 shape_of-out c = search rules
 
 returns : tie.Need-returns
-returns c = λ report. rw (c.before.before.put_step-pen.ensures.0, c.before.before.put_step-pen.ensures.1) refl
+returns c = λ report. rw (c.put_step-pen.ensures.0, c.put_step-pen.ensures.1) refl
 
 pub put_items_spec : {M : Type 1} → statement M
 put_items_spec = tie.close (tie.spec put_step-pen-requires shape_of-out returns)

@@ -20,7 +20,7 @@ use Rattle.word.proofs.information_of.Reads as information-of-reads
 use Rattle.word.proofs.label_of.Reads as label-of-reads
 
 abbrev before : tie.Start → Tape
-before s = tape s.args.pass s.args.out-1.now s.args.report-1.now
+before s = tape s.args.pass s.args.out.now s.args.report.now
 
 -- the word was fed
 abbrev start : tie.After-feed-step → tie.Start
@@ -29,9 +29,9 @@ start c = c.before.before.before.before.before.before.before.before
 fed_step : (c : tie.After-feed-step) → let a = (start c).args in c.feed-step.result ≡ word_step a.kinds a.plan.parity Nothing a.word
 fed_step c =
     let a = (start c).args in
-    let n = c.before.before.before.before.nothing in
+    let n = c.nothing in
     start_step a.kinds a.plan.parity n.result a.word n.ensures
-    c.before.before.before.bus_of.ensures c.before.before.label_of.ensures c.before.information_of.ensures c.feed-step.ensures
+    c.bus_of.ensures c.label_of.ensures c.information_of.ensures c.feed-step.ensures
 
 nothing-requires : tie.Need-nothing-requires
 nothing-requires c κs = search rules
@@ -49,11 +49,11 @@ feed-step-requires : tie.Need-feed-step-requires
 feed-step-requires c κs =
     let s = c.before.before.before.before.before.before.before in (
       (
-        rw c.before.before.bus_of.ensures (bus_low _ _ s.requires.3),
-        rw c.before.label_of.ensures (label_low _),
+        rw c.bus_of.ensures (bus_low _ _ s.requires.3),
+        rw c.label_of.ensures (label_low _),
         rw c.information_of.ensures (info_low _),
       ),
-      start_sane _ c.before.before.before.nothing.ensures,
+      start_sane _ c.nothing.ensures,
     )
 
 stored_place-requires : tie.Need-stored_place-requires
@@ -77,7 +77,7 @@ returns-then-step c =
     let t = p.before.before.before.before in
     let s = start t.before in
     let a = s.args in
-    tape_lost a.plan a.pass a.out-1.now a.report-1.now a.number c.nothing-then-step.ensures p.before.stored_place.ensures p.put_at.ensures
+    tape_lost a.plan a.pass a.out-1.now a.report-1.now a.number c.nothing-then-step.ensures p.stored_place.ensures p.put_at.ensures
     ∙ start-lost a.plan (before s) a.kinds a.number a.word (fed_step t.before) t.if-step.true
 
 next-requires : tie.Need-next-requires
@@ -87,7 +87,7 @@ put_items-requires : tie.Need-put_items-requires
 put_items-requires c κs =
     let e = c.before.before in
     let s = start e.before in
-    (s.pre.5, start_fits s.args.kinds s.args.plan.parity s.args.word s.pre.3 (fed_step e.before) e.if-step.false)
+    (s.requires.5, start_fits s.args.kinds s.args.plan.parity s.args.word s.requires.3 (fed_step e.before) e.if-step.false)
 
 shape_of-out : tie.Need-shape_of-out
 shape_of-out c = search rules

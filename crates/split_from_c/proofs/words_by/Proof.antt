@@ -22,13 +22,13 @@ abbrev start : Lent → tie.Start
 start c = c.before.before.before.before.before
 
 abbrev words : Lent → List ℕ
-words c = (start c).args.words-1.now
+words c = (start c).args.words.now
 
 abbrev times : Lent → List ℕ
-times c = (start c).args.times-1.now
+times c = (start c).args.times.now
 
 abbrev row : Lent → List ℕ
-row c = (start c).args.row-1.now
+row c = (start c).args.row.now
 
 abbrev entries : Lent → ℕ
 entries c = c.least-entries.result
@@ -100,7 +100,7 @@ returns c =
     let t = c.before.before in
     let r = t.before.before.before.before.before.before.before in
     let l = least r in
-    let e = least_enough (start l).args.plan (start l).args.kinds (start l).args.capture.now (length (words l)) (length (times l) / 8) (length (row l)) (entries l) (start l).pre l.least-entries.ensures
+    let e = least_enough (start l).args.plan (start l).args.kinds (start l).args.capture.now (length (words l)) (length (times l) / 8) (length (row l)) (entries l) (start l).requires l.least-entries.ensures
     ∙ ap (words_read (start l).args.plan (start l).args.kinds (start l).args.capture.now (length (words l))) (sym (part_long l)) in
     rw e
     (given_bytes r.read_words-answer.result (words l) (words' r) (part l) (part' r) (times l) t.put_times.new.1.1.0 (drop (entries l) (row l)) (given l) r.read_words-answer.ensures

@@ -15,7 +15,7 @@ abbrev start : tie.After-named → tie.Start
 start c = c.before.before.before.before.before
 
 is_named : (c : tie.Then-named) → let a = (start c.before).args in named a.frame_time a.crc a.parity a.kinds.now ≡ true
-is_named c = sym c.before.named.ensures ∙ c.if-named.true
+is_named c = sym c.named.ensures ∙ c.if-named.true
 
 -- ---- the needs
 
@@ -59,7 +59,7 @@ returns c =
     let e = c.before in
     let a = (start e.before).args in
     rw
-    (words_unnamed a.words a.tracks a.frame_time a.crc a.parity a.crc_label a.fill_bus a.kinds.now a.capture.now (length a.words_out-1.now) (length a.times-1.now) (sym e.before.named.ensures ∙ e.if-named.false))
+    (words_unnamed a.words a.tracks a.frame_time a.crc a.parity a.crc_label a.fill_bus a.kinds.now a.capture.now (length a.words_out-1.now) (length a.times-1.now) (sym e.named.ensures ∙ e.if-named.false))
     (given_none _ a.words_out-1.now a.times-1.now 1 0 0 c.unnamed.ensures)
 
 pub words_from_spec : {M : Type 1} → statement M

@@ -31,8 +31,8 @@ overflow_cast-large c = tt
 
 overflow_add-large : tie.Need-overflow_add-large invariant-loop-i decreases-loop-i
 overflow_add-large c =
-    let o = c.before.before.loop-i in
-    let ws = c.before.before.before.args.words.now in
+    let o = c.loop-i in
+    let ws = c.args.words.now in
     omega (arith, count_low (ltb 16777215 (get_or ws o.i 0)) o.large o.i o.invariant.1)
 
 overflow_add-i : tie.Need-overflow_add-i invariant-loop-i decreases-loop-i
@@ -43,8 +43,8 @@ loop-i-smaller c = search rules
 
 loop-i-preserved : tie.Need-loop-i-preserved invariant-loop-i decreases-loop-i
 loop-i-preserved c =
-    let o = c.before.before.loop-i in
-    let ws = c.before.before.before.args.words.now in (
+    let o = c.loop-i in
+    let ws = c.args.words.now in (
       omega arith,
       count_low (ltb 16777215 (get_or ws o.i 0)) o.large o.i o.invariant.1,
       o.invariant.2 ∙ ap (λ z. not (eqb o.large 0) || z) (large_next ws o.i (omega arith))
@@ -53,8 +53,8 @@ loop-i-preserved c =
 
 returns : tie.Need-returns invariant-loop-i decreases-loop-i
 returns c =
-    let o = c.before.loop-i in
-    let ws = c.before.before.args.words.now in
+    let o = c.loop-i in
+    let ws = c.args.words.now in
     sym (o.invariant.2 ∙ ap (λ z. not (eqb o.large 0) || z) (large_end ws o.i (omega arith)) ∙ whole (not (eqb o.large 0)))
   where
     whole : (b : Bool) → (b || false) ≡ b

@@ -23,7 +23,7 @@ bounds-words-i c = search rules
 
 returns-then-words-i-gt16777215 : tie.Need-returns-then-words-i-gt16777215 invariant-loop-i decreases-loop-i
 returns-then-words-i-gt16777215 c =
-    let l = c.before.before.before.loop-i in
+    let l = c.loop-i in
     record { few = l.invariant.0; low = l.invariant.1; high = λ h. omega (arith, c.if-words-i-gt16777215.true) }
 
 overflow_add-i : tie.Need-overflow_add-i invariant-loop-i decreases-loop-i
@@ -34,12 +34,12 @@ loop-i-smaller c = search rules
 
 loop-i-preserved : tie.Need-loop-i-preserved invariant-loop-i decreases-loop-i
 loop-i-preserved c =
-    let l = c.before.before.before.loop-i in
-    (omega arith, low_more c.before.before.before.before.args.words.now l.i l.invariant.1 (omega (arith, c.if-words-i-gt16777215.false)))
+    let l = c.loop-i in
+    (omega arith, low_more c.args.words.now l.i l.invariant.1 (omega (arith, c.if-words-i-gt16777215.false)))
 
 returns : tie.Need-returns invariant-loop-i decreases-loop-i
 returns c =
-    let l = c.before.loop-i in
+    let l = c.loop-i in
     record { few = l.invariant.0; low = l.invariant.1; high = λ h. absurd (omega (arith, h, c.loop-i-test.false)) }
 
 pub first_large_spec : {M : Type 1} → statement M

@@ -33,7 +33,7 @@ abbrev words : Run-over → List ℕ
 words c = (start c).args.words.now
 
 abbrev log : Run-over → List ℕ
-log c = (start c).args.log-1.now
+log c = (start c).args.log.now
 
 -- they brought items
 logged : (c : tie.Else-run-ne0) → let k = c.before in Logged (kinds k) (parity k) (words k) (ran k).run_words-run.result (ran k).run_words-run.new.1.1.1.0
@@ -53,7 +53,7 @@ shape_of-built-then-run-ne0 c = search rules
 returns-then-run-ne0 : tie.Need-returns-then-run-ne0
 returns-then-run-ne0 c =
     let k = c.before.before in
-    log_refused (log k) (stops_settled (kinds k) (parity k) (words k) (length (log k)) ((ran k).run_words-run.ensures.refused c.before.if-run-ne0.true)) c.refusal.ensures
+    log_refused (log k) (stops_settled (kinds k) (parity k) (words k) (length (log k)) ((ran k).run_words-run.ensures.refused c.if-run-ne0.true)) c.refusal.ensures
 
 first_open-notice-requires : tie.Need-first_open-notice-requires
 first_open-notice-requires c κs = let k = c.before in ((logged c).words, omega (arith, (start k).requires.1))
@@ -72,14 +72,14 @@ returns-then-notice-ne0 c =
     let o = c.before.before in
     let e = o.before in
     let k = e.before in
-    log_refused (log k) (open-settled (kinds k) (parity k) (words k) (length (log k)) (logged e) o.first_open-notice.ensures c.before.if-notice-ne0.true) c.refusal-then-notice-ne0.ensures
+    log_refused (log k) (open-settled (kinds k) (parity k) (words k) (length (log k)) (logged e) o.first_open-notice.ensures c.if-notice-ne0.true) c.refusal-then-notice-ne0.ensures
 
 give-requires : tie.Need-give-requires
 give-requires c κs =
     let e = c.before.before.before.before in
     let k = e.before in
     let r = (start k).requires.2 in
-    log_closable (kinds k) (parity k) (words k) (logged e) _ (start k).requires.1 (λ size a b. omega (arith, r size a b, k.before.before.built-1.given))
+    log_closable (kinds k) (parity k) (words k) (logged e) _ (start k).requires.1 (λ size a b. omega (arith, r size a b, k.built-1.given))
 
 shape_of-built : tie.Need-shape_of-built
 shape_of-built c = search rules

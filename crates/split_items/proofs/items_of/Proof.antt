@@ -7,7 +7,7 @@ slice_bounds-items_by-end : tie.Need-slice_bounds-items_by-end
 slice_bounds-items_by-end c = search rules
 
 items_by-requires : tie.Need-items_by-requires
-items_by-requires c κs = let s = c.before.before.before.before.before in (s.requires.0, s.requires.1, λ size a b. omega (arith, a, c.before.before.if-words-le256.true))
+items_by-requires c κs = let s = c.before.before.before.before.before in (s.requires.0, s.requires.1, λ size a b. omega (arith, a, c.if-words-le256.true))
 
 shape_of-log-then-words-le256 : tie.Need-shape_of-log-then-words-le256
 shape_of-log-then-words-le256 c = search rules

@@ -14,7 +14,7 @@ returns-then-any_large : tie.Need-returns-then-any_large
 returns-then-any_large c = c.first_large.ensures
 
 returns : tie.Need-returns
-returns c = all_low c.before.before.before.args.words.now (sym c.before.any_large.ensures ∙ c.if-any_large.false)
+returns c = all_low c.args.words.now (sym c.any_large.ensures ∙ c.if-any_large.false)
 
 pub low_front_spec : {M : Type 1} → statement M
 low_front_spec =

@@ -17,7 +17,7 @@ abbrev start : tie.After-legal → tie.Start
 start c = c.before.before.before
 
 is_legal : (c : tie.Else-not-legal) → legal (start c.before).args.plan (start c.before).args.kinds ≡ true
-is_legal c = sym c.before.legal.ensures ∙ not-false _ c.if-not-legal.false
+is_legal c = sym c.legal.ensures ∙ not-false _ c.if-not-legal.false
 
 -- ---- the needs
 
@@ -31,7 +31,7 @@ returns-then-not-legal : tie.Need-returns-then-not-legal
 returns-then-not-legal c =
     let j = c.before.before in
     let s = start j in
-    log_refused s.args.log-1.now (illegal_refused s.args.plan s.args.kinds s.args.words.now _ (sym j.legal.ensures ∙ not-true _ c.before.if-not-legal.true)) c.refusal.ensures
+    log_refused s.args.log.now (illegal_refused s.args.plan s.args.kinds s.args.words.now _ (sym j.legal.ensures ∙ not-true _ c.if-not-legal.true)) c.refusal.ensures
 
 refusal-requires-then-count-gt349525 : tie.Need-refusal-requires-then-count-gt349525
 refusal-requires-then-count-gt349525 c κs = search rules
@@ -40,7 +40,7 @@ returns-then-count-gt349525 : tie.Need-returns-then-count-gt349525
 returns-then-count-gt349525 c =
     let l = c.before.before in
     let s = start l.before in
-    log_refused s.args.log-1.now (many_refused s.args.plan s.args.kinds s.args.words.now _ (is_legal l) c.before.if-count-gt349525.true) c.refusal-then-count-gt349525.ensures
+    log_refused s.args.log.now (many_refused s.args.plan s.args.kinds s.args.words.now _ (is_legal l) c.if-count-gt349525.true) c.refusal-then-count-gt349525.ensures
 
 items_of-requires : tie.Need-items_of-requires
 items_of-requires c κs = let e = c.before in (shape_of _ _ (is_legal e.before), e.if-count-gt349525.false)
@@ -53,7 +53,7 @@ returns c =
     let r = c.before.before in
     let e = r.before.before in
     let s = start e.before.before in
-    rw (read_on s.args.plan s.args.kinds s.args.words.now (length s.args.log-1.now) (is_legal e.before) e.if-count-gt349525.false) r.items_of.ensures
+    rw (read_on s.args.plan s.args.kinds s.args.words.now (length s.args.log.now) (is_legal e.before) e.if-count-gt349525.false) r.items_of.ensures
 
 pub read_items_spec : {M : Type 1} → statement M
 read_items_spec =

@@ -58,11 +58,11 @@ out c = c.on_Row.new.1.1.1.1.1.1.0
 
 abbrev fills : Row → Fills
 fills c =
-    fills_in (parity c) (start c).args.plan.fill_bus 0 (counted 0 (take (low c) (words c))) c.before.before.before.start_pass-start.result.fills
+    fills_in (parity c) (start c).args.plan.fill_bus 0 (counted 0 (take (low c) (words c))) c.start_pass-start.result.fills
 
-is_ran : (c : Row) → RanTo start_pass (start c).args.out-1.now (run (kinds c) (parity c) (counted 0 (take (low c) (words c))) Nothing 0) (fills c) (pass c) (out c)
+is_ran : (c : Row) → RanTo start_pass (start c).args.out.now (run (kinds c) (parity c) (counted 0 (take (low c) (words c))) Nothing 0) (fills c) (pass c) (out c)
 is_ran c =
-    from_start (kinds c) (parity c) (words c) (low c) (is_low c) (start c).args.out-1.now (out c) (pass c) (fills c) c.before.before.before.start_pass-start.ensures
+    from_start (kinds c) (parity c) (words c) (low c) (is_low c) (start c).args.out.now (out c) (pass c) (fills c) c.start_pass-start.ensures
     c.on_Row.ensures.0
 
 -- what it carries is known
@@ -74,10 +74,10 @@ abbrev Good-row : Type 0
 Good-row = tie.Else-pass-ne0
 
 good_row : (c : Good-row) → let k = ran c.before in
-    Good (kinds k) (parity k) (words k) (low k) (is_low k) (start k).args.out-1.now (pass k) (out k) (fills k) (is_ran k)
+    Good (kinds k) (parity k) (words k) (low k) (is_low k) (start k).args.out.now (pass k) (out k) (fills k) (is_ran k)
 good_row c =
     let k = ran c.before in
-    good (kinds k) (parity k) (words k) (low k) (is_low k) (start k).args.out-1.now (pass k) (out k) (fills k) (is_ran k) c.if-pass-ne0.false
+    good (kinds k) (parity k) (words k) (low k) (is_low k) (start k).args.out.now (pass k) (out k) (fills k) (is_ran k) c.if-pass-ne0.false
 
 few : (c : Good-row) → let k = ran c.before in (pass k).pen-1.bits ≤ 128 * length (words k)
 few c =
@@ -103,7 +103,7 @@ start_pass-start-requires c κs = search rules
 slice_bounds-on_row-end : tie.Need-slice_bounds-on_row-end
 slice_bounds-on_row-end c =
     let f = c.before.before in
-    sym (length-take-le f.low_front-low.result f.before.before.before.args.words.now f.low_front-low.ensures.few)
+    sym (length-take-le f.low_front-low.result f.args.words.now f.low_front-low.ensures.few)
 
 on_row-pass-requires : tie.Need-on_row-pass-requires
 on_row-pass-requires c κs =
@@ -120,7 +120,7 @@ on_row-pass-requires c κs =
     )
 
 overflow_sub-pass : tie.Need-overflow_sub-pass
-overflow_sub-pass c = omega (arith, c.before.if-pass-ne0.true)
+overflow_sub-pass c = omega (arith, c.if-pass-ne0.true)
 
 stops-requires : tie.Need-stops-requires
 stops-requires c κs = search rules
@@ -132,7 +132,7 @@ returns-then-pass-ne0 : tie.Need-returns-then-pass-ne0
 returns-then-pass-ne0 c =
     let k = ran c.before.before.before in
     stops_to (kinds k) (parity k) (words k) _ c.stops.ensures
-    (bad-stops (kinds k) (parity k) (words k) (low k) (is_low k) (start k).args.out-1.now (pass k) (out k) (fills k) (is_ran k) c.before.before.if-pass-ne0.true)
+    (bad-stops (kinds k) (parity k) (words k) (low k) (is_low k) (start k).args.out.now (pass k) (out k) (fills k) (is_ran k) c.if-pass-ne0.true)
 
 begun-requires : tie.Need-begun-requires
 begun-requires c κs = (good_row c.before).brought.sound.sane
@@ -149,8 +149,8 @@ returns-then-low-words c =
     let g = t.before in
     let k = ran g.before in
     stops_to (kinds k) (parity k) (words k) _ c.stops-then-low-words.ensures
-    (large_stops (kinds k) (parity k) (words k) (low k) (is_low k) (start k).args.out-1.now (pass k) (out k) (fills k) (is_ran k) g.if-pass-ne0.false t.if-low-words.true
-    ∙ ap (stopped 13 (low k)) (sym c.before.begun.ensures))
+    (large_stops (kinds k) (parity k) (words k) (low k) (is_low k) (start k).args.out.now (pass k) (out k) (fills k) (is_ran k) g.if-pass-ne0.false t.if-low-words.true
+    ∙ ap (stopped 13 (low k)) (sym c.begun.ensures))
 
 finish-step-requires : tie.Need-finish-step-requires
 finish-step-requires c κs = (good_row c.before).brought.sound.sane
@@ -167,14 +167,14 @@ returns-then-step c =
     let g = e.before.before in
     let k = ran g.before in
     stops_to (kinds k) (parity k) (words k) _ c.stops-then-step.ensures
-    (cut-stops (kinds k) (parity k) (words k) (low k) (is_low k) (start k).args.out-1.now (pass k) (out k) (fills k) (is_ran k) g.if-pass-ne0.false e.before.if-low-words.false e.finish-step.result (closes e)
-    c.before.if-step.true)
+    (cut-stops (kinds k) (parity k) (words k) (low k) (is_low k) (start k).args.out.now (pass k) (out k) (fills k) (is_ran k) g.if-pass-ne0.false e.if-low-words.false e.finish-step.result (closes e)
+    c.if-step.true)
 
 put_step-end-requires : tie.Need-put_step-end-requires
 put_step-end-requires c κs =
     let e = c.before.before in
     let k = ran e.before.before.before in
-    (omega (arith, few e.before.before, (start k).pre.1), closing_fits (finish (held_of (pass k).held-1) (pass k).since) e.finish-step.result (closes e) c.before.if-step.false)
+    (omega (arith, few e.before.before, (start k).requires.1), closing_fits (finish (held_of (pass k).held-1) (pass k).since) e.finish-step.result (closes e) c.if-step.false)
 
 shape_of-out : tie.Need-shape_of-out
 shape_of-out c = search rules
@@ -187,7 +187,7 @@ returns c =
     let g = e.before.before in
     let k = ran g.before in
     record {
-      logged = λ _. words-log (kinds k) (parity k) (words k) (low k) (is_low k) (start k).args.out-1.now (pass k) (out k) (fills k) (is_ran k) g.if-pass-ne0.false e.before.if-low-words.false
+      logged = λ _. words-log (kinds k) (parity k) (words k) (low k) (is_low k) (start k).args.out.now (pass k) (out k) (fills k) (is_ran k) g.if-pass-ne0.false e.if-low-words.false
           e.finish-step.result (closes e) z.if-step.false (few g) _ p.put_step-end.ensures.0 p.put_step-end.ensures.1;
       refused = λ y. absurd (y refl);
     }

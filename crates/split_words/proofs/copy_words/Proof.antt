@@ -26,7 +26,7 @@ offset_bounds-to-i : tie.Need-offset_bounds-to-i invariant-loop-i decreases-loop
 offset_bounds-to-i c = search rules
 
 bounds-to-i : tie.Need-bounds-to-i invariant-loop-i decreases-loop-i
-bounds-to-i c = omega (arith, front_long c.before.before.loop-i.invariant.1, c.before.loop-i-test.true, c.before.before.before.requires)
+bounds-to-i c = omega (arith, front_long c.loop-i.invariant.1, c.loop-i-test.true, c.requires)
 
 overflow_add-i : tie.Need-overflow_add-i invariant-loop-i decreases-loop-i
 overflow_add-i c = search rules
@@ -37,14 +37,14 @@ loop-i-smaller c = search rules
 loop-i-preserved : tie.Need-loop-i-preserved invariant-loop-i decreases-loop-i
 loop-i-preserved c =
     let s = c.before.before.before in
-    let l = c.before.before.loop-i in
-    (omega (arith, c.before.loop-i-test.true), rw (take_more s.args.from.now l.i c.before.loop-i-test.true) (front_more _ l.invariant.1 (omega (arith, s.requires, c.before.loop-i-test.true))))
+    let l = c.loop-i in
+    (omega (arith, c.loop-i-test.true), rw (take_more s.args.from.now l.i c.loop-i-test.true) (front_more _ l.invariant.1 (omega (arith, s.requires, c.loop-i-test.true))))
 
 shape_of-to : tie.Need-shape_of-to invariant-loop-i decreases-loop-i
-shape_of-to c = front_long c.before.loop-i.invariant.1
+shape_of-to c = front_long c.loop-i.invariant.1
 
 returns : tie.Need-returns invariant-loop-i decreases-loop-i
-returns c = front_whole _ _ _ _ c.before.before.requires (omega (arith, c.loop-i-test.false)) c.before.loop-i.invariant.1
+returns c = front_whole _ _ _ _ c.requires (omega (arith, c.loop-i-test.false)) c.loop-i.invariant.1
 
 pub copy_words_spec : {M : Type 1} → statement M
 copy_words_spec =

@@ -50,7 +50,7 @@ size c = group_most (plan c) (shape c)
 abbrev InLoop : Type 0
 InLoop = tie.In-loop-g invariant-loop-g decreases-loop-g
 
-room : (c : InLoop) → c.before.loop-g.g * (3 * group_words (plan c.before)) + 3 * group_words (plan c.before) ≤ length (capture c.before)
+room : (c : InLoop) → c.loop-g.g * (3 * group_words (plan c.before)) + 3 * group_words (plan c.before) ≤ length (capture c.before)
 room c = let l = c.before in group_room (plan l) (shape l) (start l).args.n l.loop-g.g (length (capture l)) (all l) c.loop-g-test.true
 
 -- it is dealt
@@ -85,13 +85,13 @@ overflow_mul-begin : tie.Need-overflow_mul-begin invariant-loop-g decreases-loop
 overflow_mul-begin c = omega (arith, size c.before)
 
 overflow_mul-begin-in-loop-g : tie.Need-overflow_mul-begin-in-loop-g invariant-loop-g decreases-loop-g
-overflow_mul-begin-in-loop-g c = omega (arith, room c, (start c.before).pre.1.1)
+overflow_mul-begin-in-loop-g c = omega (arith, room c, (start c.before).requires.1.1)
 
 overflow_mul-end : tie.Need-overflow_mul-end invariant-loop-g decreases-loop-g
 overflow_mul-end c = omega (arith, size c.before)
 
 overflow_add-end : tie.Need-overflow_add-end invariant-loop-g decreases-loop-g
-overflow_add-end c = omega (arith, room c, (start c.before).pre.1.1)
+overflow_add-end c = omega (arith, room c, (start c.before).requires.1.1)
 
 slice_bounds-deal-count : tie.Need-slice_bounds-deal-count invariant-loop-g decreases-loop-g
 slice_bounds-deal-count c = search rules
@@ -112,10 +112,10 @@ deal-fault-requires c κs =
     )
 
 overflow_mul-result : tie.Need-overflow_mul-result invariant-loop-g decreases-loop-g
-overflow_mul-result c = let d = c.before.before.before.before in omega (arith, room (in_loop d), (start (loop d)).pre.1.1)
+overflow_mul-result c = let d = c.before.before.before.before in omega (arith, room (in_loop d), (start (loop d)).requires.1.1)
 
 overflow_add-result : tie.Need-overflow_add-result invariant-loop-g decreases-loop-g
-overflow_add-result c = let d = c.before.before.before.before.before in omega (arith, low d, room (in_loop d), (start (loop d)).pre.1.1)
+overflow_add-result c = let d = c.before.before.before.before.before in omega (arith, low d, room (in_loop d), (start (loop d)).requires.1.1)
 
 shape_of-row-then-fault-ne0 : tie.Need-shape_of-row-then-fault-ne0 invariant-loop-g decreases-loop-g
 shape_of-row-then-fault-ne0 c = search rules
@@ -126,7 +126,7 @@ returns-then-fault-ne0 c =
     let d = t.before.before.before.before in
     let l = loop d in
     record {
-      is = sym (ap fault_of (l.loop-g.inv.2 ∙ fault_here (plan l) (capture l) (start l).args.n l.loop-g.g (in_loop d).loop-g-test.true
+      is = sym (ap fault_of (l.loop-g.invariant.2 ∙ fault_here (plan l) (capture l) (start l).args.n l.loop-g.g (in_loop d).loop-g-test.true
           (dealt-found (plan l) (shape l) (capture l) l.loop-g.g d.deal-fault.ensures t.if-fault-ne0.true)));
       clear = λ z. absurd (t.if-fault-ne0.true z);
     }
@@ -141,9 +141,9 @@ loop-g-preserved : tie.Need-loop-g-preserved invariant-loop-g decreases-loop-g
 loop-g-preserved c =
     let d = dealt c in
     let l = loop d in (
-      omega (arith, (in_loop d).loop-g-test.taken),
-      d.deal-fault.ensures.long ∙ l.loop-g.inv.1,
-      l.loop-g.inv.2 ∙ fault_behind (plan l) (capture l) (start l).args.n l.loop-g.g (in_loop d).loop-g-test.taken
+      omega (arith, (in_loop d).loop-g-test.true),
+      d.deal-fault.ensures.long ∙ l.loop-g.invariant.1,
+      l.loop-g.invariant.2 ∙ fault_behind (plan l) (capture l) (start l).args.n l.loop-g.g (in_loop d).loop-g-test.true
           (dealt_none (plan l) (shape l) (capture l) l.loop-g.g d.deal-fault.ensures c.if-fault-ne0.false),
     )
 

@@ -31,7 +31,7 @@ abbrev Legal : Type 0
 Legal = tie.Else-not-legal
 
 is_legal : (c : Legal) → legal (start c.before).args.plan (start c.before).args.kinds ≡ true
-is_legal c = sym c.before.legal.ensures ∙ not-false _ c.if-not-legal.false
+is_legal c = sym c.legal.ensures ∙ not-false _ c.if-not-legal.false
 
 shape : (c : Legal) → Shape (start c.before).args.plan
 shape c = shape_of _ _ (is_legal c)
@@ -44,7 +44,7 @@ abbrev of_legal : Whole → Legal
 of_legal c = c.before.before.before
 
 whole : (c : Whole) → let j = (of_legal c).before in length (capture j) % (3 * group_words (start j).args.plan) ≡ 0
-whole c = eqb-true _ _ (sym c.before.is_whole.ensures ∙ not-false _ c.if-not-is_whole.false)
+whole c = eqb-true _ _ (sym c.is_whole.ensures ∙ not-false _ c.if-not-is_whole.false)
 
 -- ---- the needs
 
@@ -58,8 +58,8 @@ returns-then-not-legal : tie.Need-returns-then-not-legal
 returns-then-not-legal c =
     let j = c.before.before in
     let s = start j in
-    given_refused s.args.words-1.now s.args.times-1.now
-    (illegal_refused s.args.plan s.args.kinds (capture j) _ _ (sym j.legal.ensures ∙ not-true _ c.before.if-not-legal.true)) c.refusal.ensures
+    given_refused s.args.words.now s.args.times.now
+    (illegal_refused s.args.plan s.args.kinds (capture j) _ _ (sym j.legal.ensures ∙ not-true _ c.if-not-legal.true)) c.refusal.ensures
 
 refusal-requires-then-length-gt1048576 : tie.Need-refusal-requires-then-length-gt1048576
 refusal-requires-then-length-gt1048576 c κs = search rules
@@ -68,8 +68,8 @@ returns-then-length-gt1048576 : tie.Need-returns-then-length-gt1048576
 returns-then-length-gt1048576 c =
     let l = c.before.before in
     let s = start l.before in
-    given_refused s.args.words-1.now s.args.times-1.now
-    (long_refused s.args.plan s.args.kinds (capture l.before) _ _ (is_legal l) c.before.if-length-gt1048576.true) c.refusal-then-length-gt1048576.ensures
+    given_refused s.args.words.now s.args.times.now
+    (long_refused s.args.plan s.args.kinds (capture l.before) _ _ (is_legal l) c.if-length-gt1048576.true) c.refusal-then-length-gt1048576.ensures
 
 is_whole-requires : tie.Need-is_whole-requires
 is_whole-requires c κs = (shape c.before, c.if-length-gt1048576.false)
@@ -82,13 +82,13 @@ returns-then-not-is_whole c =
     let w = c.before.before in
     let l = w.before.before in
     let s = start l.before in
-    given_refused s.args.words-1.now s.args.times-1.now
-    (ragged_refused s.args.plan s.args.kinds (capture l.before) _ _ (is_legal l) w.before.if-length-gt1048576.false
-    (sym w.is_whole.ensures ∙ not-true _ c.before.if-not-is_whole.true))
+    given_refused s.args.words.now s.args.times.now
+    (ragged_refused s.args.plan s.args.kinds (capture l.before) _ _ (is_legal l) w.if-length-gt1048576.false
+    (sym w.is_whole.ensures ∙ not-true _ c.if-not-is_whole.true))
     c.refusal-then-not-is_whole.ensures
 
 words_of-requires : tie.Need-words_of-requires
-words_of-requires c κs = let w = c.before.before in (shape (of_legal w), w.before.before.if-length-gt1048576.false, whole w)
+words_of-requires c κs = let w = c.before.before in (shape (of_legal w), w.if-length-gt1048576.false, whole w)
 
 shape_of-words : tie.Need-shape_of-words
 shape_of-words c = search rules
@@ -102,7 +102,7 @@ returns c =
     let w = r.before.before.before in
     let l = of_legal w in
     let s = start l.before in
-    rw (read_on s.args.plan s.args.kinds (capture l.before) (length s.args.words-1.now) (length s.args.times-1.now) (is_legal l) w.before.before.if-length-gt1048576.false (whole w))
+    rw (read_on s.args.plan s.args.kinds (capture l.before) (length s.args.words.now) (length s.args.times.now) (is_legal l) w.if-length-gt1048576.false (whole w))
     r.words_of.ensures
 
 pub read_words_spec : {M : Type 1} → statement M

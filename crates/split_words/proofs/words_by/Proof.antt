@@ -38,10 +38,10 @@ abbrev capture : Judged → List ℕ
 capture c = (start c).args.capture.now
 
 abbrev words : Judged → List ℕ
-words c = (start c).args.words-1.now
+words c = (start c).args.words.now
 
 abbrev times : Judged → List ℕ
-times c = (start c).args.times-1.now
+times c = (start c).args.times.now
 
 abbrev n : Judged → ℕ
 n c = (counting c).groups_in-n.result
@@ -64,7 +64,7 @@ abbrev sound : Counted → Judged
 sound c = c.before.before
 
 clear : (c : Counted) → groups_fault (plan (sound c)) (capture (sound c)) (n (sound c)) 0 ≡ none
-clear c = (judged (sound c)).first_fault-fault.ensures.clear c.before.if-fault-ne0.false
+clear c = (judged (sound c)).first_fault-fault.ensures.clear c.if-fault-ne0.false
 
 count_is : (c : Counted) → n (sound c) * c.slots.result ≡ n (sound c) * slots (plan (sound c))
 count_is c = ap (λ (k : ℕ). n (sound c) * k) c.slots.ensures.0
@@ -72,7 +72,7 @@ count_is c = ap (λ (k : ℕ). n (sound c) * k) c.slots.ensures.0
 few : (c : Counted) → n (sound c) * c.slots.result ≤ 349525
 few c =
     let j = sound c in
-    omega (arith, count_is c, numbers_few (plan j) (start j).pre.0.0 (n j) (length (capture j)) (whole j) (start j).pre.0.1)
+    omega (arith, count_is c, numbers_few (plan j) (start j).requires.0.0 (n j) (length (capture j)) (whole j) (start j).requires.0.1)
 
 -- their rooms were judged
 abbrev Measured : Type 0
@@ -89,7 +89,7 @@ need_is c = (timed c).times_of-need.ensures
 
 number_is : (c : Measured) → let j = sound (counted c) in
     c.earlier-number.result ≡ room_number (n j * (counted c).slots.result) (timed c).times_of-need.result (length (words j)) (length (times j))
-number_is c = c.earlier-number.ensures ∙ ap₂ (λ (a b : ℕ). earlier a b) c.before.before.short_of-words_short.ensures c.before.short_of-times_short.ensures
+number_is c = c.earlier-number.ensures ∙ ap₂ (λ (a b : ℕ). earlier a b) c.short_of-words_short.ensures c.short_of-times_short.ensures
 
 -- and suffice
 abbrev Roomed : Type 0
@@ -100,7 +100,7 @@ measured c = c.before.before
 
 fit : (c : Roomed) → let k = counted (measured c) in let j = sound k in
     (n j * k.slots.result ≤ length (words j)) × ((timed (measured c)).times_of-need.result ≤ length (times j))
-fit c = both_fit _ _ _ _ (number_is (measured c)) c.before.if-number-eq6.false c.if-number-eq7.false
+fit c = both_fit _ _ _ _ (number_is (measured c)) c.if-number-eq6.false c.if-number-eq7.false
 
 -- ---- the needs
 
@@ -159,7 +159,7 @@ returns-then-number-eq6 c =
     let k = counted m in
     let j = sound k in
     given_refused (words j) (times j)
-    (words-refused (plan j) (capture j) (length (words j)) (length (times j)) (n j) (groups j) (n_is j) (clear k) (count_is k) (need_is m) (number_is m) c.before.if-number-eq6.true)
+    (words-refused (plan j) (capture j) (length (words j)) (length (times j)) (n j) (groups j) (n_is j) (clear k) (count_is k) (need_is m) (number_is m) c.if-number-eq6.true)
     c.refusal-then-number-eq6.ensures
 
 refusal-requires-then-number-eq7 : tie.Need-refusal-requires-then-number-eq7
@@ -174,7 +174,7 @@ returns-then-number-eq7 c =
     let k = counted m in
     let j = sound k in
     given_refused (words j) (times j)
-    (times-refused (plan j) (capture j) (length (words j)) (length (times j)) (n j) (groups j) (n_is j) (clear k) (count_is k) (need_is m) (number_is m) c.before.if-number-eq7.true)
+    (times-refused (plan j) (capture j) (length (words j)) (length (times j)) (n j) (groups j) (n_is j) (clear k) (count_is k) (need_is m) (number_is m) c.if-number-eq7.true)
     c.refusal-then-number-eq7.ensures
 
 write_words-requires : tie.Need-write_words-requires
@@ -183,8 +183,8 @@ write_words-requires c κs =
     let k = counted (measured r) in
     let j = sound k in
     let s = start j in (
-      (s.pre.0.0, λ h. omega (arith, s.pre.1 (rw (n_is j) at h), j.before.before.row-1.given), omega (arith, count_is k, (fit r).0)),
-      (whole j, s.pre.0.1, clear k),
+      (s.requires.0.0, λ h. omega (arith, s.requires.1 (rw (n_is j) at h), j.row-1.given), omega (arith, count_is k, (fit r).0)),
+      (whole j, s.requires.0.1, clear k),
     )
 
 write_times-requires : tie.Need-write_times-requires
@@ -194,7 +194,7 @@ write_times-requires c κs =
     let j = sound (counted m) in
     let s = start j in
     let f = mul-le-mul_right (group_words (plan j)) (times_few (plan j) (n j)) in
-    (s.pre.0.0, rw (need_is m) (omega (arith, f, whole j)), s.pre.0.1, (fit r).1)
+    (s.requires.0.0, rw (need_is m) (omega (arith, f, whole j)), s.requires.0.1, (fit r).1)
 
 shape_of-row : tie.Need-shape_of-row
 shape_of-row c = search rules

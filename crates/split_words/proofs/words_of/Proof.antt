@@ -22,7 +22,7 @@ slice_bounds-words_by-end c = search rules
 words_by-requires : tie.Need-words_by-requires
 words_by-requires c κs =
     let s = c.before.before.before.before.before.before.before in
-    (s.requires, λ h. omega (arith, in_row s h, c.before.before.before.if-capture-le1884.true))
+    (s.requires, λ h. omega (arith, in_row s h, c.if-capture-le1884.true))
 
 shape_of-words-then-capture-le1884 : tie.Need-shape_of-words-then-capture-le1884
 shape_of-words-then-capture-le1884 c = search rules

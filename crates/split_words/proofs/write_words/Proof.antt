@@ -54,29 +54,29 @@ size c = group_most (plan c) (shape c)
 
 -- how many words a group has, and how many stand before them
 abbrev count : AtLoop → ℕ
-count c = c.before.before.slots-count.result
+count c = c.slots-count.result
 
 counts : (c : AtLoop) → count c ≡ slots (plan c)
-counts c = c.before.before.slots-count.ensures.0
+counts c = c.slots-count.ensures.0
 
 abbrev first : AtLoop → ℕ
-first c = c.before.lead-first.result
+first c = c.lead-first.result
 
 first_is : (c : AtLoop) → first c ≡ lead (plan c)
-first_is c = c.before.lead-first.ensures
+first_is c = c.lead-first.ensures
 
 -- in it
 abbrev InLoop : Type 0
 InLoop = tie.In-loop-g invariant-loop-g decreases-loop-g
 
-room : (c : InLoop) → c.before.loop-g.g * (3 * group_words (plan c.before)) + 3 * group_words (plan c.before) ≤ length (capture c.before)
+room : (c : InLoop) → c.loop-g.g * (3 * group_words (plan c.before)) + 3 * group_words (plan c.before) ≤ length (capture c.before)
 room c = let l = c.before in group_room (plan l) (shape l) (start l).args.n l.loop-g.g (length (capture l)) (all l) c.loop-g-test.true
 
 -- its words have room
-word_room : (c : InLoop) → (c.before.loop-g.g + 1) * count c.before ≤ length (start c.before).args.words-1.now
+word_room : (c : InLoop) → (c.loop-g.g + 1) * count c.before ≤ length (start c.before).args.words.now
 word_room c = let l = c.before in share_room (plan l) (capture l) l.loop-g.g (start l).args.n (count l) _ c.loop-g-test.true (counts l) (start l).requires.0.2
 
-few : (c : InLoop) → (c.before.loop-g.g + 1) * count c.before ≤ 349525
+few : (c : InLoop) → (c.loop-g.g + 1) * count c.before ≤ 349525
 few c =
     let l = c.before in
     share_room (plan l) (capture l) l.loop-g.g (start l).args.n (count l) 349525 c.loop-g-test.true (counts l)
@@ -115,8 +115,8 @@ part_is c =
 row_room : (c : Dealt) → first (loop c) + count (loop c) ≤ length (row c)
 row_room c =
     let l = loop c in
-    let r = (start l).pre.0.1 (omega (arith, (in_loop c).loop-g-test.true)) in
-    omega (arith, first_is l, counts l, (deal c).deal.ensures.long, l.loop-g.inv.1, r, dealt_all (plan l) (shape l))
+    let r = (start l).requires.0.1 (omega (arith, (in_loop c).loop-g-test.true)) in
+    omega (arith, first_is l, counts l, (deal c).deal.ensures.long, l.loop-g.invariant.1, r, dealt_all (plan l) (shape l))
 
 -- ---- the needs
 
@@ -132,24 +132,24 @@ lead-first-requires c κs = search rules
 overflow_add-behind : tie.Need-overflow_add-behind invariant-loop-g decreases-loop-g
 overflow_add-behind c =
     let s = c.before.before.before.before.before.before in
-    omega (arith, c.lead-first.ensures, lead_few s.args.plan, c.before.slots-count.ensures.0, slots_most s.args.plan s.requires.0.0)
+    omega (arith, c.lead-first.ensures, lead_few s.args.plan, c.slots-count.ensures.0, slots_most s.args.plan s.requires.0.0)
 
 loop-g-init : tie.Need-loop-g-init invariant-loop-g decreases-loop-g
 loop-g-init c =
     let s = c.before.before.before.before.before.before in
-    (omega arith, refl, sym (fault_first s.args.plan s.args.capture.now s.args.n) ∙ s.requires.1.2, words_none s.args.plan s.args.capture.now s.args.words-1.now _ (omega arith))
+    (omega arith, refl, sym (fault_first s.args.plan s.args.capture.now s.args.n) ∙ s.requires.1.2, words_none s.args.plan s.args.capture.now s.args.words.now _ (omega arith))
 
 overflow_mul-begin : tie.Need-overflow_mul-begin invariant-loop-g decreases-loop-g
 overflow_mul-begin c = omega (arith, size c.before)
 
 overflow_mul-begin-in-loop-g : tie.Need-overflow_mul-begin-in-loop-g invariant-loop-g decreases-loop-g
-overflow_mul-begin-in-loop-g c = omega (arith, room c, (start c.before).pre.1.1)
+overflow_mul-begin-in-loop-g c = omega (arith, room c, (start c.before).requires.1.1)
 
 overflow_mul-end : tie.Need-overflow_mul-end invariant-loop-g decreases-loop-g
 overflow_mul-end c = omega (arith, size c.before)
 
 overflow_add-end : tie.Need-overflow_add-end invariant-loop-g decreases-loop-g
-overflow_add-end c = omega (arith, room c, (start c.before).pre.1.1)
+overflow_add-end c = omega (arith, room c, (start c.before).requires.1.1)
 
 slice_bounds-deal-count : tie.Need-slice_bounds-deal-count invariant-loop-g decreases-loop-g
 slice_bounds-deal-count c = search rules
@@ -204,30 +204,30 @@ copy_words-requires c κs =
     let d = c.before.before.before in
     let l = loop d in
     let k : length (part d) ≡ count l = ap (λ (x : List ℕ). length x) (part_is d) ∙ words_length (plan l) (capture l) (l.loop-g.g * group_words (plan l)) ∙ sym (counts l) in
-    lent_length l.loop-g.words-1 (l.loop-g.g * count l) (count l) (omega (arith, word_room (in_loop d), front_long l.loop-g.inv.3)) ∙ sym k
+    lent_length l.loop-g.words-1 (l.loop-g.g * count l) (count l) (omega (arith, word_room (in_loop d), front_long l.loop-g.invariant.3)) ∙ sym k
 
 overflow_add-g : tie.Need-overflow_add-g invariant-loop-g decreases-loop-g
 overflow_add-g c = search rules
 
 loop-g-smaller : tie.Need-loop-g-smaller invariant-loop-g decreases-loop-g
-loop-g-smaller c = omega (arith, (in_loop c.before.before.before.before.before.before).loop-g-test.taken)
+loop-g-smaller c = omega (arith, (in_loop c.before.before.before.before.before.before).loop-g-test.true)
 
 loop-g-preserved : tie.Need-loop-g-preserved invariant-loop-g decreases-loop-g
 loop-g-preserved c =
     let d = c.before.before.before.before.before.before in
     let l = loop d in (
       omega (arith, (in_loop d).loop-g-test.true),
-      (deal d).deal.ensures.long ∙ l.loop-g.inv.1,
+      (deal d).deal.ensures.long ∙ l.loop-g.invariant.1,
       (faultless (in_loop d)).1,
-      group_more (plan l) (capture l) l.loop-g.g (l.loop-g.g * count l + count l - l.loop-g.g * count l) (count l) l.loop-g.inv.3 (counts l) (omega arith) (word_room (in_loop d))
-          (c.before.before.copy_words.ensures ∙ part_is d),
+      group_more (plan l) (capture l) l.loop-g.g (l.loop-g.g * count l + count l - l.loop-g.g * count l) (count l) l.loop-g.invariant.3 (counts l) (omega arith) (word_room (in_loop d))
+          (c.copy_words.ensures ∙ part_is d),
     )
 
 shape_of-row : tie.Need-shape_of-row invariant-loop-g decreases-loop-g
-shape_of-row c = c.before.loop-g.invariant.1
+shape_of-row c = c.loop-g.invariant.1
 
 shape_of-words : tie.Need-shape_of-words invariant-loop-g decreases-loop-g
-shape_of-words c = front_long c.before.loop-g.invariant.3
+shape_of-words c = front_long c.loop-g.invariant.3
 
 returns : tie.Need-returns invariant-loop-g decreases-loop-g
 returns c =

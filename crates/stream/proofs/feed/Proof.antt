@@ -21,7 +21,7 @@ Found = tie.After-load-found
 abbrev start : Found → tie.Start
 start c = c.before.before.before.before.before.before
 
-staged : (c : Found) → c.load-found.result.stage ≡ (loaded_of (start c).args.state-1.now).stage
+staged : (c : Found) → c.load-found.result.stage ≡ (loaded_of (start c).args.state.now).stage
 staged c = ap (λ (r : Loaded). r.stage) c.load-found.ensures
 
 -- the limits were looked at
@@ -31,7 +31,7 @@ Judged = tie.After-within
 abbrev found : Judged → Found
 found c = c.before
 
-judged : (c : Judged) → c.within.result ≡ within (loaded_of (start (found c)).args.state-1.now).stage (length (start (found c)).args.piece.now) (length (start (found c)).args.log-1.now)
+judged : (c : Judged) → c.within.result ≡ within (loaded_of (start (found c)).args.state.now).stage (length (start (found c)).args.piece.now) (length (start (found c)).args.log.now)
 judged c =
     let a = (start (found c)).args in
     c.within.ensures ∙ ap (λ (n : ℕ). within n (length a.piece.now) (length a.log-1.now)) (staged (found c))
@@ -55,7 +55,7 @@ returns-then-not-within c =
     let j = c.before.before in
     let a = (start (found j)).args in
     unread_leaves a.state-1.now a.log-1.now a.times-1.now
-    (not_within a.state-1.now a.piece.now (length a.log-1.now) (length a.times-1.now) (sym (judged j) ∙ not-true _ c.before.if-not-within.true)) c.refusal.ensures
+    (not_within a.state-1.now a.piece.now (length a.log-1.now) (length a.times-1.now) (sym (judged j) ∙ not-true _ c.if-not-within.true)) c.refusal.ensures
 
 refusal-requires-then-found-eq2 : tie.Need-refusal-requires-then-found-eq2
 refusal-requires-then-found-eq2 c κs = search rules
@@ -68,10 +68,10 @@ returns-then-found-eq2 c =
     let j = c.before.before.before.before in
     let f = found j in
     let a = (start f).args in
-    let k = limits (loaded_of a.state-1.now).stage (length a.piece.now) (length a.log-1.now) (sym (judged j) ∙ not-false _ c.before.before.before.if-not-within.false) in
+    let k = limits (loaded_of a.state-1.now).stage (length a.piece.now) (length a.log-1.now) (sym (judged j) ∙ not-false _ c.if-not-within.false) in
     let e = f.load-found.ensures in
     unread_leaves a.state-1.now a.log-1.now a.times-1.now
-    (repeated a.state-1.now a.piece.now (length a.log-1.now) (length a.times-1.now) (sym (staged f) ∙ c.before.if-found-eq2.true) k.short k.roomy)
+    (repeated a.state-1.now a.piece.now (length a.log-1.now) (length a.times-1.now) (sym (staged f) ∙ c.if-found-eq2.true) k.short k.roomy)
     (c.refusal-then-found-eq2.ensures ∙ ap (λ (r : Loaded). refusal r.number r.place r.second) e)
 
 feed_working-requires : tie.Need-feed_working-requires
@@ -80,8 +80,8 @@ feed_working-requires c κs =
     let f = found j in
     let a = (start f).args in
     let k = limits (loaded_of a.state-1.now).stage (length a.piece.now) (length a.log-1.now)
-    (sym (judged j) ∙ not-false _ c.before.before.before.before.before.before.if-not-within.false) in
-    let one = k.open_stage (λ z. c.before.before.before.before.if-found-eq2.false (staged f ∙ z)) in
+    (sym (judged j) ∙ not-false _ c.if-not-within.false) in
+    let one = k.open_stage (λ z. c.if-found-eq2.false (staged f ∙ z)) in
     let w = loaded_work a.state-1.now one in
     record {
       work = subst (AtWork a.state-1.now) (sym (ap (λ (r : Loaded). r.stand-1) f.load-found.ensures)) w;

@@ -25,7 +25,7 @@ Asked = tie.After-times_of
 
 asked : (c : Asked) → c.times_of.result ≡ times_needed (start c.before).args.stand.plan-1
     (((start c.before).args.stand.waiting + length (start c.before).args.piece.now) / group_size (start c.before).args.stand.plan-1)
-asked c = let p = (start c.before).args.stand.plan-1 in c.times_of.ensures ∙ ap (λ (n : ℕ). times_needed p n) c.before.groups_in-filled.ensures
+asked c = let p = (start c.before).args.stand.plan-1 in c.times_of.ensures ∙ ap (λ (n : ℕ). times_needed p n) c.groups_in-filled.ensures
 
 -- there are as many, and the size of a group is known
 abbrev Sized : Type 0
@@ -35,8 +35,8 @@ abbrev from : Sized → tie.Start
 from d = start d.before.before.before
 
 enough : (d : Sized) → times_needed (from d).args.stand.plan-1 (((from d).args.stand.waiting + length (from d).args.piece.now) / group_size (from d).args.stand.plan-1) ≤ length
-    (from d).args.times-1.now
-enough d = omega (arith, asked d.before.before, d.before.if-times-times_of.false)
+    (from d).args.times.now
+enough d = omega (arith, asked d.before.before, d.if-times-times_of.false)
 
 counts : (d : Sized) → (from d).args.stand.groups * (3 * d.group_words.result) ≡ (from d).args.stand.groups * group_size (from d).args.stand.plan-1
 counts d = ap (λ (n : ℕ). (from d).args.stand.groups * (3 * n)) d.group_words.ensures.0
@@ -62,7 +62,7 @@ returns-then-times-times_of c =
     let s = start q.before in
     let a = s.args in
     unread_leaves a.state-1.now a.log-1.now a.times-1.now
-    (short-entries a.state-1.now a.stand s.pre.work a.piece.now (length a.log-1.now) (length a.times-1.now) s.pre.short (omega (arith, asked q, c.before.if-times-times_of.true)))
+    (short-entries a.state-1.now a.stand s.requires.work a.piece.now (length a.log-1.now) (length a.times-1.now) s.requires.short (omega (arith, asked q, c.if-times-times_of.true)))
     c.refusal.ensures
 
 group_words-requires : tie.Need-group_words-requires
@@ -72,13 +72,13 @@ overflow_mul-count : tie.Need-overflow_mul-count
 overflow_mul-count c = search rules
 
 overflow_mul-count-2 : tie.Need-overflow_mul-count-2
-overflow_mul-count-2 c = let d = c.before in let s = from d in omega (arith, counts d, s.pre.work.count, s.pre.short)
+overflow_mul-count-2 c = let d = c.before in let s = from d in omega (arith, counts d, s.requires.work.count, s.requires.short)
 
 overflow_add-count : tie.Need-overflow_add-count
-overflow_add-count c = let d = c.before in let s = from d in omega (arith, counts d, s.pre.work.count, s.pre.short)
+overflow_add-count c = let d = c.before in let s = from d in omega (arith, counts d, s.requires.work.count, s.requires.short)
 
 overflow_add-count-2 : tie.Need-overflow_add-count-2
-overflow_add-count-2 c = let d = c.before in let s = from d in omega (arith, counts d, s.pre.work.count, s.pre.short)
+overflow_add-count-2 c = let d = c.before in let s = from d in omega (arith, counts d, s.requires.work.count, s.requires.short)
 
 refusal-requires-then-count-piece-gt1099511627776 : tie.Need-refusal-requires-then-count-piece-gt1099511627776
 refusal-requires-then-count-piece-gt1099511627776 c κs = search rules
@@ -89,8 +89,8 @@ returns-then-count-piece-gt1099511627776 c =
     let s = from d in
     let a = s.args in
     unread_leaves a.state-1.now a.log-1.now a.times-1.now
-    (crossed a.state-1.now a.stand s.pre.work a.piece.now (length a.log-1.now) (length a.times-1.now) s.pre.short s.pre.roomy (enough d) _
-    (ap (λ (n : ℕ). n + a.stand.waiting) (counts d)) c.before.if-count-piece-gt1099511627776.true)
+    (crossed a.state-1.now a.stand s.requires.work a.piece.now (length a.log-1.now) (length a.times-1.now) s.requires.short s.requires.roomy (enough d) _
+    (ap (λ (n : ℕ). n + a.stand.waiting) (counts d)) c.if-count-piece-gt1099511627776.true)
     c.refusal-then-count-piece-gt1099511627776.ensures
 
 keep-requires : tie.Need-keep-requires
@@ -98,7 +98,7 @@ keep-requires c κs =
     let d = c.before.before.before.before in
     let s = from d in
     let a = s.args in
-    piece_waits a.state-1.now a.stand s.pre.work a.piece.now _ d.before.before.before.groups_in-filled.ensures c.before.if-filled-eq0.true
+    piece_waits a.state-1.now a.stand s.requires.work a.piece.now _ d.groups_in-filled.ensures c.if-filled-eq0.true
 
 refusal-requires-then-filled-eq0 : tie.Need-refusal-requires-then-filled-eq0
 refusal-requires-then-filled-eq0 c κs = search rules
@@ -112,24 +112,24 @@ returns-then-filled-eq0 c =
     let s = from d in
     let a = s.args in
     let small : a.stand.groups * group_size a.stand.plan-1 + a.stand.waiting + length a.piece.now ≤ most_bytes = omega
-    (arith, counts d, c.before.before.before.before.before.before.if-count-piece-gt1099511627776.false) in
-    piece_kept a.state-1.now a.stand s.pre.work a.piece.now a.log-1.now a.times-1.now _ _ d.before.before.before.groups_in-filled.ensures
-    c.before.before.before.before.before.if-filled-eq0.true
-    (fed-bytes a.state-1.now a.stand s.pre.work a.piece.now (length a.log-1.now) (length a.times-1.now) s.pre.short s.pre.roomy (enough d) small)
-    c.refusal-then-filled-eq0.ensures c.before.before.before.keep.ensures
+    (arith, counts d, c.if-count-piece-gt1099511627776.false) in
+    piece_kept a.state-1.now a.stand s.requires.work a.piece.now a.log-1.now a.times-1.now _ _ d.groups_in-filled.ensures
+    c.if-filled-eq0.true
+    (fed-bytes a.state-1.now a.stand s.requires.work a.piece.now (length a.log-1.now) (length a.times-1.now) s.requires.short s.requires.roomy (enough d) small)
+    c.refusal-then-filled-eq0.ensures c.keep.ensures
 
 feed_groups-requires : tie.Need-feed_groups-requires
 feed_groups-requires c κs =
     let d = c.before.before.before.before.before.before in
     let s = from d in
     let a = s.args in
-    let e = d.before.before.before.groups_in-filled.ensures in
+    let e = d.groups_in-filled.ensures in
     record {
-      fed = s.pre;
+      fed = s.requires;
       whole = e;
-      some = omega (arith, c.before.before.before.if-filled-eq0.false);
+      some = omega (arith, c.if-filled-eq0.false);
       timed = rw e (enough d);
-      size = omega (arith, counts d, c.before.before.before.before.if-count-piece-gt1099511627776.false);
+      size = omega (arith, counts d, c.if-count-piece-gt1099511627776.false);
     }
 
 shape_of-state : tie.Need-shape_of-state

@@ -10,7 +10,7 @@ refusal-requires : tie.Need-refusal-requires
 refusal-requires c κs = search rules
 
 returns-then-state-ne7168 : tie.Need-returns-then-state-ne7168
-returns-then-state-ne7168 c = let a = c.before.before.before.args in opens_unread a.plan a.kinds a.state-1.now c.before.if-state-ne7168.true c.refusal.ensures
+returns-then-state-ne7168 c = let a = c.args in opens_unread a.plan a.kinds a.state-1.now c.if-state-ne7168.true c.refusal.ensures
 
 legal-requires : tie.Need-legal-requires
 legal-requires c κs = search rules
@@ -25,14 +25,14 @@ shape_of-state-then-not-legal : tie.Need-shape_of-state-then-not-legal
 shape_of-state-then-not-legal c = search rules
 
 returns-then-not-legal : tie.Need-returns-then-not-legal
-returns-then-not-legal c = let a = c.before.before.before.before.before.before.before.before.before.args in opens_closed a.plan a.kinds a.state-1.now
-    c.before.before.before.before.before.before.before.if-state-ne7168.false
-    (sym c.before.before.before.before.before.before.legal.ensures ∙ not-true _ c.before.before.before.before.before.if-not-legal.true) c.refusal-then-not-legal.ensures
-    c.before.before.before.store_closed.ensures
+returns-then-not-legal c = let a = c.args in opens_closed a.plan a.kinds a.state-1.now
+    c.if-state-ne7168.false
+    (sym c.legal.ensures ∙ not-true _ c.if-not-legal.true) c.refusal-then-not-legal.ensures
+    c.store_closed.ensures
 
 store_open-requires : tie.Need-store_open-requires
-store_open-requires c κs = let sixteen : length c.before.before.before.before.before.args.kinds ≡ 16 = search rules in
-    (c.before.before.before.if-state-ne7168.false, sym c.before.before.legal.ensures ∙ not-false _ c.before.if-not-legal.false, sixteen)
+store_open-requires c κs = let sixteen : length c.args.kinds ≡ 16 = search rules in
+    (c.if-state-ne7168.false, sym c.legal.ensures ∙ not-false _ c.if-not-legal.false, sixteen)
 
 refusal-requires-2 : tie.Need-refusal-requires-2
 refusal-requires-2 c κs = search rules
@@ -41,10 +41,10 @@ shape_of-state : tie.Need-shape_of-state
 shape_of-state c = search rules
 
 returns : tie.Need-returns
-returns c = let a = c.before.before.before.before.before.before.before.before.before.args in opens_work a.plan a.kinds a.state-1.now
-    c.before.before.before.before.before.before.before.if-state-ne7168.false
-    (sym c.before.before.before.before.before.before.legal.ensures ∙ not-false _ c.before.before.before.before.before.if-not-legal.false) c.refusal-2.ensures
-    c.before.before.before.store_open.ensures
+returns c = let a = c.args in opens_work a.plan a.kinds a.state-1.now
+    c.if-state-ne7168.false
+    (sym c.legal.ensures ∙ not-false _ c.if-not-legal.false) c.refusal-2.ensures
+    c.store_open.ensures
 
 pub open_spec : {M : Type 1} → statement M
 open_spec =

@@ -20,7 +20,7 @@ Found = tie.After-load-found
 abbrev start : Found → tie.Start
 start c = c.before.before.before.before
 
-staged : (c : Found) → c.load-found.result.stage ≡ (loaded_of (start c).args.state-1.now).stage
+staged : (c : Found) → c.load-found.result.stage ≡ (loaded_of (start c).args.state.now).stage
 staged c = ap (λ (r : Loaded). r.stage) c.load-found.ensures
 
 -- the limits were looked at
@@ -30,18 +30,18 @@ Judged = tie.After-within
 abbrev found : Judged → Found
 found c = c.before
 
-judged : (c : Judged) → c.within.result ≡ within (found c).load-found.result.stage 0 (length (start (found c)).args.log-1.now)
+judged : (c : Judged) → c.within.result ≡ within (found c).load-found.result.stage 0 (length (start (found c)).args.log.now)
 judged c = c.within.ensures
 
 -- within them
 abbrev Open : Type 0
 Open = tie.Else-not-within
 
-within_them : (c : Open) → Limits (found c.before).load-found.result.stage 0 (length (start (found c.before)).args.log-1.now)
-within_them c = limits (found c.before).load-found.result.stage 0 (length (start (found c.before)).args.log-1.now) (sym (judged c.before) ∙ not-false _ c.if-not-within.false)
+within_them : (c : Open) → Limits (found c.before).load-found.result.stage 0 (length (start (found c.before)).args.log.now)
+within_them c = limits (found c.before).load-found.result.stage 0 (length (start (found c.before)).args.log.now) (sym (judged c.before) ∙ not-false _ c.if-not-within.false)
 
-long : (o : Open) → length (start (found o.before)).args.state-1.now ≡ 7168
-long o = let f = found o.before in open_long (start f).args.state-1.now f.load-found.result.stage (sym (staged f)) (within_them o).open_stage
+long : (o : Open) → length (start (found o.before)).args.state.now ≡ 7168
+long o = let f = found o.before in open_long (start f).args.state.now f.load-found.result.stage (sym (staged f)) (within_them o).open_stage
 
 -- the notices' numbers were read
 abbrev Read : Type 0
@@ -50,7 +50,7 @@ Read = tie.After-notices_at
 abbrev within_limits : Read → Open
 within_limits n = n.before.before.before
 
-says : (n : Read) → let f = found (within_limits n).before in Says (start f).args.state-1.now f.load-found.result n.notices_at.new.1.0
+says : (n : Read) → let f = found (within_limits n).before in Says (start f).args.state.now f.load-found.result n.notices_at.new.1.0
 says n = record { is = (found (within_limits n).before).load-found.ensures; table_is = λ e. n.notices_at.ensures }
 
 -- ---- the needs
@@ -72,7 +72,7 @@ returns-then-not-within c =
     let j = c.before.before in
     let a = (start (found j)).args in
     let e = not_closable a.state-1.now (length a.log-1.now)
-    (ap (λ (n : ℕ). within n 0 (length a.log-1.now)) (sym (staged (found j))) ∙ sym (judged j) ∙ not-true _ c.before.if-not-within.true) in
+    (ap (λ (n : ℕ). within n 0 (length a.log-1.now)) (sym (staged (found j))) ∙ sym (judged j) ∙ not-true _ c.if-not-within.true) in
     rw e (c.refusal.ensures, refl, refl)
 
 slice_bounds-notices_at-end : tie.Need-slice_bounds-notices_at-end
@@ -88,7 +88,7 @@ close_on-answer-requires : tie.Need-close_on-answer-requires
 close_on-answer-requires c κs =
     let n = c.before.before.before in
     let o = within_limits n in
-    record { bytes = (start (found o.before)).args.state-1.now; says = says n; open_stage = (within_them o).open_stage; roomy = (within_them o).roomy }
+    record { bytes = (start (found o.before)).args.state.now; says = says n; open_stage = (within_them o).open_stage; roomy = (within_them o).roomy }
 
 store_closed-requires : tie.Need-store_closed-requires
 store_closed-requires c κs = long (within_limits c.before.before.before.before.before.before.before)
@@ -105,9 +105,9 @@ returns c =
     let o = within_limits n in
     let f = found o.before in
     let a = (start f).args in
-    let k = c.before.before.before.before.before.before.close_on-answer.ensures a.state-1.now (says n) in (
+    let k = c.close_on-answer.ensures a.state-1.now (says n) in (
       k.0,
-      c.before.before.store_closed.ensures ∙ sym
+      c.store_closed.ensures ∙ sym
           (shut_state a.state-1.now (length a.log-1.now) f.load-found.result.stage (sym (staged f)) (within_them o).open_stage (within_them o).roomy),
       k.1,
     )

@@ -44,20 +44,20 @@ refusal-requires c κs = search rules
 returns-then-found-eq2 : tie.Need-returns-then-found-eq2
 returns-then-found-eq2 c =
     let s = c.before.before.before.before.before in
-    λ b y. shut_failed b s.args.log-1.now (sym (ap (λ (x : Loaded). x.stage) y.is) ∙ c.before.if-found-eq2.true) s.requires.roomy
+    λ b y. shut_failed b s.args.log.now (sym (ap (λ (x : Loaded). x.stage) y.is) ∙ c.if-found-eq2.true) s.requires.roomy
     (c.refusal.ensures ∙ ap (λ (x : Loaded). refusal x.number x.place x.second) y.is)
 
 group_words-requires : tie.Need-group_words-requires
-group_words-requires c κs = (work c.before.before.before.before.before.before.before c.before.before.before.if-found-eq2.false).shape
+group_words-requires c κs = (work c.before.before.before.before.before.before.before c.if-found-eq2.false).shape
 
 overflow_mul-count : tie.Need-overflow_mul-count
 overflow_mul-count c = search rules
 
 overflow_mul-count-then-waiting-ne0 : tie.Need-overflow_mul-count-then-waiting-ne0
-overflow_mul-count-then-waiting-ne0 c = let w = work c.before.before.before.before.before.before.before.before c.before.before.before.before.if-found-eq2.false in omega (arith, counts c, w.count)
+overflow_mul-count-then-waiting-ne0 c = let w = work c.before.before.before.before.before.before.before.before c.if-found-eq2.false in omega (arith, counts c, w.count)
 
 overflow_add-count : tie.Need-overflow_add-count
-overflow_add-count c = let w = work c.before.before.before.before.before.before.before.before c.before.before.before.before.if-found-eq2.false in omega (arith, counts c, w.count)
+overflow_add-count c = let w = work c.before.before.before.before.before.before.before.before c.if-found-eq2.false in omega (arith, counts c, w.count)
 
 refusal-requires-then-waiting-ne0 : tie.Need-refusal-requires-then-waiting-ne0
 refusal-requires-then-waiting-ne0 c κs = search rules
@@ -67,7 +67,7 @@ returns-then-waiting-ne0 c =
     let s = c.before.before.before.before.before.before.before.before.before in
     let a = s.args in
     let x = a.found.stand in
-    λ b y. shut_part b x (at_work s c.before.before.before.before.before.if-found-eq2.false b y) a.log-1.now s.requires.roomy _ c.before.before.if-waiting-ne0.true
+    λ b y. shut_part b x (at_work s c.if-found-eq2.false b y) a.log-1.now s.requires.roomy _ c.if-waiting-ne0.true
     (ap (λ (n : ℕ). n + x.waiting) (counts c.before)) c.refusal-then-waiting-ne0.ensures
 
 overflow_cast-pen : tie.Need-overflow_cast-pen
@@ -80,8 +80,8 @@ end_log-requires : tie.Need-end_log-requires
 end_log-requires c κs =
     let s = c.before.before.before.before.before.before.before.before.before.before in
     let a = s.args in
-    let z = c.before.before.before.before.before.before.if-found-eq2.false in
-    shut-whole s.requires.bytes a.found.stand (work s z) a.log-1.now s.requires.roomy (c.before.before.before.if-waiting-ne0.false) a.table.now (s.requires.says.table_is (s.requires.open_stage z))
+    let z = c.if-found-eq2.false in
+    shut-whole s.requires.bytes a.found.stand (work s z) a.log-1.now s.requires.roomy (c.if-waiting-ne0.false) a.table.now (s.requires.says.table_is (s.requires.open_stage z))
 
 shape_of-log : tie.Need-shape_of-log
 shape_of-log c = search rules
@@ -90,9 +90,9 @@ returns : tie.Need-returns
 returns c =
     let s = c.before.before.before.before.before.before.before.before.before.before.before.before.before in
     let a = s.args in
-    let z = c.before.before.before.before.before.before.before.before.before.if-found-eq2.false in
-    λ b y. shut-ends b a.found.stand (at_work s z b y) a.log-1.now s.requires.roomy (c.before.before.before.before.before.before.if-waiting-ne0.false) a.table.now
-    (y.table_is (s.requires.open_stage z)) c.before.before.end_log.ensures
+    let z = c.if-found-eq2.false in
+    λ b y. shut-ends b a.found.stand (at_work s z b y) a.log-1.now s.requires.roomy (c.if-waiting-ne0.false) a.table.now
+    (y.table_is (s.requires.open_stage z)) c.end_log.ensures
 
 pub close_on_spec : {M : Type 1} → statement M
 close_on_spec =

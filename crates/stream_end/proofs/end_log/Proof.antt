@@ -33,7 +33,7 @@ start f = f.before.before.before
 closes : (f : Done) → Closes (finish (held_of (start f).args.held) (start f).args.since) f.finish-step.result
 closes f =
     let s = start f in
-    subst (Closes (finish (held_of s.args.held) s.args.since)) (sym (f.finish-step.ensures s.args.since)) (finish_means s.args.held s.pre.sane s.args.since)
+    subst (Closes (finish (held_of s.args.held) s.args.since)) (sym (f.finish-step.ensures s.args.since)) (finish_means s.args.held s.requires.sane s.args.since)
 
 -- the earliest notice is known
 abbrev Noted : Type 0
@@ -63,7 +63,7 @@ returns-then-step : tie.Need-returns-then-step
 returns-then-step c =
     let f = c.before.before in
     let a = (start f).args in
-    ends_cut a.plan a.held a.since a.pen a.table.now a.log-1.now f.finish-step.result (closes f) c.before.if-step.true c.refusal.ensures
+    ends_cut a.plan a.held a.since a.pen a.table.now a.log-1.now f.finish-step.result (closes f) c.if-step.true c.refusal.ensures
 
 is_clear-requires : tie.Need-is_clear-requires
 is_clear-requires c κs = search rules
@@ -75,9 +75,9 @@ stored_of-requires : tie.Need-stored_of-requires
 stored_of-requires c κs =
     let n = c.before in
     let s = from n in
-    let k = stored_ok s.args.plan s.pre.shape s.args.groups n.at_end-notice.result s.pre.size c.if-notice-ne0.true
-    (subst (NumberOk s.args.plan s.args.groups) (sym (notice n)) s.pre.waits) in
-    (s.pre.shape, k.some, k.dealt, k.low)
+    let k = stored_ok s.args.plan s.requires.shape s.args.groups n.at_end-notice.result s.requires.size c.if-notice-ne0.true
+    (subst (NumberOk s.args.plan s.args.groups) (sym (notice n)) s.requires.waits) in
+    (s.requires.shape, k.some, k.dealt, k.low)
 
 refusal-requires-then-notice-ne0 : tie.Need-refusal-requires-then-notice-ne0
 refusal-requires-then-notice-ne0 c κs = search rules
@@ -87,9 +87,9 @@ returns-then-notice-ne0 c =
     let n = c.before.before.before in
     let f = done n in
     let a = (start f).args in
-    ends_open a.plan a.held a.since a.pen a.table.now a.log-1.now f.finish-step.result (closes f) n.before.before.if-step.false n.at_end-notice.result (notice n)
-    c.before.before.if-notice-ne0.true
-    (c.refusal-then-notice-ne0.ensures ∙ ap (λ (q : ℕ). refusal 15 q 0) c.before.Stored-of.ensures)
+    ends_open a.plan a.held a.since a.pen a.table.now a.log-1.now f.finish-step.result (closes f) n.if-step.false n.at_end-notice.result (notice n)
+    c.if-notice-ne0.true
+    (c.refusal-then-notice-ne0.ensures ∙ ap (λ (q : ℕ). refusal 15 q 0) c.Stored-of.ensures)
 
 put_end-requires : tie.Need-put_end-requires
 put_end-requires c κs =
@@ -97,9 +97,9 @@ put_end-requires c κs =
     let f = done n in
     let s = start f in
     let a = s.args in (
-      ends_last a.plan a.held a.since a.pen a.table.now a.log-1.now f.finish-step.result (closes f) n.before.before.if-step.false (none n c.before.if-notice-ne0.false) s.pre.bits
-          s.pre.few,
-      s.pre.room,
+      ends_last a.plan a.held a.since a.pen a.table.now a.log-1.now f.finish-step.result (closes f) n.if-step.false (none n c.if-notice-ne0.false) s.requires.bits
+          s.requires.few,
+      s.requires.room,
     )
 
 shape_of-log : tie.Need-shape_of-log
@@ -111,7 +111,7 @@ returns c =
     let n = k.before.before.before in
     let f = done n in
     let a = (start f).args in
-    ends-put a.plan a.held a.since a.pen a.table.now a.log-1.now f.finish-step.result (closes f) n.before.before.if-step.false (none n k.before.before.if-notice-ne0.false)
+    ends-put a.plan a.held a.since a.pen a.table.now a.log-1.now f.finish-step.result (closes f) n.if-step.false (none n k.if-notice-ne0.false)
     k.put_end.ensures
 
 pub end_log_spec : {M : Type 1} → statement M

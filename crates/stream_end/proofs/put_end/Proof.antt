@@ -87,7 +87,7 @@ returns : tie.Need-returns
 returns c =
     let e = c.before.before.before.before.before.before in
     let s = from e in
-    λ is b. last_put s.args.pen (last s).bits s.args.step is b (replicate 16 0) s.args.log-1.now refl (built e) (size e) (few e) refl c.before.before.copy.ensures
+    λ is b. last_put s.args.pen (last s).bits s.args.step is b (replicate 16 0) s.args.log.now refl (built e) (size e) (few e) refl c.copy.ensures
 
 pub put_end_spec : {M : Type 1} → statement M
 put_end_spec =

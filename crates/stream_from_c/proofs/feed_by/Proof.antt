@@ -30,10 +30,10 @@ abbrev entries : Lent → ℕ
 entries c = c.least-entries.result
 
 abbrev row : Lent → List ℕ
-row c = (start c).args.row-1.now
+row c = (start c).args.row.now
 
-both : (c : Lent) → (entries c ≤ length (start c).args.times-1.now / 8) × (entries c ≤ length (row c))
-both c = least_both (length (start c).args.times-1.now / 8) (length (row c)) (entries c) c.least-entries.ensures
+both : (c : Lent) → (entries c ≤ length (start c).args.times.now / 8) × (entries c ≤ length (row c))
+both c = least_both (length (start c).args.times.now / 8) (length (row c)) (entries c) c.least-entries.ensures
 
 part_long : (c : Lent) → length (take (entries c) (row c)) ≡ entries c
 part_long c = length-take-le (entries c) (row c) (both c).1
@@ -101,7 +101,7 @@ returns c =
     let f = c.before.before.before.before.before.before.before.before.before.before.before in
     let l = lent f in
     let a = (start l).args in
-    let e = least_same a.state-1.now a.piece.now (length a.log-1.now) (length a.times-1.now / 8) (length (row l)) (entries l) (start l).pre l.least-entries.ensures
+    let e = least_same a.state-1.now a.piece.now (length a.log-1.now) (length a.times-1.now / 8) (length (row l)) (entries l) (start l).requires l.least-entries.ensures
     ∙ ap (feeding a.state-1.now a.piece.now (length a.log-1.now)) (sym (part_long l)) in
     rw e
     (leaves_bytes (outcome l) (take (entries l) (row l)) f.feed-answer.new.1.1.1.0 (drop (entries l) (row l)) a.times-1.now f.feed-answer.ensures t.put_times.ensures

@@ -19,7 +19,7 @@ shape_of-times : tie.Need-shape_of-times
 shape_of-times c = search rules
 
 returns : tie.Need-returns
-returns c = c.before.before.before.before.before.before.before.feed_by.ensures
+returns c = c.feed_by.ensures
 
 pub feed_from_spec : {M : Type 1} → statement M
 feed_from_spec =

@@ -19,7 +19,7 @@ abbrev start : tie.After-named → tie.Start
 start c = c.before.before.before
 
 is_named : (c : tie.Then-named) → let a = (start c.before).args in named a.frame_time a.crc a.parity a.kinds.now ≡ true
-is_named c = sym c.before.named.ensures ∙ c.if-named.true
+is_named c = sym c.named.ensures ∙ c.if-named.true
 
 -- ---- the needs
 
@@ -67,7 +67,7 @@ returns c =
     let e = p.before in
     let a = (start e.before).args in
     opens_none a.words a.tracks a.frame_time a.crc a.parity a.crc_label a.fill_bus a.kinds.now a.state-1.now p.plan_from-none.result _
-    (sym e.before.named.ensures ∙ e.if-named.false)
+    (sym e.named.ensures ∙ e.if-named.false)
     p.plan_from-none.ensures o.open-2.ensures
 
 pub open_from_spec : {M : Type 1} → statement M

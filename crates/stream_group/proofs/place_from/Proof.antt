@@ -23,19 +23,19 @@ overflow_sub-dealt : tie.Need-overflow_sub-dealt
 overflow_sub-dealt c = search rules
 
 overflow_add-dealt : tie.Need-overflow_add-dealt
-overflow_add-dealt c = omega (arith, c.lead.ensures, c.before.before.requires.1, dealt_in _ c.before.before.requires.0, dealt_most _ c.before.before.requires.0)
+overflow_add-dealt c = omega (arith, c.lead.ensures, c.requires.1, dealt_in _ c.requires.0, dealt_most _ c.requires.0)
 
 place_of-requires : tie.Need-place_of-requires
-place_of-requires c κs = (c.before.before.requires.0, omega (arith, c.lead.ensures, c.before.if-number-eq0.false, c.before.before.requires.1, dealt_in _ c.before.before.requires.0))
+place_of-requires c κs = (c.requires.0, omega (arith, c.lead.ensures, c.if-number-eq0.false, c.requires.1, dealt_in _ c.requires.0))
 
 overflow_add-result : tie.Need-overflow_add-result
-overflow_add-result c = omega (arith, c.place_of.ensures.1, c.before.before.before.requires.2, group_most _ c.before.before.before.requires.0)
+overflow_add-result c = omega (arith, c.place_of.ensures.1, c.requires.2, group_most _ c.requires.0)
 
 returns : tie.Need-returns
 returns c =
-    let a = c.before.before.before.args in
-    rw (ne_eqb a.number 0 c.before.before.if-number-eq0.false)
-    (ap (λ (q : ℕ). a.at + q) (c.place_of.ensures.0 ∙ ap (λ (n : ℕ). place_of a.plan (n + (a.number - 1))) c.before.lead.ensures))
+    let a = c.args in
+    rw (ne_eqb a.number 0 c.if-number-eq0.false)
+    (ap (λ (q : ℕ). a.at + q) (c.place_of.ensures.0 ∙ ap (λ (n : ℕ). place_of a.plan (n + (a.number - 1))) c.lead.ensures))
 
 pub place_from_spec : {M : Type 1} → statement M
 place_from_spec =

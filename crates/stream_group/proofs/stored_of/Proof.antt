@@ -14,10 +14,10 @@ overflow_sub-dealt : tie.Need-overflow_sub-dealt
 overflow_sub-dealt c = search rules
 
 overflow_mul-size : tie.Need-overflow_mul-size
-overflow_mul-size c = omega (arith, group_most _ c.before.requires.0)
+overflow_mul-size c = omega (arith, group_most _ c.requires.0)
 
 overflow_mul-result : tie.Need-overflow_mul-result
-overflow_mul-result c = omega (arith, c.before.requires.3, mul-le-mul_left (c.before.args.number / 2048) (group_most _ c.before.requires.0))
+overflow_mul-result c = omega (arith, c.requires.3, mul-le-mul_left (c.args.number / 2048) (group_most _ c.requires.0))
 
 place_of-requires : tie.Need-place_of-requires
 place_of-requires c κs = search rules

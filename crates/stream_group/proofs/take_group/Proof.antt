@@ -30,7 +30,7 @@ abbrev start : Dealt → tie.Start
 start c = c.before.before.before.before.before.before
 
 bytes : (c : Dealt) (i : ℕ) → get_or (start c).args.group.now i 0 < 2 ^ 8
-bytes c i = omega (arith, c.before.before.before.before.before.shared_slice_known-1.given i)
+bytes c i = omega (arith, c.shared_slice_known-1.given i)
 
 abbrev dealt : tie.After-struct_known-1 → Dealt
 dealt c = c.before.before.before
@@ -52,8 +52,8 @@ part_is c =
     let d = (group c).deal-fault in
     let s = start (group c) in
     let a = s.args in
-    own_words a.plan s.pre.0.0 a.group.now d.last.1.1.0 _ s.pre.0.2 (d.ensures.words c.before.if-fault-ne0.false)
-    c.lead-first.result a.count c.lead-first.ensures s.pre.0.1
+    own_words a.plan s.requires.0.0 a.group.now d.last.1.1.0 _ s.requires.0.2 (d.ensures.words c.if-fault-ne0.false)
+    c.lead-first.result a.count c.lead-first.ensures s.requires.0.1
 
 words_low_in : (c : Led) (i : ℕ) → i < length (part c) → get_or (part c) i 0 < 2 ^ 24
 words_low_in c i l =
@@ -80,8 +80,8 @@ overflow_add-at : tie.Need-overflow_add-at
 overflow_add-at c =
     let d = dealt c.before.before in
     let s = start d in
-    let h = s.pre.0.0 in
-    omega (arith, at_low _ h s.args.index s.pre.1.2, place_low _ _ h d.deal-fault.ensures.fault, group_most _ h)
+    let h = s.requires.0.0 in
+    omega (arith, at_low _ h s.args.index s.requires.1.2, place_low _ _ h d.deal-fault.ensures.fault, group_most _ h)
 
 stops-requires : tie.Need-stops-requires
 stops-requires c κs = search rules
@@ -94,7 +94,7 @@ returns-then-fault-ne0 c =
     let t = c.before.before in
     let d = dealt t.before in
     took_stops d.deal-fault.result.number _ 0 c.stops.ensures t.if-fault-ne0.true
-    (group_stops _ _ _ _ _ _ _ (number_found _ _ (start d).pre.0.0 d.deal-fault.ensures.fault t.if-fault-ne0.true))
+    (group_stops _ _ _ _ _ _ _ (number_found _ _ (start d).requires.0.0 d.deal-fault.ensures.fault t.if-fault-ne0.true))
 
 lead-first-requires : tie.Need-lead-first-requires
 lead-first-requires c κs = search rules
@@ -102,7 +102,7 @@ lead-first-requires c κs = search rules
 overflow_add-behind : tie.Need-overflow_add-behind
 overflow_add-behind c =
     let s = start (group c) in
-    omega (arith, c.lead-first.ensures, lead_few s.args.plan, s.pre.0.1, slots_most _ s.pre.0.0)
+    omega (arith, c.lead-first.ensures, lead_few s.args.plan, s.requires.0.1, slots_most _ s.requires.0.0)
 
 offset_bounds-row-first : tie.Need-offset_bounds-row-first
 offset_bounds-row-first c = omega (arith, c.lead-first.ensures, lead_few (start (group c)).args.plan)
@@ -117,20 +117,20 @@ slice_bounds-take_row-end : tie.Need-slice_bounds-take_row-end
 slice_bounds-take_row-end c =
     let l = c.before in
     let s = start (group l) in
-    omega (arith, l.lead-first.ensures, s.pre.0.1, s.pre.0.3, (group l).deal-fault.ensures.long, dealt_in _ s.pre.0.0)
+    omega (arith, l.lead-first.ensures, s.requires.0.1, s.requires.0.3, (group l).deal-fault.ensures.long, dealt_in _ s.requires.0.0)
 
 take_row-requires : tie.Need-take_row-requires
 take_row-requires c κs =
     let l = led c in
     let s = start (group l) in (
       (
-        s.pre.0.0,
+        s.requires.0.0,
         words_low_in l,
         ap (λ (ws : List ℕ). length ws) (part_is l) ∙ words_length s.args.plan s.args.group.now 0,
-        s.pre.0.4,
-        s.pre.0.5,
+        s.requires.0.4,
+        s.requires.0.5,
       ),
-      (s.pre.1.0, s.pre.1.1, s.pre.1.2),
+      (s.requires.1.0, s.requires.1.1, s.requires.1.2),
     )
 
 shape_of-table : tie.Need-shape_of-table
@@ -147,7 +147,7 @@ returns c =
     let t = c.before.before.before.before in
     let l = led t.before in
     let d = group l in
-    let n = number_none _ _ (start d).pre.0.0 d.deal-fault.ensures.fault l.before.if-fault-ne0.left in
+    let n = number_none _ _ (start d).requires.0.0 d.deal-fault.ensures.fault l.if-fault-ne0.false in
     group_took _ _ _ _ _ _ n (part_is l) t.take_row.ensures
 
 pub take_group_spec : {M : Type 1} → statement M

@@ -40,14 +40,14 @@ place_from-requires : tie.Need-place_from-requires
 place_from-requires c κs =
     let s = c.before.before.before.before.before.before.before.before.before.before.before in
     let e = c.before.before.before.before.before in
-    let k = ran_bad _ _ _ _ s.requires.0.2 _ _ _ _ _ e.on_Row.ensures.0 c.before.if-pass-ne0.true in
+    let k = ran_bad _ _ _ _ s.requires.0.2 _ _ _ _ _ e.on_Row.ensures.0 c.if-pass-ne0.true in
     (s.requires.0.0, k.bad_low, at_low _ s.requires.0.0 s.args.index s.requires.1.2)
 
 place_from-requires-then-pass-ne0 : tie.Need-place_from-requires-then-pass-ne0
 place_from-requires-then-pass-ne0 c κs =
     let s = c.before.before.before.before.before.before.before.before.before.before.before.before in
     let e = c.before.before.before.before.before.before in
-    let k = ran_bad _ _ _ _ s.requires.0.2 _ _ _ _ _ e.on_Row.ensures.0 c.before.before.if-pass-ne0.true in
+    let k = ran_bad _ _ _ _ s.requires.0.2 _ _ _ _ _ e.on_Row.ensures.0 c.if-pass-ne0.true in
     (s.requires.0.0, k.since_low, at_low _ s.requires.0.0 s.args.index s.requires.1.2)
 
 stops-requires : tie.Need-stops-requires
@@ -60,9 +60,9 @@ returns-then-pass-ne0 : tie.Need-returns-then-pass-ne0
 returns-then-pass-ne0 c =
     let s = c.before.before.before.before.before.before.before.before.before.before.before.before.before.before in
     let e = c.before.before.before.before.before.before.before.before in
-    let k = ran_bad _ _ _ _ s.requires.0.2 _ _ _ _ _ e.on_Row.ensures.0 c.before.before.before.before.if-pass-ne0.true in
-    took_stops 13 c.before.before.place_from.result c.before.place_from-then-pass-ne0.result c.stops.ensures (λ (z : 13 ≡ 0). omega arith)
-    (row_bad _ _ _ _ _ _ _ k.is ∙ ap₂ (λ (a b : ℕ). stops 13 a b) (sym c.before.before.place_from.ensures) (sym c.before.place_from-then-pass-ne0.ensures))
+    let k = ran_bad _ _ _ _ s.requires.0.2 _ _ _ _ _ e.on_Row.ensures.0 c.if-pass-ne0.true in
+    took_stops 13 c.place_from.result c.place_from-then-pass-ne0.result c.stops.ensures (λ (z : 13 ≡ 0). omega arith)
+    (row_bad _ _ _ _ _ _ _ k.is ∙ ap₂ (λ (a b : ℕ). stops 13 a b) (sym c.place_from.ensures) (sym c.place_from-then-pass-ne0.ensures))
 
 has_arinc-arinc-requires : tie.Need-has_arinc-arinc-requires
 has_arinc-arinc-requires c κs = search rules
@@ -80,10 +80,10 @@ watch_row-shown-requires : tie.Need-watch_row-shown-requires
 watch_row-shown-requires c κs =
     let s = c.before.before.before.before.before.before.before.before.before.before.before.before.before in
     let h = s.requires.0.0 in (
-      c.before.before.has_arinc-arinc.ensures,
+      c.has_arinc-arinc.ensures,
       s.requires.0.1,
       omega (arith, s.requires.0.2, slots_most _ h),
-      omega (arith, s.requires.0.2, slots_most _ h, c.before.lead.ensures, lead_few s.args.plan, index_low _ h s.args.index s.requires.1.2),
+      omega (arith, s.requires.0.2, slots_most _ h, c.lead.ensures, lead_few s.args.plan, index_low _ h s.args.index s.requires.1.2),
       s.requires.1.0,
     )
 
@@ -92,10 +92,10 @@ stored_of-requires c κs =
     let s = c.before.before.before.before.before.before.before.before.before.before.before.before.before.before.before.before.before in
     let a = s.args in
     let h = s.requires.0.0 in
-    let n = ap (λ (n : ℕ). a.index * 2048 + n) c.before.before.before.before.before.lead.ensures in
-    let w = watched_from a.plan a.kinds a.index a.row.now a.table-1.now n c.before.before.before.watch_row-shown.ensures in
+    let n = ap (λ (n : ℕ). a.index * 2048 + n) c.lead.ensures in
+    let w = watched_from a.plan a.kinds a.index a.row.now a.table-1.now n c.watch_row-shown.ensures in
     let ok = shown_ok a.plan h a.index s.requires.1.2 a.kinds a.row.now a.table-1.now s.requires.0.2 s.requires.1.0 s.requires.1.1 in
-    let k = shown_in a.plan h a.index s.requires.1.2 c.before.before.before.watch_row-shown.result (rw w.0 at ok) c.if-shown-ne0.true in
+    let k = shown_in a.plan h a.index s.requires.1.2 c.watch_row-shown.result (rw w.0 at ok) c.if-shown-ne0.true in
     (h, k.0, k.1, k.2)
 
 stops-requires-then-shown-ne0 : tie.Need-stops-requires-then-shown-ne0
@@ -111,16 +111,16 @@ returns-then-shown-ne0 : tie.Need-returns-then-shown-ne0
 returns-then-shown-ne0 c =
     let s = c.before.before.before.before.before.before.before.before.before.before.before.before.before.before.before.before.before.before.before in
     let a = s.args in
-    let k = ran_on _ _ _ _ s.requires.0.2 _ _ _ _ _ c.before.before.before.before.before.before.before.before.before.before.before.before.before.on_Row.ensures.0 c.before.before.before.before.before.before.before.before.before.if-pass-ne0.false in
-    let n = ap (λ (n : ℕ). a.index * 2048 + n) c.before.before.before.before.before.before.before.lead.ensures in
-    let w = watched_from a.plan a.kinds a.index a.row.now a.table-1.now n c.before.before.before.before.before.watch_row-shown.ensures in
-    took_stops 15 c.before.Stored-of.result 0 c.stops-then-shown-ne0.ensures (λ (z : 15 ≡ 0). omega arith)
-    (row_shown _ _ _ _ _ k.items _ _ _ k.is w.0 c.before.before.if-shown-ne0.true ∙ ap (λ (q : ℕ). stops 15 q 0) (sym c.before.Stored-of.ensures))
+    let k = ran_on _ _ _ _ s.requires.0.2 _ _ _ _ _ c.on_Row.ensures.0 c.if-pass-ne0.false in
+    let n = ap (λ (n : ℕ). a.index * 2048 + n) c.lead.ensures in
+    let w = watched_from a.plan a.kinds a.index a.row.now a.table-1.now n c.watch_row-shown.ensures in
+    took_stops 15 c.Stored-of.result 0 c.stops-then-shown-ne0.ensures (λ (z : 15 ≡ 0). omega arith)
+    (row_shown _ _ _ _ _ k.items _ _ _ k.is w.0 c.if-shown-ne0.true ∙ ap (λ (q : ℕ). stops 15 q 0) (sym c.Stored-of.ensures))
 
 place_from-requires-2 : tie.Need-place_from-requires-2
 place_from-requires-2 c κs =
     let s = c.before.before.before.before.before.before.before.before.before.before.before.before.before.before.before.before.before.before.before in
-    let k = ran_on _ _ _ _ s.requires.0.2 _ _ _ _ _ c.before.before.before.before.before.before.before.before.before.before.before.before.before.on_Row.ensures.0 c.before.before.before.before.before.before.before.before.before.if-pass-ne0.false in
+    let k = ran_on _ _ _ _ s.requires.0.2 _ _ _ _ _ c.on_Row.ensures.0 c.if-pass-ne0.false in
     (s.requires.0.0, k.since_low, at_low _ s.requires.0.0 s.args.index s.requires.1.2)
 
 shape_of-table : tie.Need-shape_of-table
@@ -133,13 +133,13 @@ returns : tie.Need-returns
 returns c =
     let s = c.before.before.before.before.before.before.before.before.before.before.before.before.before.before.before.before.before.before.before.before in
     let a = s.args in
-    let k = ran_on _ _ _ _ s.requires.0.2 _ _ _ _ _ c.before.before.before.before.before.before.before.before.before.before.before.before.before.before.on_Row.ensures.0 c.before.before.before.before.before.before.before.before.before.before.if-pass-ne0.false in
-    let n = ap (λ (n : ℕ). a.index * 2048 + n) c.before.before.before.before.before.before.before.before.lead.ensures in
-    let w = watched_from a.plan a.kinds a.index a.row.now a.table-1.now n c.before.before.before.before.before.before.watch_row-shown.ensures in
+    let k = ran_on _ _ _ _ s.requires.0.2 _ _ _ _ _ c.on_Row.ensures.0 c.if-pass-ne0.false in
+    let n = ap (λ (n : ℕ). a.index * 2048 + n) c.lead.ensures in
+    let w = watched_from a.plan a.kinds a.index a.row.now a.table-1.now n c.watch_row-shown.ensures in
     record {
       went = λ z. record {
         items = k.items;
-        is = row_went _ _ _ _ _ k.items _ _ _ _ k.is c.place_from-2.ensures (w.0 ∙ c.before.before.before.if-shown-ne0.false) w.1;
+        is = row_went _ _ _ _ _ k.items _ _ _ _ k.is c.place_from-2.ensures (w.0 ∙ c.if-shown-ne0.false) w.1;
         sane = k.brought.sound.sane;
         long = k.brought.long;
         wrote = k.brought.wrote;

@@ -4,7 +4,7 @@ use Rattle.stream_groups.proofs.end_feed.Statement.{statement}
 use Rattle.stream_groups.proofs.end_feed.Tie as tie
 
 store_failed-requires : tie.Need-store_failed-requires
-store_failed-requires c κs = let s = c.before.before.before.before.before.before in (s.requires.0, s.requires.2.fault c.before.if-along-ne0.true)
+store_failed-requires c κs = let s = c.before.before.before.before.before.before in (s.requires.0, s.requires.2.fault c.if-along-ne0.true)
 
 answer_at-requires : tie.Need-answer_at-requires
 answer_at-requires c κs = search rules
@@ -15,13 +15,13 @@ shape_of-state-then-along-ne0 c = search rules
 returns-then-along-ne0 : tie.Need-returns-then-along-ne0
 returns-then-along-ne0 c =
     let s = c.before.before.before.before.before.before.before.before.before.before in
-    rw (ne_eqb s.args.along.number 0 c.before.before.before.before.before.if-along-ne0.true) (c.answer_at.ensures, c.before.before.before.store_failed.ensures)
+    rw (ne_eqb s.args.along.number 0 c.if-along-ne0.true) (c.answer_at.ensures, c.store_failed.ensures)
 
 stand_at-stand-requires : tie.Need-stand_at-stand-requires
 stand_at-stand-requires c κs = search rules
 
 store-requires : tie.Need-store-requires
-store-requires c κs = let s = c.before.before.before.before.before.before.before in rw c.before.stand_at-stand.ensures (s.requires.0, s.requires.2.works c.before.before.if-along-ne0.false)
+store-requires c κs = let s = c.before.before.before.before.before.before.before in rw c.stand_at-stand.ensures (s.requires.0, s.requires.2.works c.if-along-ne0.false)
 
 answer_at-requires-2 : tie.Need-answer_at-requires-2
 answer_at-requires-2 c κs = search rules
@@ -32,8 +32,8 @@ shape_of-state c = search rules
 returns : tie.Need-returns
 returns c =
     let s = c.before.before.before.before.before.before.before.before.before.before.before in
-    let e = rw c.before.before.before.before.before.stand_at-stand.ensures at c.before.before.before.store.ensures in
-    rw (eq-eqb s.args.along.number 0 c.before.before.before.before.before.before.if-along-ne0.false) (c.answer_at-2.ensures, e)
+    let e = rw c.stand_at-stand.ensures at c.store.ensures in
+    rw (eq-eqb s.args.along.number 0 c.if-along-ne0.false) (c.answer_at-2.ensures, e)
 
 pub end_feed_spec : {M : Type 1} → statement M
 end_feed_spec =

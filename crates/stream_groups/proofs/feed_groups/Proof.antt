@@ -38,24 +38,24 @@ feed_in-requires c κs =
     let few = c.before.before.before.before.before.before in
     let z = few.before in
     let s = start z in
-    let h = s.pre.fed.work.shape in
+    let h = s.requires.fed.work.shape in
     let p = s.args.stand.plan in
     let w = z.group_words.ensures.0 in (
-      rw z.before.before.notices_at.ensures s.pre,
+      rw z.notices_at.ensures s.requires,
       record { slots_are = refl; dealt = omega (arith, dealt_few p h, w, few.if-group_words-le628.true); built = omega (arith, w, few.if-group_words-le628.true) },
     )
 
 shape_of-state-then-group_words-le628 : tie.Need-shape_of-state-then-group_words-le628
-shape_of-state-then-group_words-le628 c = c.before.before.before.before.before.before.before.before.state-1.given
+shape_of-state-then-group_words-le628 c = c.state-1.given
 
 shape_of-log-then-group_words-le628 : tie.Need-shape_of-log-then-group_words-le628
-shape_of-log-then-group_words-le628 c = c.before.before.before.log-1.given
+shape_of-log-then-group_words-le628 c = c.log-1.given
 
 shape_of-times-then-group_words-le628 : tie.Need-shape_of-times-then-group_words-le628
-shape_of-times-then-group_words-le628 c = c.before.times-1.given
+shape_of-times-then-group_words-le628 c = c.times-1.given
 
 returns-then-group_words-le628 : tie.Need-returns-then-group_words-le628
-returns-then-group_words-le628 c = c.before.before.before.before.before.before.before.before.before.feed_in.ensures
+returns-then-group_words-le628 c = c.feed_in.ensures
 
 slice_bounds-feed_in-end-2 : tie.Need-slice_bounds-feed_in-end-2
 slice_bounds-feed_in-end-2 c = search rules
@@ -70,21 +70,21 @@ feed_in-requires-2 : tie.Need-feed_in-requires-2
 feed_in-requires-2 c κs =
     let z = c.before.before.before.before.before.before.before in
     let s = start z in
-    let h = s.pre.fed.work.shape in
+    let h = s.requires.fed.work.shape in
     let p = s.args.stand.plan in
-    (rw z.before.before.notices_at.ensures s.pre, record { slots_are = refl; dealt = omega (arith, dealt_most p h); built = omega (arith, group_most p h) })
+    (rw z.notices_at.ensures s.requires, record { slots_are = refl; dealt = omega (arith, dealt_most p h); built = omega (arith, group_most p h) })
 
 shape_of-state : tie.Need-shape_of-state
-shape_of-state c = c.before.before.before.before.before.before.before.before.state-2-1.given
+shape_of-state c = c.state-2-1.given
 
 shape_of-log : tie.Need-shape_of-log
-shape_of-log c = c.before.before.before.log-2-1.given
+shape_of-log c = c.log-2-1.given
 
 shape_of-times : tie.Need-shape_of-times
-shape_of-times c = c.before.times-2-1.given
+shape_of-times c = c.times-2-1.given
 
 returns : tie.Need-returns
-returns c = c.before.before.before.before.before.before.before.before.before.feed_in-2.ensures
+returns c = c.feed_in-2.ensures
 
 pub feed_groups_spec : {M : Type 1} → statement M
 feed_groups_spec =

@@ -14,7 +14,7 @@ use Rattle.stream_groups.proofs.feed_in.Tie as tie
 
 -- ---- the places
 
-abbrev filled : (s : tie.Start) → Filled s.args.state-1.now s.args.stand s.args.table-1.now s.args.piece.now (length s.args.log-1.now) (length s.args.times-1.now)
+abbrev filled : (s : tie.Start) → Filled s.args.state.now s.args.stand s.args.table.now s.args.piece.now (length s.args.log.now) (length s.args.times.now)
     s.args.filled
 filled s = s.requires.0
 
@@ -38,12 +38,12 @@ Through = tie.After-through-along
 abbrev sized : Through → Sized
 sized t = t.before.before.before.before.before.before.before.before.before.before
 
-goes : (t : Through) → Goes (start (sized t)).args.stand.plan-1 (kinds_at (start (sized t)).args.state-1.now)
-    (total (start (sized t)).args.state-1.now (start (sized t)).args.stand (start (sized t)).args.table-1.now (start (sized t)).args.piece.now (length (start (sized t)).args.log-1.now)
-    (length (start (sized t)).args.times-1.now) (start (sized t)).args.filled (filled (start (sized t)))) (start_of (start (sized t)).args.stand) t.through-along.result
-    t.through-along.new.1.1.1.1.0 (start (sized t)).args.log-1.now t.through-along.new.1.1.1.1.1.1.1.1.0 (start (sized t)).args.times-1.now
+goes : (t : Through) → Goes (start (sized t)).args.stand.plan-1 (kinds_at (start (sized t)).args.state.now)
+    (total (start (sized t)).args.state.now (start (sized t)).args.stand (start (sized t)).args.table.now (start (sized t)).args.piece.now (length (start (sized t)).args.log.now)
+    (length (start (sized t)).args.times.now) (start (sized t)).args.filled (filled (start (sized t)))) (start_of (start (sized t)).args.stand) t.through-along.result
+    t.through-along.new.1.1.1.1.0 (start (sized t)).args.log.now t.through-along.new.1.1.1.1.1.1.1.1.0 (start (sized t)).args.times.now
     t.through-along.new.1.1.1.1.1.1.1.1.1.0
-goes t = rw t.before.before.before.before.before.before.before.kinds_at-kinds.ensures at t.through-along.ensures
+goes t = rw t.kinds_at-kinds.ensures at t.through-along.ensures
 
 tail : (t : Through) → take (length (start (sized t)).args.piece.now - ((start (sized t)).args.filled * (3 * (sized t).group_words.result) - (start (sized t)).args.stand.waiting))
     (drop ((start (sized t)).args.filled * (3 * (sized t).group_words.result) - (start (sized t)).args.stand.waiting) (start (sized t)).args.piece.now)
@@ -89,37 +89,37 @@ end_feed-requires c κs =
     let s = start (sized t) in
     let a = s.args in
     let F = filled s in
-    rw t.before.before.before.before.before.before.before.kinds_at-kinds.ensures (
-      c.before.before.before.before.before.before.before.before.before.before.before.before.before.before.state-1.given ∙ F.fed.work.long,
+    rw t.kinds_at-kinds.ensures (
+      c.state-1.given ∙ F.fed.work.long,
       (goes t).bits,
       stores a.state-1.now a.stand a.table-1.now a.piece.now _ _ a.filled F refl refl (goes t) _ (tail t),
     )
 
 shape_of-state : tie.Need-shape_of-state
-shape_of-state c = let t = c.before in t.state-2-1.given ∙ t.before.before.before.before.before.before.before.before.before.before.before.before.before.before.before.before.state-1.given
+shape_of-state c = let t = c.before in t.state-2-1.given ∙ t.state-1.given
 
 shape_of-table : tie.Need-shape_of-table
-shape_of-table c = c.before.before.before.before.before.before.before.before.before.before.before.before.before.before.before.table-1.given
+shape_of-table c = c.table-1.given
 
 shape_of-row : tie.Need-shape_of-row
-shape_of-row c = c.before.before.before.before.before.before.before.before.before.before.before.before.before.row-1.given
+shape_of-row c = c.row-1.given
 
 shape_of-out : tie.Need-shape_of-out
-shape_of-out c = c.before.before.before.before.before.before.before.before.before.before.before.out-1.given
+shape_of-out c = c.out-1.given
 
 shape_of-log : tie.Need-shape_of-log
-shape_of-log c = c.before.before.before.before.before.before.before.before.before.log-1.given
+shape_of-log c = c.log-1.given
 
 shape_of-times : tie.Need-shape_of-times
-shape_of-times c = c.before.before.before.before.before.before.before.times-1.given
+shape_of-times c = c.times-1.given
 
 returns : tie.Need-returns
 returns c =
     let t = c.before.before.before.before.before.before.before.before.before.before.before.before.before.before.before.before.before.before in
     let s = start (sized t) in
     let a = s.args in
-    let e = rw t.before.before.before.before.before.before.before.kinds_at-kinds.ensures at c.before.before.end_feed.ensures.1 in
-    ends-given a.state-1.now a.stand a.table-1.now a.piece.now _ _ a.filled (filled s) refl refl (goes t) _ (tail t) _ _ c.before.before.end_feed.ensures.0 e
+    let e = rw t.kinds_at-kinds.ensures at c.end_feed.ensures.1 in
+    ends-given a.state-1.now a.stand a.table-1.now a.piece.now _ _ a.filled (filled s) refl refl (goes t) _ (tail t) _ _ c.end_feed.ensures.0 e
 
 pub feed_in_spec : {M : Type 1} → statement M
 feed_in_spec =

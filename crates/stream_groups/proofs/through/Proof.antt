@@ -22,33 +22,33 @@ Whole = tie.After-complete
 abbrev start : Whole → tie.Start
 start k = k.before.before.before.before.before.before.before.before.before.before.before.before
 
-abbrev filled : (s : tie.Start) → Filled s.args.state-1.now s.args.stand s.args.table-1.now s.args.piece.now (length s.args.log-1.now) (length s.args.times-1.now)
+abbrev filled : (s : tie.Start) → Filled s.args.state.now s.args.stand s.args.table.now s.args.piece.now (length s.args.log.now) (length s.args.times.now)
     s.args.filled
 filled s = s.requires.0
 
 abbrev size : Whole → ℕ
-size k = 3 * k.before.before.before.group_words-size.result
+size k = 3 * k.group_words-size.result
 
 abbrev front : Whole → ℕ
 front k = size k - (start k).args.stand.waiting
 
 sized : (k : Whole) → size k ≡ group_size (start k).args.stand.plan-1
-sized k = ap (λ (n : ℕ). 3 * n) k.before.before.before.group_words-size.ensures.0
+sized k = ap (λ (n : ℕ). 3 * n) k.group_words-size.ensures.0
 
 fronted : (k : Whole) → front k + (start k).args.stand.waiting ≡ group_size (start k).args.stand.plan-1
 fronted k = omega (arith, sized k, (filled (start k)).fed.work.part)
 
 in_piece : (k : Whole) → front k ≤ length (start k).args.piece.now
-in_piece k = let s = start k in let a = s.args in front-in a.state-1.now a.stand a.table-1.now a.piece.now _ _ a.filled (filled s) a.kinds s.pre.1 (front k) (fronted k)
+in_piece k = let s = start k in let a = s.args in front-in a.state-1.now a.stand a.table-1.now a.piece.now _ _ a.filled (filled s) a.kinds s.requires.1 (front k) (fronted k)
 
-in_state : (k : Whole) → 1024 + size k ≤ length (start k).args.state-1.now
+in_state : (k : Whole) → 1024 + size k ≤ length (start k).args.state.now
 in_state k = let w = (filled (start k)).fed.work in omega (arith, w.long, sized k, group_most (start k).args.stand.plan-1 w.shape)
 
 -- its bytes
 abbrev group : Whole → List ℕ
 group k = take (1024 + size k - 1024) (drop 1024 k.complete.last.0)
 
-group_is : (k : Whole) → group k ≡ take (start k).args.stand.waiting (drop 1024 (start k).args.state-1.now) ++ take (front k) (start k).args.piece.now
+group_is : (k : Whole) → group k ≡ take (start k).args.stand.waiting (drop 1024 (start k).args.state.now) ++ take (front k) (start k).args.piece.now
 group_is k =
     let a = (start k).args in
     first_group a.state-1.now a.piece.now k.complete.new.0 a.stand.waiting (front k) (size k) (fronted k ∙ sym (sized k)) (in_state k) (in_piece k) k.complete.ensures
@@ -56,11 +56,11 @@ group_is k =
 abbrev flow : Whole → Flow
 flow k = let a = (start k).args in feed_bytes (working (work_of a.stand.plan-1 a.kinds (start_of a.stand) a.table-1.now)) (group k)
 
-flows : (k : Whole) → flow k ≡ feed_bytes (working (work_in (start k).args.state-1.now (start k).args.stand)) (take (front k) (start k).args.piece.now)
+flows : (k : Whole) → flow k ≡ feed_bytes (working (work_in (start k).args.state.now (start k).args.stand)) (take (front k) (start k).args.piece.now)
 flows k =
     let s = start k in
     let a = s.args in
-    one-is a.state-1.now a.stand a.table-1.now a.piece.now _ _ a.filled (filled s) a.kinds s.pre.1 (front k) (fronted k) (group k) (group_is k)
+    one-is a.state-1.now a.stand a.table-1.now a.piece.now _ _ a.filled (filled s) a.kinds s.requires.1 (front k) (fronted k) (group k) (group_is k)
 
 -- and taken
 abbrev First : Type 0
@@ -70,9 +70,9 @@ abbrev whole : First → Whole
 whole o = o.before.before.before.before.before.before.before.before.before.before.before.before
 
 goes : (o : First) → Goes (start (whole o)).args.stand.plan-1 (start (whole o)).args.kinds (flow (whole o)) (start_of (start (whole o)).args.stand) o.on_group-first.result
-    o.on_group-first.new.1.1.1.1.1.0 (start (whole o)).args.log-1.now o.on_group-first.new.1.1.1.1.1.1.1.1.0 (start (whole o)).args.times-1.now
+    o.on_group-first.new.1.1.1.1.1.0 (start (whole o)).args.log.now o.on_group-first.new.1.1.1.1.1.1.1.1.0 (start (whole o)).args.times.now
     o.on_group-first.new.1.1.1.1.1.1.1.1.1.0
-goes o = rw o.before.before.before.before.before.before.before.before.start_along-start.ensures at o.on_group-first.ensures
+goes o = rw o.start_along-start.ensures at o.on_group-first.ensures
 
 -- and the others
 abbrev Others : Type 0
@@ -96,11 +96,11 @@ complete-requires : tie.Need-complete-requires
 complete-requires c κs =
     let s = c.before.before.before.before.before.before.before.before.before.before.before in
     let w = (filled s).fed.work in
-    let z : 3 * c.before.before.group_words-size.result ≡ group_size s.args.stand.plan-1 = ap (λ (n : ℕ). 3 * n) c.before.before.group_words-size.ensures.0 in
-    let f : 3 * c.before.before.group_words-size.result - s.args.stand.waiting + s.args.stand.waiting ≡ group_size s.args.stand.plan-1 = omega (arith, z, w.part) in (
+    let z : 3 * c.group_words-size.result ≡ group_size s.args.stand.plan-1 = ap (λ (n : ℕ). 3 * n) c.group_words-size.ensures.0 in
+    let f : 3 * c.group_words-size.result - s.args.stand.waiting + s.args.stand.waiting ≡ group_size s.args.stand.plan-1 = omega (arith, z, w.part) in (
       w.long,
       omega (arith, f, group_most s.args.stand.plan-1 w.shape),
-      front-in s.args.state-1.now s.args.stand s.args.table-1.now s.args.piece.now _ _ s.args.filled (filled s) s.args.kinds s.requires.1 _ f,
+      front-in s.args.state.now s.args.stand s.args.table.now s.args.piece.now _ _ s.args.filled (filled s) s.args.kinds s.requires.1 _ f,
     )
 
 slots-count-requires : tie.Need-slots-count-requires
@@ -119,24 +119,24 @@ slice_bounds-on_group-start : tie.Need-slice_bounds-on_group-start
 slice_bounds-on_group-start c = search rules
 
 slice_bounds-on_group-end : tie.Need-slice_bounds-on_group-end
-slice_bounds-on_group-end c = omega (arith, in_state c.before.before.before.before.before, c.before.before.before.before.state-1.given)
+slice_bounds-on_group-end c = omega (arith, in_state c.before.before.before.before.before, c.state-1.given)
 
 on_group-first-requires : tie.Need-on_group-first-requires
 on_group-first-requires c κs =
     let k = c.before.before.before.before.before.before.before.before.before.before.before in
     let s = start k in
     let a = s.args in
-    let r = s.pre.2 in
-    let t = c.before.before.before.before.before.before.before.start_along-start.ensures in
+    let r = s.requires.2 in
+    let t = c.start_along-start.ensures in
     rw t (
       (
-        first-ready a.state-1.now a.stand a.table-1.now a.piece.now _ _ a.filled (filled s) a.kinds s.pre.1 (front k) (fronted k),
+        first-ready a.state-1.now a.stand a.table-1.now a.piece.now _ _ a.filled (filled s) a.kinds s.requires.1 (front k) (fronted k),
         refl,
-        record { slots_are = c.before.before.before.before.before.before.before.before.slots-count.ensures.0; dealt = r.dealt; built = r.built },
+        record { slots_are = c.slots-count.ensures.0; dealt = r.dealt; built = r.built },
         first_long a.state-1.now a.piece.now (group k) a.stand.waiting (front k) (size k) (fronted k ∙ sym (sized k)) (in_state k) (in_piece k) (group_is k) ∙ sized k,
-        first_small a.state-1.now a.stand a.table-1.now a.piece.now _ _ a.filled (filled s) a.kinds s.pre.1 (front k) (fronted k),
+        first_small a.state-1.now a.stand a.table-1.now a.piece.now _ _ a.filled (filled s) a.kinds s.requires.1 (front k) (fronted k),
       ),
-      first-takes a.state-1.now a.stand a.table-1.now a.piece.now _ _ a.filled (filled s) a.kinds s.pre.1 (front k) (fronted k) (flow k) (flows k) a.log-1.now
+      first-takes a.state-1.now a.stand a.table-1.now a.piece.now _ _ a.filled (filled s) a.kinds s.requires.1 (front k) (fronted k) (flow k) (flows k) a.log-1.now
           a.times-1.now refl refl,
     )
 
@@ -149,48 +149,48 @@ on_piece-requires c κs =
     let k = whole o in
     let s = start k in
     let a = s.args in
-    let r = s.pre.2 in
+    let r = s.requires.2 in
     let b : List ℕ = a.state-1.now in
     let F = filled s in (
       (
         F.fed.work.shape,
-        next-ready b a.stand a.table-1.now a.piece.now _ _ a.filled F a.kinds s.pre.1 (front k) (fronted k) (flow k) (flows k) a.log-1.now a.times-1.now refl refl (goes o),
+        next-ready b a.stand a.table-1.now a.piece.now _ _ a.filled F a.kinds s.requires.1 (front k) (fronted k) (flow k) (flows k) a.log-1.now a.times-1.now refl refl (goes o),
         record {
-          slots_are = o.before.before.before.before.before.before.before.before.before.slots-count.ensures.0;
+          slots_are = o.slots-count.ensures.0;
           dealt = omega
-              (arith, r.dealt, c.before.before.before.before.before.before.before.before.before.before.before.before.row-1.given);
+              (arith, r.dealt, c.row-1.given);
           built = omega
-              (arith, r.built, c.before.before.before.before.before.before.before.before.before.before.out-1.given);
+              (arith, r.built, c.out-1.given);
         },
-        others-in b a.stand a.table-1.now a.piece.now _ _ a.filled F a.kinds s.pre.1 (front k) (fronted k),
+        others-in b a.stand a.table-1.now a.piece.now _ _ a.filled F a.kinds s.requires.1 (front k) (fronted k),
         F.fed.short,
       ),
       (
-        next-count b a.stand a.table-1.now a.piece.now _ _ a.filled F a.kinds s.pre.1 (front k) (fronted k) (flow k) (flows k) a.log-1.now a.times-1.now refl refl (goes o),
-        next-takes b a.stand a.table-1.now a.piece.now _ _ a.filled F a.kinds s.pre.1 (front k) (fronted k) (flow k) (flows k) a.log-1.now a.times-1.now refl refl (goes o)
-            c.before.before.before.before.before.before.before.before.log-1.given c.before.before.before.before.before.before.times-1.given,
+        next-count b a.stand a.table-1.now a.piece.now _ _ a.filled F a.kinds s.requires.1 (front k) (fronted k) (flow k) (flows k) a.log-1.now a.times-1.now refl refl (goes o),
+        next-takes b a.stand a.table-1.now a.piece.now _ _ a.filled F a.kinds s.requires.1 (front k) (fronted k) (flow k) (flows k) a.log-1.now a.times-1.now refl refl (goes o)
+            c.log-1.given c.times-1.given,
       ),
     )
 
 shape_of-state : tie.Need-shape_of-state
 shape_of-state c = let e = c.before.before.before.before.before.before.before.before.before.before in (first
-    e).before.before.before.before.before.before.before.before.before.before.before.state-1.given
+    e).state-1.given
 
 shape_of-table : tie.Need-shape_of-table
 shape_of-table c = let t = c.before.before.before.before.before.before.before.before.before in t.table-2-1.given
-    ∙ t.before.before.before.before.before.before.before.before.before.before.before.before.before.before.before.before.table-1.given
+    ∙ t.table-1.given
 
 shape_of-row : tie.Need-shape_of-row
-shape_of-row c = let t = c.before.before.before.before.before.before.before in t.row-2-1.given ∙ t.before.before.before.before.before.before.before.before.before.before.before.before.before.before.before.before.row-1.given
+shape_of-row c = let t = c.before.before.before.before.before.before.before in t.row-2-1.given ∙ t.row-1.given
 
 shape_of-out : tie.Need-shape_of-out
-shape_of-out c = let t = c.before.before.before.before.before in t.out-2-1.given ∙ t.before.before.before.before.before.before.before.before.before.before.before.before.before.before.before.before.out-1.given
+shape_of-out c = let t = c.before.before.before.before.before in t.out-2-1.given ∙ t.out-1.given
 
 shape_of-log : tie.Need-shape_of-log
-shape_of-log c = let t = c.before.before.before in t.log-2-1.given ∙ t.before.before.before.before.before.before.before.before.before.before.before.before.before.before.before.before.log-1.given
+shape_of-log c = let t = c.before.before.before in t.log-2-1.given ∙ t.log-1.given
 
 shape_of-times : tie.Need-shape_of-times
-shape_of-times c = let t = c.before in t.times-2-1.given ∙ t.before.before.before.before.before.before.before.before.before.before.before.before.before.before.before.before.times-1.given
+shape_of-times c = let t = c.before in t.times-2-1.given ∙ t.times-1.given
 
 returns : tie.Need-returns
 returns c =
@@ -198,8 +198,8 @@ returns c =
     let k = whole o in
     let s = start k in
     let a = s.args in
-    through-goes a.state-1.now a.stand a.table-1.now a.piece.now _ _ a.filled (filled s) a.kinds s.pre.1 (front k) (fronted k) (flow k) (flows k) a.log-1.now
-    a.times-1.now refl refl (goes o) c.before.before.before.before.before.before.before.before.before.before.on_piece.ensures
+    through-goes a.state-1.now a.stand a.table-1.now a.piece.now _ _ a.filled (filled s) a.kinds s.requires.1 (front k) (fronted k) (flow k) (flows k) a.log-1.now
+    a.times-1.now refl refl (goes o) c.on_piece.ensures
 
 pub through_spec : {M : Type 1} → statement M
 through_spec =

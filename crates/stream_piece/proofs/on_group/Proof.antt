@@ -35,35 +35,35 @@ brought s = let a = s.args in take_group a.plan a.kinds a.group.now a.along.grou
 abbrev flow : tie.Start → Flow
 flow s = let a = s.args in feed_bytes (working (work_of a.plan a.kinds a.along a.table-1.now)) a.group.now
 
-grants : (s : tie.Start) → Grants s.args.plan s.args.kinds s.args.along.groups s.args.table-1.now
+grants : (s : tie.Start) → Grants s.args.plan s.args.kinds s.args.along.groups s.args.table.now
 grants s = let a = s.args in ready_grants a.plan a.kinds a.along a.table-1.now s.requires.0.0 s.requires.0.1
 
-flows : (s : tie.Start) → flow s ≡ taken (work_of s.args.plan s.args.kinds s.args.along s.args.table-1.now) s.args.group.now (brought s)
+flows : (s : tie.Start) → flow s ≡ taken (work_of s.args.plan s.args.kinds s.args.along s.args.table.now) s.args.group.now (brought s)
 flows s = let a = s.args in group_flow (work_of a.plan a.kinds a.along a.table-1.now) a.group.now (grants s).shape refl s.requires.0.3
 
 -- it is taken
-went : (c : Taken) → (took c).number ≡ 0 → Went (brought (start c)) (start c).args.along.pen (start c).args.out-1.now (took c) c.take_group-took.new.1.1.1.1.1.1.1.1.0
+went : (c : Taken) → (took c).number ≡ 0 → Went (brought (start c)) (start c).args.along.pen (start c).args.out.now (took c) c.take_group-took.new.1.1.1.1.1.1.1.1.0
     c.take_group-took.new.1.1.1.1.1.1.1.1.1.1.0
 went c z = c.take_group-took.ensures.went z
 
 -- and its log has room
 record Room (s : tie.Start) (k : Took) (out : List ℕ) : Type 0 where
   built : k.pen.bits / 8 + 7 ≤ length out
-  bytes : s.args.along.bytes + k.pen.bits / 8 ≤ length s.args.log-1.now
-  entries : s.args.along.times-1 + times_needed s.args.plan 1 ≤ length s.args.times-1.now
+  bytes : s.args.along.bytes + k.pen.bits / 8 ≤ length s.args.log.now
+  entries : s.args.along.times-1 + times_needed s.args.plan 1 ≤ length s.args.times.now
 
 room : (c : Taken) → (took c).number ≡ 0 → Room (start c) (took c) c.take_group-took.new.1.1.1.1.1.1.1.1.1.1.0
 room c z =
     let s = start c in
     let a = s.args in
     let w = went c z in
-    let x = w.wrote _ (bits_written a.out-1.now a.along.pen s.pre.0.0.bits) in
+    let x = w.wrote _ (bits_written a.out-1.now a.along.pen s.requires.0.0.bits) in
     let n = went-bytes a.plan a.kinds a.along a.table-1.now a.group.now (flow s) (brought s) (flows s) (took c) _ _ w.items w.is x in
     let m = went-times a.plan a.kinds a.along a.table-1.now a.group.now (flow s) (brought s) (flows s) (took c) _ _ w.items w.is x in
     record {
-      built = omega (arith, n, w.long, built_room a.plan a.kinds a.along a.table-1.now a.group.now a.out-1.now s.pre.0.0.bits s.pre.0.3 s.pre.0.2.built);
-      bytes = omega (arith, n, s.pre.1.bytes);
-      entries = omega (arith, m, s.pre.1.entries);
+      built = omega (arith, n, w.long, built_room a.plan a.kinds a.along a.table-1.now a.group.now a.out-1.now s.requires.0.0.bits s.requires.0.3 s.requires.0.2.built);
+      bytes = omega (arith, n, s.requires.1.bytes);
+      entries = omega (arith, m, s.requires.1.entries);
     }
 
 -- ---- the needs
@@ -92,16 +92,16 @@ returns-then-took-ne0 c =
     let t = c.before.before.before.before.before.before.before.before.before in
     let s = start t in
     let a = s.args in
-    let z = c.before.if-took-ne0.true in
+    let z = c.if-took-ne0.true in
     stopped_goes a.plan a.kinds a.along a.table-1.now a.group.now (flow s) (brought s) (flows s) (took t) _ _ _ c.stopped.ensures (t.take_group-took.ensures.stopped z) z
-    s.pre.0.0.sane s.pre.0.0.bits
+    s.requires.0.0.sane s.requires.0.0.bits
 
 put_group-requires : tie.Need-put_group-requires
 put_group-requires c κs =
     let t = c.before.before.before.before.before.before.before.before.before.before.before in
     let s = start t in
-    let x = room t c.before.before.before.if-took-ne0.false in
-    (((grants s).shape, s.pre.0.3, groups_low s.args.plan (grants s).shape s.args.along.groups s.pre.0.4, omega (arith, x.built)), (x.bytes, x.entries))
+    let x = room t c.if-took-ne0.false in
+    (((grants s).shape, s.requires.0.3, groups_low s.args.plan (grants s).shape s.args.along.groups s.requires.0.4, omega (arith, x.built)), (x.bytes, x.entries))
 
 shape_of-table : tie.Need-shape_of-table
 shape_of-table c = search rules
@@ -124,10 +124,10 @@ returns c =
     let t = k.before.before.before.before.before.before.before.before.before.before.before.before in
     let s = start t in
     let a = s.args in
-    let z = k.before.before.before.before.if-took-ne0.false in
+    let z = k.if-took-ne0.false in
     let w = went t z in
     went-goes a.plan a.kinds a.along a.table-1.now a.group.now (flow s) (brought s) (flows s) (took t) _ _ w.items w.is
-    (w.wrote _ (bits_written a.out-1.now a.along.pen s.pre.0.0.bits)) _ _ _ _
+    (w.wrote _ (bits_written a.out-1.now a.along.pen s.requires.0.0.bits)) _ _ _ _
     k.put_group.ensures.0 w.sane (room t z).built k.put_group.ensures.1 k.put_group.ensures.2
 
 pub on_group_spec : {M : Type 1} → statement M

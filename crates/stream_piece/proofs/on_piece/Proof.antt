@@ -50,33 +50,33 @@ abbrev start : Here → Start
 start c = c.before.before.before.before.before.before.before.before.before.before.before
 
 abbrev index : Here → ℕ
-index c = c.before.before.before.loop-index.index
+index c = c.loop-index.index
 
 abbrev at : Here → tie.At-loop-index invariant-loop-index decreases-loop-index
 at c = c.before.before.before
 
 more : (c : Here) → index c < (start c).args.groups
-more c = c.before.before.loop-index-test.true
+more c = c.loop-index-test.true
 
-sized : (c : Here) → 3 * c.before.before.before.before.group_words-size.result ≡ group_size (start c).args.plan
-sized c = ap (λ (n : ℕ). 3 * n) c.before.before.before.before.group_words-size.ensures.0
+sized : (c : Here) → 3 * c.group_words-size.result ≡ group_size (start c).args.plan
+sized c = ap (λ (n : ℕ). 3 * n) c.group_words-size.ensures.0
 
 -- the groups behind `first` are in the piece
 all_in : (s : Start) → s.args.groups * group_size s.args.plan ≤ length (drop s.args.first s.args.piece.now)
 all_in s = rw (length-drop s.args.first s.args.piece.now) (omega (arith, s.requires.0.3))
 
 -- so is this one
-in_piece : (c : Here) → (start c).args.first + index c * (3 * c.before.before.before.before.group_words-size.result) + 3 * c.before.before.before.before.group_words-size.result ≤ length
+in_piece : (c : Here) → (start c).args.first + index c * (3 * c.group_words-size.result) + 3 * c.group_words-size.result ≤ length
     (start c).args.piece.now
 in_piece c =
     let s = start c in
     let k : index c + 1 ≤ s.args.groups = omega (arith, more c) in
-    rw (sized c) (omega (arith, s.pre.0.3, mul-le-mul_right (group_size s.args.plan) k))
+    rw (sized c) (omega (arith, s.requires.0.3, mul-le-mul_right (group_size s.args.plan) k))
 
 -- ---- the needs
 
 group_words-size-requires : tie.Need-group_words-size-requires invariant-loop-index decreases-loop-index
-group_words-size-requires c κs = c.before.before.before.before.before.before.requires.0.0
+group_words-size-requires c κs = c.requires.0.0
 
 overflow_mul-size : tie.Need-overflow_mul-size invariant-loop-index decreases-loop-index
 overflow_mul-size c = omega (arith, c.group_words-size.ensures.1)
@@ -98,34 +98,34 @@ loop-index-init c =
     }
 
 shape_of-table-then-along-ne0 : tie.Need-shape_of-table-then-along-ne0 invariant-loop-index decreases-loop-index
-shape_of-table-then-along-ne0 c = c.before.before.before.loop-index.invariant.same_table
+shape_of-table-then-along-ne0 c = c.loop-index.invariant.same_table
 
 shape_of-row-then-along-ne0 : tie.Need-shape_of-row-then-along-ne0 invariant-loop-index decreases-loop-index
-shape_of-row-then-along-ne0 c = c.before.before.before.loop-index.invariant.same_row
+shape_of-row-then-along-ne0 c = c.loop-index.invariant.same_row
 
 shape_of-out-then-along-ne0 : tie.Need-shape_of-out-then-along-ne0 invariant-loop-index decreases-loop-index
-shape_of-out-then-along-ne0 c = c.before.before.before.loop-index.invariant.same_out
+shape_of-out-then-along-ne0 c = c.loop-index.invariant.same_out
 
 shape_of-log-then-along-ne0 : tie.Need-shape_of-log-then-along-ne0 invariant-loop-index decreases-loop-index
-shape_of-log-then-along-ne0 c = c.before.before.before.loop-index.invariant.same_log
+shape_of-log-then-along-ne0 c = c.loop-index.invariant.same_log
 
 shape_of-times-then-along-ne0 : tie.Need-shape_of-times-then-along-ne0 invariant-loop-index decreases-loop-index
-shape_of-times-then-along-ne0 c = c.before.before.before.loop-index.invariant.same_times
+shape_of-times-then-along-ne0 c = c.loop-index.invariant.same_times
 
 returns-then-along-ne0 : tie.Need-returns-then-along-ne0 invariant-loop-index decreases-loop-index
 returns-then-along-ne0 c =
-    let a = c.before.before.before.before.before.before.before.before.before.before.before.args in
-    let o = c.before.before.before.loop-index in
+    let a = c.args in
+    let o = c.loop-index in
     turn-stops a.plan a.kinds a.start a.table-1.now (drop a.first a.piece.now) a.groups o.index o.invariant.goes o.invariant.few c.if-along-ne0.true
 
 overflow_mul-begin : tie.Need-overflow_mul-begin invariant-loop-index decreases-loop-index
-overflow_mul-begin c = let s = start c in omega (arith, in_piece c, s.pre.0.4)
+overflow_mul-begin c = let s = start c in omega (arith, in_piece c, s.requires.0.4)
 
 overflow_add-begin : tie.Need-overflow_add-begin invariant-loop-index decreases-loop-index
-overflow_add-begin c = let s = start c in omega (arith, in_piece c, s.pre.0.4)
+overflow_add-begin c = let s = start c in omega (arith, in_piece c, s.requires.0.4)
 
 overflow_add-end : tie.Need-overflow_add-end invariant-loop-index decreases-loop-index
-overflow_add-end c = let s = start c in omega (arith, in_piece c, s.pre.0.4)
+overflow_add-end c = let s = start c in omega (arith, in_piece c, s.requires.0.4)
 
 slice_bounds-on_group-count : tie.Need-slice_bounds-on_group-count invariant-loop-index decreases-loop-index
 slice_bounds-on_group-count c = omega arith
@@ -145,15 +145,15 @@ on_group-along-requires c κs =
     let D : List ℕ = drop a.first a.piece.now in
     let z = h.if-along-ne0.false in
     let v = part_is a.piece.now a.first (index h) (group_size a.plan) (sized h) in
-    let r = s.pre.0.2 in (
+    let r = s.requires.0.2 in (
       (
-        turn-ready a.plan a.kinds a.start a.table-1.now D a.groups (index h) g s.pre.0.1.fit s.pre.1.0 (at h).loop-index.invariant.few (all_in s),
+        turn-ready a.plan a.kinds a.start a.table-1.now D a.groups (index h) g s.requires.0.1.fit s.requires.1.0 (at h).loop-index.invariant.few (all_in s),
         z,
         record { slots_are = r.slots_are; dealt = omega (arith, r.dealt, (at h).loop-index.invariant.same_row); built = omega (arith, r.built, (at h).loop-index.invariant.same_out) },
-        ap (λ (u : List ℕ). length u) v ∙ part_long a.piece.now a.first (index h) a.groups (group_size a.plan) (more h) s.pre.0.3,
-        turn_small a.plan a.kinds a.start a.table-1.now D a.groups (index h) g s.pre.1.0 (more h) (all_in s) z,
+        ap (λ (u : List ℕ). length u) v ∙ part_long a.piece.now a.first (index h) a.groups (group_size a.plan) (more h) s.requires.0.3,
+        turn_small a.plan a.kinds a.start a.table-1.now D a.groups (index h) g s.requires.1.0 (more h) (all_in s) z,
       ),
-      turn-takes a.plan a.kinds a.start a.table-1.now D a.groups (index h) g _ v z (more h) s.pre.1.1 (at h).loop-index.invariant.same_log (at h).loop-index.invariant.same_times,
+      turn-takes a.plan a.kinds a.start a.table-1.now D a.groups (index h) g _ v z (more h) s.requires.1.1 (at h).loop-index.invariant.same_log (at h).loop-index.invariant.same_times,
     )
 
 overflow_add-index : tie.Need-overflow_add-index invariant-loop-index decreases-loop-index
@@ -172,34 +172,34 @@ loop-index-preserved c =
     let v = part_is a.piece.now a.first (index h) (group_size a.plan) (sized h) in
     record {
       few = omega (arith, more h);
-      goes = turn-goes a.plan a.kinds a.start a.table-1.now (drop a.first a.piece.now) a.groups (index h) t.goes _ v h.if-along-ne0.false (more h) s.pre.1.1
-          c.before.before.before.before.before.before.before.before.before.before.on_group-along.ensures;
-      same_table = c.before.before.before.before.before.before.before.before.before.table-1.given ∙ t.same_table;
-      same_row_lem = c.before.before.before.before.before.before.before.row-1.given ∙ t.same_row;
-      same_out = c.before.before.before.before.before.out-1.given ∙ t.same_out;
-      same_log = c.before.before.before.log-1.given ∙ t.same_log;
-      same_times = c.before.times-1.given ∙ t.same_times;
+      goes = turn-goes a.plan a.kinds a.start a.table-1.now (drop a.first a.piece.now) a.groups (index h) t.goes _ v h.if-along-ne0.false (more h) s.requires.1.1
+          c.on_group-along.ensures;
+      same_table = c.table-1.given ∙ t.same_table;
+      same_row_lem = c.row-1.given ∙ t.same_row;
+      same_out = c.out-1.given ∙ t.same_out;
+      same_log = c.log-1.given ∙ t.same_log;
+      same_times = c.times-1.given ∙ t.same_times;
     }
 
 shape_of-table : tie.Need-shape_of-table invariant-loop-index decreases-loop-index
-shape_of-table c = c.before.loop-index.invariant.same_table
+shape_of-table c = c.loop-index.invariant.same_table
 
 shape_of-row : tie.Need-shape_of-row invariant-loop-index decreases-loop-index
-shape_of-row c = c.before.loop-index.invariant.same_row
+shape_of-row c = c.loop-index.invariant.same_row
 
 shape_of-out : tie.Need-shape_of-out invariant-loop-index decreases-loop-index
-shape_of-out c = c.before.loop-index.invariant.same_out
+shape_of-out c = c.loop-index.invariant.same_out
 
 shape_of-log : tie.Need-shape_of-log invariant-loop-index decreases-loop-index
-shape_of-log c = c.before.loop-index.invariant.same_log
+shape_of-log c = c.loop-index.invariant.same_log
 
 shape_of-times : tie.Need-shape_of-times invariant-loop-index decreases-loop-index
-shape_of-times c = c.before.loop-index.invariant.same_times
+shape_of-times c = c.loop-index.invariant.same_times
 
 returns : tie.Need-returns invariant-loop-index decreases-loop-index
 returns c =
-    let a = c.before.before.before.before.before.before.before.before.before.args in
-    let o = c.before.loop-index in
+    let a = c.args in
+    let o = c.loop-index in
     let e : o.index ≡ a.groups = omega (arith, o.invariant.few, c.loop-index-test.false) in
     rw (← e) o.invariant.goes
 

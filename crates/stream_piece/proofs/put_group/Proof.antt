@@ -43,7 +43,7 @@ returns c =
     let k = t.before.before.before.before in
     let s = k.before.before.before.before.before.before.before in (
       ap (λ (n : ℕ). ahead_of s.args.along s.args.took n) t.put_time-entries.ensures.0,
-      copy_laid s.args.out.now s.args.along.bytes (s.args.took.pen.bits / 8) s.args.log-1.now _ s.requires.0.3 s.requires.1.0 k.copy.ensures,
+      copy_laid s.args.out.now s.args.along.bytes (s.args.took.pen.bits / 8) s.args.log.now _ s.requires.0.3 s.requires.1.0 k.copy.ensures,
       t.put_time-entries.ensures.1,
     )
 

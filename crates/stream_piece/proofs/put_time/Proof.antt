@@ -19,7 +19,7 @@ offset_bounds-times-at : tie.Need-offset_bounds-times-at
 offset_bounds-times-at c = search rules
 
 bounds-times-at : tie.Need-bounds-times-at
-bounds-times-at c = let s = start c in omega (arith, s.pre.2, needs_one s.args.plan c.before.if-plan.true)
+bounds-times-at c = let s = start c in omega (arith, s.requires.2, needs_one s.args.plan c.if-plan.true)
 
 overflow_add-result : tie.Need-overflow_add-result
 overflow_add-result c = search rules
@@ -30,10 +30,10 @@ shape_of-times-then-plan c = search rules
 returns-then-plan : tie.Need-returns-then-plan
 returns-then-plan c =
     let s = start c in
-    let e = c.before.if-plan.true in (
+    let e = c.if-plan.true in (
       ap (λ (n : ℕ). s.args.at + n) (sym (needs_one s.args.plan e)),
       time_laid _ s.args.at _ _ s.args.times.now e c.group_time.ensures
-          (omega (arith, s.pre.2, needs_one s.args.plan e)),
+          (omega (arith, s.requires.2, needs_one s.args.plan e)),
     )
 
 returns : tie.Need-returns

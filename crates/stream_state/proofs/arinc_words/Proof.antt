@@ -34,13 +34,13 @@ word-second-requires : tie.Need-word-second-requires
 word-second-requires c κs = search rules
 
 returns-then-stage-eq7 : tie.Need-returns-then-stage-eq7
-returns-then-stage-eq7 c = rw (c.before.before.word-first.ensures, c.before.word-second.ensures, c.if-stage-eq7.true)
+returns-then-stage-eq7 c = rw (c.word-first.ensures, c.word-second.ensures, c.if-stage-eq7.true)
 
 word-high-requires : tie.Need-word-high-requires
 word-high-requires c κs = search rules
 
 returns-then-stage-eq6 : tie.Need-returns-then-stage-eq6
-returns-then-stage-eq6 c = rw (c.before.before.before.before.word-first.ensures, c.before.before.before.word-second.ensures, c.word-high.ensures, c.before.if-stage-eq6.true)
+returns-then-stage-eq6 c = rw (c.word-first.ensures, c.word-second.ensures, c.word-high.ensures, c.if-stage-eq6.true)
 
 word-high-requires-2 : tie.Need-word-high-requires-2
 word-high-requires-2 c κs = search rules
@@ -51,7 +51,7 @@ word-low-requires c κs = search rules
 returns : tie.Need-returns
 returns c = let two = c.before.before.before.before in
     let left = c.before.before in
-    rw (two.before.word-first.ensures, two.word-second.ensures, c.before.word-high-2.ensures, c.word-low.ensures, ne_eqb _ _ left.before.if-stage-eq7.false, ne_eqb _ _ left.if-stage-eq6.false)
+    rw (two.word-first.ensures, two.word-second.ensures, c.word-high-2.ensures, c.word-low.ensures, ne_eqb _ _ left.if-stage-eq7.false, ne_eqb _ _ left.if-stage-eq6.false)
 
 pub arinc_words_spec : {M : Type 1} → statement M
 arinc_words_spec =

@@ -15,7 +15,7 @@ overflow_shl-result : tie.Need-overflow_shl-result
 overflow_shl-result c = search rules
 
 returns : tie.Need-returns
-returns c = simp (lt-ltb _ _ c.if-left-ge8.false) (rw (shifted c.before.args.left c.if-left-ge8.false) refl)
+returns c = simp (lt-ltb _ _ c.if-left-ge8.false) (rw (shifted c.args.left c.if-left-ge8.false) refl)
 
 pub bits_fit_spec : {M : Type 1} → statement M
 bits_fit_spec = tie.close (tie.spec returns-then-left-ge8 overflow_shl-result returns)

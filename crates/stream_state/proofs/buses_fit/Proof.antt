@@ -19,13 +19,13 @@ parity_fits-requires c κs = search rules
 
 returns-then-tracks_fit : tie.Need-returns-then-tracks_fit
 returns-then-tracks_fit c = let t = c.before.before in
-    let e = sym t.tracks_fit.ensures ∙ c.before.if-tracks_fit.true in
-    c.parity_fits.ensures ∙ sym (rw (le-leb _ _ t.before.if-plan-lt128.false, e) refl)
+    let e = sym t.tracks_fit.ensures ∙ c.if-tracks_fit.true in
+    c.parity_fits.ensures ∙ sym (rw (le-leb _ _ t.if-plan-lt128.false, e) refl)
 
 returns : tie.Need-returns
 returns c = let t = c.before in
     let e = sym t.tracks_fit.ensures ∙ c.if-tracks_fit.false in
-    sym (rw (le-leb _ _ t.before.if-plan-lt128.false, e) refl)
+    sym (rw (le-leb _ _ t.if-plan-lt128.false, e) refl)
 
 pub buses_fit_spec : {M : Type 1} → statement M
 buses_fit_spec =

@@ -36,12 +36,12 @@ runs_zero-requires c κs = search rules
 
 returns-then-few_zero : tie.Need-returns-then-few_zero
 returns-then-few_zero c = let t = c.before.before in
-    let l = t.before.before.before.before.args.bytes.now in
-    c.runs_zero.ensures ∙ front_zero (length l % 128) l (sym t.before.few_zero.ensures ∙ t.if-few_zero.true)
+    let l = t.args.bytes.now in
+    c.runs_zero.ensures ∙ front_zero (length l % 128) l (sym t.few_zero.ensures ∙ t.if-few_zero.true)
 
 returns : tie.Need-returns
-returns c = let l = c.before.before.before.before.args.bytes.now in
-    front_not (length l % 128) l (sym c.before.few_zero.ensures ∙ c.if-few_zero.false)
+returns c = let l = c.args.bytes.now in
+    front_not (length l % 128) l (sym c.few_zero.ensures ∙ c.if-few_zero.false)
 
 pub bytes_zero_spec : {M : Type 1} → statement M
 bytes_zero_spec =

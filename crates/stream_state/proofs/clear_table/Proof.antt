@@ -29,18 +29,18 @@ overflow_add-index : tie.Need-overflow_add-index invariant-loop-index decreases-
 overflow_add-index c = search rules
 
 loop-index-smaller : tie.Need-loop-index-smaller invariant-loop-index decreases-loop-index
-loop-index-smaller c = omega (arith, c.loop-index-test.true, front_long c.before.loop-index.invariant.1)
+loop-index-smaller c = omega (arith, c.loop-index-test.true, front_long c.loop-index.invariant.1)
 
 loop-index-preserved : tie.Need-loop-index-preserved invariant-loop-index decreases-loop-index
-loop-index-preserved c = let o = c.before.loop-index in
-    let l : o.index + 1 ≤ length c.before.before.args.table.now = omega (arith, c.loop-index-test.true, front_long o.invariant.1) in
+loop-index-preserved c = let o = c.loop-index in
+    let l : o.index + 1 ≤ length c.args.table.now = omega (arith, c.loop-index-test.true, front_long o.invariant.1) in
     (l, zero_more o.index o.invariant.1 (omega (arith, l)))
 
 shape_of-table : tie.Need-shape_of-table invariant-loop-index decreases-loop-index
-shape_of-table c = front_long c.before.loop-index.invariant.1
+shape_of-table c = front_long c.loop-index.invariant.1
 
 returns : tie.Need-returns invariant-loop-index decreases-loop-index
-returns c = let o = c.before.loop-index in zeros_all o.index o.invariant.1 (omega (arith, front_long o.invariant.1))
+returns c = let o = c.loop-index in zeros_all o.index o.invariant.1 (omega (arith, front_long o.invariant.1))
 
 pub clear_table_spec : {M : Type 1} → statement M
 clear_table_spec =

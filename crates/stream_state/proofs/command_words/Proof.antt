@@ -17,13 +17,13 @@ word-first-requires : tie.Need-word-first-requires
 word-first-requires c κs = search rules
 
 returns-then-stage-eq7 : tie.Need-returns-then-stage-eq7
-returns-then-stage-eq7 c = rw (c.before.word-first.ensures, c.before.before.command_label-label.ensures, c.if-stage-eq7.true)
+returns-then-stage-eq7 c = rw (c.word-first.ensures, c.command_label-label.ensures, c.if-stage-eq7.true)
 
 word-high-requires : tie.Need-word-high-requires
 word-high-requires c κs = search rules
 
 returns-then-stage-eq6 : tie.Need-returns-then-stage-eq6
-returns-then-stage-eq6 c = rw (c.before.before.before.word-first.ensures, c.before.before.before.before.command_label-label.ensures, c.word-high.ensures, c.before.if-stage-eq6.true)
+returns-then-stage-eq6 c = rw (c.word-first.ensures, c.command_label-label.ensures, c.word-high.ensures, c.if-stage-eq6.true)
 
 word-high-requires-2 : tie.Need-word-high-requires-2
 word-high-requires-2 c κs = search rules
@@ -34,7 +34,7 @@ word-low-requires c κs = search rules
 returns : tie.Need-returns
 returns c = let one = c.before.before.before.before in
     let left = c.before.before in
-    rw (one.word-first.ensures, one.before.command_label-label.ensures, c.before.word-high-2.ensures, c.word-low.ensures, ne_eqb _ _ left.before.if-stage-eq7.false, ne_eqb _ _ left.if-stage-eq6.false)
+    rw (one.word-first.ensures, one.command_label-label.ensures, c.word-high-2.ensures, c.word-low.ensures, ne_eqb _ _ left.if-stage-eq7.false, ne_eqb _ _ left.if-stage-eq6.false)
 
 pub command_words_spec : {M : Type 1} → statement M
 command_words_spec =

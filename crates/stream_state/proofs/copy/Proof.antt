@@ -23,7 +23,7 @@ bounds-from-index : tie.Need-bounds-from-index invariant-loop-index decreases-lo
 bounds-from-index c = search rules
 
 bounds-to-index : tie.Need-bounds-to-index invariant-loop-index decreases-loop-index
-bounds-to-index c = omega (arith, front_long c.before.before.loop-index.invariant.2)
+bounds-to-index c = omega (arith, front_long c.loop-index.invariant.2)
 
 overflow_add-index : tie.Need-overflow_add-index invariant-loop-index decreases-loop-index
 overflow_add-index c = search rules
@@ -32,14 +32,14 @@ loop-index-smaller : tie.Need-loop-index-smaller invariant-loop-index decreases-
 loop-index-smaller c = search rules
 
 loop-index-preserved : tie.Need-loop-index-preserved invariant-loop-index decreases-loop-index
-loop-index-preserved c = let o = c.before.before.loop-index in
-    (omega arith, o.invariant.1, rw (take_more c.before.before.before.args.from.now o.index (omega arith)) (front_more _ o.invariant.2 (omega arith)))
+loop-index-preserved c = let o = c.loop-index in
+    (omega arith, o.invariant.1, rw (take_more c.args.from.now o.index (omega arith)) (front_more _ o.invariant.2 (omega arith)))
 
 shape_of-to : tie.Need-shape_of-to invariant-loop-index decreases-loop-index
-shape_of-to c = front_long c.before.loop-index.invariant.2
+shape_of-to c = front_long c.loop-index.invariant.2
 
 returns : tie.Need-returns invariant-loop-index decreases-loop-index
-returns c = let o = c.before.loop-index in all_copied c.before.before.args.from.now o.index o.invariant.2 (omega arith) o.invariant.1
+returns c = let o = c.loop-index in all_copied c.args.from.now o.index o.invariant.2 (omega arith) o.invariant.1
 
 pub copy_spec : {M : Type 1} → statement M
 copy_spec =

@@ -32,8 +32,8 @@ slots-requires : tie.Need-slots-requires
 slots-requires c κs = search rules
 
 overflow_add-last : tie.Need-overflow_add-last
-overflow_add-last c = let p = c.before.before.before.before.before.before.before.args.plan in
-    omega (arith, c.before.lead-lead.ensures, lead_is p, lead_few p, c.slots.ensures.2)
+overflow_add-last c = let p = c.args.plan in
+    omega (arith, c.lead-lead.ensures, lead_is p, lead_few p, c.slots.ensures.2)
 
 slice_bounds-waits_in-end : tie.Need-slice_bounds-waits_in-end
 slice_bounds-waits_in-end c = search rules
@@ -49,7 +49,7 @@ returns c = let n = c.before.before in
     let l = n.before in
     let k = l.before in
     let t = k.before.before in
-    let a = t.before.before.before.args in
+    let a = t.args in
     let b = a.state.now in
     let w = waits_by a.plan (kinds_at b) a.groups (list (number_at b) 36 64) l.lead-lead.result n.slots.result l.lead-lead.ensures n.slots.ensures.0 in
     c.waits_in.ensures ∙ rw (k.kinds_at-kinds.ensures, t.notices_at.ensures) w

@@ -22,7 +22,7 @@ decreases-loop-index state first named₀ used₀ index₀ named used index = 8 
 
 -- a number more counts one at most
 one_few : (c : tie.After-one_used-used invariant-loop-index decreases-loop-index) → c.one_used-used.result ≤ 1
-one_few c = rw c.one_used-used.ensures (used_small c.before.before.time_at-number.result)
+one_few c = rw c.one_used-used.ensures (used_small c.time_at-number.result)
 
 loop-index-init : tie.Need-loop-index-init invariant-loop-index decreases-loop-index
 loop-index-init c = let s = c.before in (omega arith, omega arith, s.requires.1, s.requires.0, counted_none (number_at s.args.state.now) s.args.first)
@@ -43,7 +43,7 @@ one_used-used-requires : tie.Need-one_used-used-requires invariant-loop-index de
 one_used-used-requires c κs = search rules
 
 overflow_add-used : tie.Need-overflow_add-used invariant-loop-index decreases-loop-index
-overflow_add-used c = let o = c.before.before.before.before.loop-index in omega (arith, one_few c, o.invariant.0, o.invariant.1)
+overflow_add-used c = let o = c.loop-index in omega (arith, one_few c, o.invariant.0, o.invariant.1)
 
 overflow_add-index : tie.Need-overflow_add-index invariant-loop-index decreases-loop-index
 overflow_add-index c = search rules
@@ -54,17 +54,17 @@ loop-index-smaller c = search rules
 loop-index-preserved : tie.Need-loop-index-preserved invariant-loop-index decreases-loop-index
 loop-index-preserved c = let n = c.before.before in
     let i = n.before in
-    let o = i.before.loop-index in
+    let o = i.loop-index in
     let one = one_few c in (
       omega (arith, i.loop-index-test.true),
       omega (arith, one, o.invariant.1),
       o.invariant.2,
       o.invariant.3,
-      counted_more o.invariant.4 i.loop-index-test.true n.time_at-number.ensures c.before.both-named.ensures c.one_used-used.ensures,
+      counted_more o.invariant.4 i.loop-index-test.true n.time_at-number.ensures c.both-named.ensures c.one_used-used.ensures,
     )
 
 returns : tie.Need-returns invariant-loop-index decreases-loop-index
-returns c = let o = c.before.loop-index in counted_all o.invariant.4 (omega arith)
+returns c = let o = c.loop-index in counted_all o.invariant.4 (omega arith)
 
 pub eight_buses_spec : {M : Type 1} → statement M
 eight_buses_spec =

@@ -27,10 +27,10 @@ loop-index-smaller : tie.Need-loop-index-smaller invariant-loop-index decreases-
 loop-index-smaller c = search rules
 
 loop-index-preserved : tie.Need-loop-index-preserved invariant-loop-index decreases-loop-index
-loop-index-preserved c = seen_more c.before.before.loop-index.invariant c.before.loop-index-test.true
+loop-index-preserved c = seen_more c.loop-index.invariant c.loop-index-test.true
 
 returns : tie.Need-returns invariant-loop-index decreases-loop-index
-returns c = seen_all c.before.loop-index.invariant (omega arith)
+returns c = seen_all c.loop-index.invariant (omega arith)
 
 pub few_zero_spec : {M : Type 1} → statement M
 few_zero_spec =

@@ -39,13 +39,13 @@ loop-index-smaller : tie.Need-loop-index-smaller invariant-loop-index decreases-
 loop-index-smaller c = search rules
 
 loop-index-preserved : tie.Need-loop-index-preserved invariant-loop-index decreases-loop-index
-loop-index-preserved c = let o = c.before.before.before.before.before.loop-index in
-    let h = c.before.before.before.before.loop-index-test.true in
+loop-index-preserved c = let o = c.loop-index in
+    let h = c.loop-index-test.true in
     let l = o.invariant.2 in
     ((seen_more o.invariant.0.0 h, seen_more o.invariant.0.1 (omega (arith, h, l.0))), (seen_more o.invariant.1.0 (omega (arith, h, l.1)), seen_more o.invariant.1.1 (omega (arith, h, l.2))), l)
 
 returns : tie.Need-returns invariant-loop-index decreases-loop-index
-returns c = let o = c.before.loop-index in
+returns c = let o = c.loop-index in
     let l = o.invariant.2 in
     seen_four o.invariant.0.0 o.invariant.0.1 o.invariant.1.0 o.invariant.1.1 (omega arith) l.0 l.1 l.2
 

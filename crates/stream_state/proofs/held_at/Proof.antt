@@ -62,10 +62,10 @@ kept-requires c κs = search rules
 
 returns-then-few_zero : tie.Need-returns-then-few_zero
 returns-then-few_zero c = let t = c.before.before in
-    let b = t.before.before.before.before.args.state.now in
-    let z = sym t.before.few_zero.ensures ∙ t.if-few_zero.true in
-    c.kept.ensures ∙ ap (λ (h : Holding). record { bad = false; held = h }) c.before.nothing.ensures
-    ∙ none_held (kinds_at b) (sixteen b) (number_at b) (zero_numbers b 15 5 t.before.before.before.before.requires (omega arith) z)
+    let b = t.args.state.now in
+    let z = sym t.few_zero.ensures ∙ t.if-few_zero.true in
+    c.kept.ensures ∙ ap (λ (h : Holding). record { bad = false; held = h }) c.nothing.ensures
+    ∙ none_held (kinds_at b) (sixteen b) (number_at b) (zero_numbers b 15 5 t.requires (omega arith) z)
 
 time_at-count-requires : tie.Need-time_at-count-requires
 time_at-count-requires c κs = search rules
@@ -76,7 +76,7 @@ lost-requires c κs = search rules
 returns-then-count-gt4 : tie.Need-returns-then-count-gt4
 returns-then-count-gt4 c = let r = c.before.before in
     let b = (start r).args.state.now in
-    c.lost.ensures ∙ too_many (kinds_at b) (sixteen b) (at r) (omega (arith, count_is r, c.before.if-count-gt4.true))
+    c.lost.ensures ∙ too_many (kinds_at b) (sixteen b) (at r) (omega (arith, count_is r, c.if-count-gt4.true))
 
 overflow_add-first : tie.Need-overflow_add-first
 overflow_add-first c = search rules
@@ -89,9 +89,9 @@ lost-requires-then-not-numbers_zero c κs = search rules
 
 returns-then-not-numbers_zero : tie.Need-returns-then-not-numbers_zero
 returns-then-not-numbers_zero c = let r = c.before.before.before.before in
-    let e = sym c.before.before.numbers_zero.ensures ∙ not-true _ c.before.if-not-numbers_zero.true in
+    let e = sym c.numbers_zero.ensures ∙ not-true _ c.if-not-numbers_zero.true in
     let b = (start r).args.state.now in
-    c.lost-then-not-numbers_zero.ensures ∙ not_zero (kinds_at b) (sixteen b) (at r) (omega (arith, count_is r, c.before.before.before.if-count-gt4.false)) (rw (count_is r) at e)
+    c.lost-then-not-numbers_zero.ensures ∙ not_zero (kinds_at b) (sixteen b) (at r) (omega (arith, count_is r, c.if-count-gt4.false)) (rw (count_is r) at e)
 
 kinds_at-kinds-requires : tie.Need-kinds_at-kinds-requires
 kinds_at-kinds-requires c κs = search rules
@@ -103,10 +103,10 @@ returns : tie.Need-returns
 returns c = let k = c.before in
     let r = k.before.before.before.before in
     let b = (start r).args.state.now in
-    let z : are_zeros (list (at r) (16 + at r 15) (20 - (16 + at r 15))) ≡ true = rw (count_is r) at (sym k.before.before.numbers_zero.ensures ∙ not-false _ k.before.if-not-numbers_zero.false) in
+    let z : are_zeros (list (at r) (16 + at r 15) (20 - (16 + at r 15))) ≡ true = rw (count_is r) at (sym k.numbers_zero.ensures ∙ not-false _ k.if-not-numbers_zero.false) in
     c.refeed.ensures
     ∙ ap₂ (λ (ks : List Kind) (n : ℕ). again_from (again ks Nothing (list (at r) 16 n))) k.kinds_at-kinds.ensures (count_is r)
-    ∙ fed_again (kinds_at b) (sixteen b) (at r) (omega (arith, count_is r, k.before.before.before.if-count-gt4.false)) z
+    ∙ fed_again (kinds_at b) (sixteen b) (at r) (omega (arith, count_is r, k.if-count-gt4.false)) z
 
 pub held_at_spec : {M : Type 1} → statement M
 held_at_spec =

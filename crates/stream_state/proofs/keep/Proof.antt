@@ -12,9 +12,9 @@ use Rattle.stream_state.proofs.copy.Reads as copy-reads
 use Rattle.stream_state.proofs.put_count.Reads as put-count-reads
 
 -- the room behind the bytes that wait
-here : (s : tie.Start) → (length s.args.state-1.now ≡ 7168) × (s.args.waiting + length s.args.piece.now < 6144)
+here : (s : tie.Start) → (length s.args.state.now ≡ 7168) × (s.args.waiting + length s.args.piece.now < 6144)
 here s =
-    (long s.args.state-1.now s.args.waiting s.args.piece.now s.requires, room s.args.state-1.now s.args.waiting s.args.piece.now s.requires)
+    (long s.args.state.now s.args.waiting s.args.piece.now s.requires, room s.args.state.now s.args.waiting s.args.piece.now s.requires)
 
 overflow_add-first : tie.Need-overflow_add-first
 overflow_add-first c = omega (arith, here c.before.before)
@@ -57,8 +57,8 @@ returns c = let s = c.before.before.before.before.before.before.before.before.be
     let a = s.args in
     let first = 1024 + a.waiting in
     let end = first + length a.piece.now in
-    let copied = c.before.before.before.before.before.before.copy.ensures in
-    piece_kept a.state-1.now a.waiting a.piece.now s.requires first (end - first) (end - 1024) _ _ refl (omega arith) (omega arith) copied c.before.before.put_count.ensures
+    let copied = c.copy.ensures in
+    piece_kept a.state-1.now a.waiting a.piece.now s.requires first (end - first) (end - 1024) _ _ refl (omega arith) (omega arith) copied c.put_count.ensures
 
 pub keep_spec : {M : Type 1} → statement M
 keep_spec =

@@ -42,8 +42,8 @@ loop-bus-smaller : tie.Need-loop-bus-smaller invariant-loop-bus decreases-loop-b
 loop-bus-smaller c = search rules
 
 loop-bus-preserved : tie.Need-loop-bus-preserved invariant-loop-bus decreases-loop-bus
-loop-bus-preserved c = let o = c.before.before.before.loop-bus in
-    let ks = c.before.before.before.before.args.t1 in
+loop-bus-preserved c = let o = c.loop-bus in
+    let ks = c.args.kinds in
     let was = take-suc ks o.bus Unused (omega arith) in
     let new = take-suc-set o.numbers o.bus c.kind_number.result (omega arith) in (
       search rules,
@@ -53,8 +53,8 @@ loop-bus-preserved c = let o = c.before.before.before.loop-bus in
     )
 
 returns : tie.Need-returns invariant-loop-bus decreases-loop-bus
-returns c = let o = c.before.loop-bus in
-    let ks = c.before.before.args.t1 in
+returns c = let o = c.loop-bus in
+    let ks = c.args.kinds in
     sym (take_all o.bus o.numbers (omega arith)) ∙ o.invariant.3 ∙ ap (map kind_number) (take_all o.bus ks (omega arith))
 
 pub kind_numbers_spec : {M : Type 1} → statement M

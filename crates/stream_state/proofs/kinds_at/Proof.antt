@@ -22,7 +22,7 @@ decreases-loop-bus state kinds₀ bus₀ kinds bus = 16 - bus
 
 loop-bus-init : tie.Need-loop-bus-init invariant-loop-bus decreases-loop-bus
 unfolding list
-loop-bus-init c = (omega arith, c.before.requires, refl, refl)
+loop-bus-init c = (omega arith, c.requires, refl, refl)
 
 overflow_mul-bus : tie.Need-overflow_mul-bus invariant-loop-bus decreases-loop-bus
 overflow_mul-bus c = search rules
@@ -46,14 +46,14 @@ loop-bus-smaller : tie.Need-loop-bus-smaller invariant-loop-bus decreases-loop-b
 loop-bus-smaller c = search rules
 
 loop-bus-preserved : tie.Need-loop-bus-preserved invariant-loop-bus decreases-loop-bus
-loop-bus-preserved c = let o = c.before.before.before.loop-bus in
-    let s = c.before.before.before.before.before.args.state.now in
+loop-bus-preserved c = let o = c.loop-bus in
+    let s = c.args.state.now in
     let more = list_more (λ k. kind_of (get_or s (167 + 8 * k) 0)) o.bus in
     let new = take-suc-set o.kinds o.bus c.kind_of.result (omega arith) in
-    (omega (arith, c.before.before.loop-bus-test.true), o.invariant.1, simp length-set o.invariant.2, rw (more, add-one o.bus, new, o.invariant.3, c.kind_of.ensures) refl)
+    (omega (arith, c.loop-bus-test.true), o.invariant.1, simp length-set o.invariant.2, rw (more, add-one o.bus, new, o.invariant.3, c.kind_of.ensures) refl)
 
 returns : tie.Need-returns invariant-loop-bus decreases-loop-bus
-returns c = let o = c.before.loop-bus in
+returns c = let o = c.loop-bus in
     let e : o.bus ≡ 16 = omega arith in
     sym (take_all o.bus o.kinds (omega arith)) ∙ o.invariant.3 ∙ rw e refl
 

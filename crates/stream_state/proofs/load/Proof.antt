@@ -15,7 +15,7 @@ ended-requires : tie.Need-ended-requires
 ended-requires c κs = search rules
 
 returns-then-state-ne7168 : tie.Need-returns-then-state-ne7168
-returns-then-state-ne7168 c = c.ended.ensures ∙ other_length c.before.before.before.args.state.now c.before.if-state-ne7168.true
+returns-then-state-ne7168 c = c.ended.ensures ∙ other_length c.args.state.now c.if-state-ne7168.true
 
 time_at-stage-requires : tie.Need-time_at-stage-requires
 time_at-stage-requires c κs = search rules

@@ -37,7 +37,7 @@ abbrev faulty : (s : tie.Start) → is_state s.args.state.now ≡ true → Fault
 faulty s = is_faulty s.args.state.now s.requires.1
 
 tested : (c : tie.After-fault_fits) → c.fault_fits.result ≡ fits (said (entry c).args.state.now)
-tested c = c.fault_fits.ensures ∙ same_fault c.before.before.before.time_at-number.ensures c.before.before.time_at-place.ensures c.before.time_at-second.ensures
+tested c = c.fault_fits.ensures ∙ same_fault c.time_at-number.ensures c.time_at-place.ensures c.time_at-second.ensures
 
 time_at-number-requires : tie.Need-time_at-number-requires
 time_at-number-requires c κs = search rules
@@ -56,7 +56,7 @@ ended-requires c κs = search rules
 
 returns-then-not-fault_fits : tie.Need-returns-then-not-fault_fits
 returns-then-not-fault_fits c = let s = c.before.before.before.before.before.before.before in let b = s.args.state.now in
-    c.ended.ensures ∙ sym (misfits b (fits (said b)) (λ e. (faulty s e).fit) (sym (tested c.before.before) ∙ not-true _ c.before.if-not-fault_fits.true))
+    c.ended.ensures ∙ sym (misfits b (fits (said b)) (λ e. (faulty s e).fit) (sym (tested c.before.before) ∙ not-true _ c.if-not-fault_fits.true))
 
 numbers_zero-requires : tie.Need-numbers_zero-requires
 numbers_zero-requires c κs = search rules
@@ -66,7 +66,7 @@ ended-requires-then-not-numbers_zero c κs = search rules
 
 returns-then-not-numbers_zero : tie.Need-returns-then-not-numbers_zero
 returns-then-not-numbers_zero c = let s = c.before.before.before.before.before.before.before.before.before in let b = s.args.state.now in
-    c.ended-then-not-numbers_zero.ensures ∙ sym (misfits b (are_zeros (list (number_at b) 1 11)) (λ e. (faulty s e).before) (sym c.before.before.numbers_zero.ensures ∙ not-true _ c.before.if-not-numbers_zero.true))
+    c.ended-then-not-numbers_zero.ensures ∙ sym (misfits b (are_zeros (list (number_at b) 1 11)) (λ e. (faulty s e).before) (sym c.numbers_zero.ensures ∙ not-true _ c.if-not-numbers_zero.true))
 
 numbers_zero-requires-2 : tie.Need-numbers_zero-requires-2
 numbers_zero-requires-2 c κs = search rules
@@ -76,7 +76,7 @@ ended-requires-then-not-numbers_zero-2 c κs = search rules
 
 returns-then-not-numbers_zero-2 : tie.Need-returns-then-not-numbers_zero-2
 returns-then-not-numbers_zero-2 c = let s = c.before.before.before.before.before.before.before.before.before.before.before in let b = s.args.state.now in
-    c.ended-then-not-numbers_zero-2.ensures ∙ sym (misfits b (are_zeros (list (number_at b) 15 86)) (λ e. (faulty s e).after) (sym c.before.before.numbers_zero-2.ensures ∙ not-true _ c.before.if-not-numbers_zero-2.true))
+    c.ended-then-not-numbers_zero-2.ensures ∙ sym (misfits b (are_zeros (list (number_at b) 15 86)) (λ e. (faulty s e).after) (sym c.numbers_zero-2.ensures ∙ not-true _ c.if-not-numbers_zero-2.true))
 
 slice_bounds-bytes_zero-count : tie.Need-slice_bounds-bytes_zero-count
 slice_bounds-bytes_zero-count c = search rules
@@ -96,13 +96,13 @@ ended-requires-then-not-bytes_zero c κs = search rules
 returns-then-not-bytes_zero : tie.Need-returns-then-not-bytes_zero
 returns-then-not-bytes_zero c = let s = c.before.before.before.before.before.before.before.before.before.before.before.before.before.before in let b = s.args.state.now in
     c.ended-then-not-bytes_zero.ensures
-    ∙ sym (misfits b (are_zeros (drop 808 b)) (λ e. (faulty s e).rest) (ap are_zeros (sym (part_rest 808 b)) ∙ sym c.before.before.bytes_zero.ensures ∙ not-true _ c.before.if-not-bytes_zero.true))
+    ∙ sym (misfits b (are_zeros (drop 808 b)) (λ e. (faulty s e).rest) (ap are_zeros (sym (part_rest 808 b)) ∙ sym c.bytes_zero.ensures ∙ not-true _ c.if-not-bytes_zero.true))
 
 overflow_cast-number : tie.Need-overflow_cast-number
 overflow_cast-number c = let t = c.before.before.before.before.before.before.before in
     let b = (entry t.before).args.state.now in
     let f : fits (said b) ≡ true = sym (tested t.before) ∙ not-false _ t.if-not-fault_fits.false in
-    omega (arith, t.before.before.before.before.time_at-number.ensures, (failed_small (number_at b 12) (number_at b 13) (number_at b 14) f).0)
+    omega (arith, t.time_at-number.ensures, (failed_small (number_at b 12) (number_at b 13) (number_at b 14) f).0)
 
 ended-requires-2 : tie.Need-ended-requires-2
 ended-requires-2 c κs = search rules
@@ -114,15 +114,15 @@ returns c = let third = c.before.before.before.before in
     let t = first.before in
     let s = entry t in
     let b = s.args.state.now in
-    let bytes = all_bytes b (λ i. omega (arith, t.before.before.before.before.shared_slice_known-1.given i)) in
-    c.ended-2.ensures ∙ same_stopped t.before.before.before.time_at-number.ensures t.before.before.time_at-place.ensures t.before.time_at-second.ensures
+    let bytes = all_bytes b (λ i. omega (arith, t.shared_slice_known-1.given i)) in
+    c.ended-2.ensures ∙ same_stopped t.time_at-number.ensures t.time_at-place.ensures t.time_at-second.ensures
     ∙ sym (loads b (said b)
-    (faulty_is b bytes s.pre.0 s.pre.1 (record {
+    (faulty_is b bytes s.requires.0 s.requires.1 (record {
       fit = sym (tested t) ∙ not-false _ first.if-not-fault_fits.false;
-      before = sym second.before.numbers_zero.ensures ∙ not-false _ second.if-not-numbers_zero.false;
-      after = sym third.before.numbers_zero-2.ensures ∙ not-false _ third.if-not-numbers_zero-2.false;
-      rest = ap are_zeros (sym (part_rest 808 b)) ∙ sym c.before.before.bytes_zero.ensures ∙ not-false _ c.before.if-not-bytes_zero.false;
-    })) (state_failed b s.pre.1))
+      before = sym second.numbers_zero.ensures ∙ not-false _ second.if-not-numbers_zero.false;
+      after = sym third.numbers_zero-2.ensures ∙ not-false _ third.if-not-numbers_zero-2.false;
+      rest = ap are_zeros (sym (part_rest 808 b)) ∙ sym c.bytes_zero.ensures ∙ not-false _ c.if-not-bytes_zero.false;
+    })) (state_failed b s.requires.1))
 
 pub load_failed_spec : {M : Type 1} → statement M
 load_failed_spec =

@@ -25,7 +25,7 @@ start c = c.before.before
 
 tested : (c : tie.After-buses_fit) → c.buses_fit.result ≡ legal (start c).args.plan (kinds_at (start c).args.state.now)
 tested c = let s = start c in
-    c.buses_fit.ensures ∙ lawful s.args.state.now s.args.plan s.pre.0 s.args.used s.args.above s.pre.1 s.pre.2
+    c.buses_fit.ensures ∙ lawful s.args.state.now s.args.plan s.requires.0 s.args.used s.args.above s.requires.1 s.requires.2
 
 -- and is legal
 is_legal : (c : tie.Else-not-buses_fit) → legal (start c.before).args.plan (kinds_at (start c.before).args.state.now) ≡ true
@@ -42,7 +42,7 @@ ended-requires c κs = search rules
 returns-then-not-buses_fit : tie.Need-returns-then-not-buses_fit
 returns-then-not-buses_fit c = let t = c.before.before in
     let s = start t in
-    c.ended.ensures ∙ unlawful s.args.state.now s.args.plan s.pre.0 (kinds_at s.args.state.now) refl (sym (tested t) ∙ not-true _ c.before.if-not-buses_fit.true)
+    c.ended.ensures ∙ unlawful s.args.state.now s.args.plan s.requires.0 (kinds_at s.args.state.now) refl (sym (tested t) ∙ not-true _ c.if-not-buses_fit.true)
 
 time_at-groups-requires : tie.Need-time_at-groups-requires
 time_at-groups-requires c κs = search rules
@@ -60,20 +60,20 @@ ended-requires-then-not-size_fits c κs = search rules
 
 returns-then-not-size_fits : tie.Need-returns-then-not-size_fits
 returns-then-not-size_fits c = let s = start c.before.before.before.before.before.before in
-    let g = c.before.before.before.before.time_at-groups in
-    let n = c.before.before.before.time_at-waiting in
-    let e = sym c.before.before.size_fits.ensures ∙ not-true _ c.before.if-not-size_fits.true in
-    c.ended-then-not-size_fits.ensures ∙ oversized s.args.state.now s.args.plan s.pre.0 g.result n.result g.ensures n.ensures e
+    let g = c.time_at-groups in
+    let n = c.time_at-waiting in
+    let e = sym c.size_fits.ensures ∙ not-true _ c.if-not-size_fits.true in
+    c.ended-then-not-size_fits.ensures ∙ oversized s.args.state.now s.args.plan s.requires.0 g.result n.result g.ensures n.ensures e
 
 load_sized-requires : tie.Need-load_sized-requires
 load_sized-requires c κs = let l = c.before.before.before.before in
     record {
       planned = (start l.before).requires.0;
       kinds_are = refl;
-      groups_are = c.before.before.before.time_at-groups.ensures;
-      waiting_is = c.before.before.time_at-waiting.ensures;
+      groups_are = c.time_at-groups.ensures;
+      waiting_is = c.time_at-waiting.ensures;
       lawful = is_legal l;
-      size = sym c.before.size_fits.ensures ∙ not-false _ c.if-not-size_fits.false;
+      size = sym c.size_fits.ensures ∙ not-false _ c.if-not-size_fits.false;
     }
 
 returns : tie.Need-returns

@@ -48,10 +48,10 @@ abbrev start : Read → tie.Start
 start c = c.before.before.before.before
 
 abbrev left : Read → ℕ
-left c = c.before.before.time_at-left.result
+left c = c.time_at-left.result
 
 abbrev last : Read → ℕ
-last c = c.before.time_at-last.result
+last c = c.time_at-last.result
 
 -- the tests that were passed, one behind the other
 abbrev one : tie.Else-not-bits_fit → Read
@@ -81,19 +81,19 @@ eighth c = seventh c.before.before.before
 
 -- what each says
 bits_good : (c : tie.Else-not-bits_fit) → bits_fit (left (one c)) (last (one c)) ≡ true
-bits_good c = sym c.before.bits_fit.ensures ∙ not-false _ c.if-not-bits_fit.false
+bits_good c = sym c.bits_fit.ensures ∙ not-false _ c.if-not-bits_fit.false
 
 since_good : (c : tie.Else-not-place_fits) → place_fits (start (two c)).args.plan (start (two c)).args.groups (two c).time_at-since.result ≡ true
-since_good c = sym c.before.place_fits.ensures ∙ not-false _ c.if-not-place_fits.false
+since_good c = sym c.place_fits.ensures ∙ not-false _ c.if-not-place_fits.false
 
 faultless : (c : tie.Else-not-numbers_zero) → are_zeros (list (number_at (start (three c)).args.state.now) 12 3) ≡ true
-faultless c = sym c.before.numbers_zero.ensures ∙ not-false _ c.if-not-numbers_zero.false
+faultless c = sym c.numbers_zero.ensures ∙ not-false _ c.if-not-numbers_zero.false
 
 waits_good : (c : tie.Else-not-waits_fit) → let a = (start (five c)).args in waits_fit a.plan (kinds_at a.state.now) a.groups 0 (list (number_at a.state.now) 36 64) ≡ true
-waits_good c = sym c.before.waits_fit.ensures ∙ not-false _ c.if-not-waits_fit.false
+waits_good c = sym c.waits_fit.ensures ∙ not-false _ c.if-not-waits_fit.false
 
 gap_good : (c : tie.Else-not-bytes_zero) → are_zeros (take 216 (drop 808 (start (six c)).args.state.now)) ≡ true
-gap_good c = sym c.before.bytes_zero.ensures ∙ not-false _ c.if-not-bytes_zero.false
+gap_good c = sym c.bytes_zero.ensures ∙ not-false _ c.if-not-bytes_zero.false
 
 -- the bytes from there on, as they were lent
 tail_is : (c : tie.After-bytes_zero-2) → let a = (start (seventh c.before.before)).args in c.bytes_zero-2.result ≡ are_zeros (drop (1024 + a.waiting) a.state.now)
@@ -117,8 +117,8 @@ ended-requires c κs = search rules
 
 returns-then-not-bits_fit : tie.Need-returns-then-not-bits_fit
 returns-then-not-bits_fit c = let t = c.before.before.before in
-    let e = sym c.before.before.bits_fit.ensures ∙ not-true _ c.before.if-not-bits_fit.true in
-    c.ended.ensures ∙ bad_bits (start t).requires t.before.before.time_at-left.ensures t.before.time_at-last.ensures e
+    let e = sym c.bits_fit.ensures ∙ not-true _ c.if-not-bits_fit.true in
+    c.ended.ensures ∙ bad_bits (start t).requires t.time_at-left.ensures t.time_at-last.ensures e
 
 place_fits-requires : tie.Need-place_fits-requires
 place_fits-requires c κs = let s = start (one c) in (shape s, (few s).0)
@@ -128,8 +128,8 @@ ended-requires-then-not-place_fits c κs = search rules
 
 returns-then-not-place_fits : tie.Need-returns-then-not-place_fits
 returns-then-not-place_fits c = let t = one c.before.before.before in
-    let e = sym c.before.before.place_fits.ensures ∙ not-true _ c.before.if-not-place_fits.true in
-    c.ended-then-not-place_fits.ensures ∙ bad_since (start t).pre t.time_at-since.ensures e
+    let e = sym c.place_fits.ensures ∙ not-true _ c.if-not-place_fits.true in
+    c.ended-then-not-place_fits.ensures ∙ bad_since (start t).requires t.time_at-since.ensures e
 
 numbers_zero-requires : tie.Need-numbers_zero-requires
 numbers_zero-requires c κs = search rules
@@ -139,7 +139,7 @@ ended-requires-then-not-numbers_zero c κs = search rules
 
 returns-then-not-numbers_zero : tie.Need-returns-then-not-numbers_zero
 returns-then-not-numbers_zero c = let t = two c.before.before.before in
-    c.ended-then-not-numbers_zero.ensures ∙ bad_fault (start t).pre (sym c.before.before.numbers_zero.ensures ∙ not-true _ c.before.if-not-numbers_zero.true)
+    c.ended-then-not-numbers_zero.ensures ∙ bad_fault (start t).requires (sym c.numbers_zero.ensures ∙ not-true _ c.if-not-numbers_zero.true)
 
 held_at-again-requires : tie.Need-held_at-again-requires
 held_at-again-requires c κs = long (start (three c))
@@ -148,7 +148,7 @@ ended-requires-then-again : tie.Need-ended-requires-then-again
 ended-requires-then-again c κs = search rules
 
 returns-then-again : tie.Need-returns-then-again
-returns-then-again c = let t = three c.before.before.before in c.ended-then-again.ensures ∙ bad_held (start t).pre c.before.before.held_at-again.ensures c.before.if-again.true
+returns-then-again c = let t = three c.before.before.before in c.ended-then-again.ensures ∙ bad_held (start t).requires c.held_at-again.ensures c.if-again.true
 
 waits_fit-requires : tie.Need-waits_fit-requires
 waits_fit-requires c κs = let s = start (four c) in (shape s, (few s).0, long s)
@@ -158,8 +158,8 @@ ended-requires-then-not-waits_fit c κs = search rules
 
 returns-then-not-waits_fit : tie.Need-returns-then-not-waits_fit
 returns-then-not-waits_fit c = let t = four c.before.before.before in
-    let e = sym c.before.before.waits_fit.ensures ∙ not-true _ c.before.if-not-waits_fit.true in
-    c.ended-then-not-waits_fit.ensures ∙ bad_waits (start t).pre refl e
+    let e = sym c.waits_fit.ensures ∙ not-true _ c.if-not-waits_fit.true in
+    c.ended-then-not-waits_fit.ensures ∙ bad_waits (start t).requires refl e
 
 slice_bounds-bytes_zero-count : tie.Need-slice_bounds-bytes_zero-count
 slice_bounds-bytes_zero-count c = search rules
@@ -178,7 +178,7 @@ ended-requires-then-not-bytes_zero c κs = search rules
 
 returns-then-not-bytes_zero : tie.Need-returns-then-not-bytes_zero
 returns-then-not-bytes_zero c = let t = five c.before.before.before.before in
-    c.ended-then-not-bytes_zero.ensures ∙ bad_gap (start t).pre (sym c.before.before.bytes_zero.ensures ∙ not-true _ c.before.if-not-bytes_zero.true)
+    c.ended-then-not-bytes_zero.ensures ∙ bad_gap (start t).requires (sym c.bytes_zero.ensures ∙ not-true _ c.if-not-bytes_zero.true)
 
 overflow_add-end : tie.Need-overflow_add-end
 overflow_add-end c = omega (arith, (few (start (seventh c))).1)
@@ -200,7 +200,7 @@ ended-requires-then-not-bytes_zero-2 c κs = search rules
 
 returns-then-not-bytes_zero-2 : tie.Need-returns-then-not-bytes_zero-2
 returns-then-not-bytes_zero-2 c = let t = seventh c.before.before.before.before in
-    c.ended-then-not-bytes_zero-2.ensures ∙ bad_tail (start t).pre (sym (tail_is c.before.before) ∙ not-true _ c.before.if-not-bytes_zero-2.true)
+    c.ended-then-not-bytes_zero-2.ensures ∙ bad_tail (start t).requires (sym (tail_is c.before.before) ∙ not-true _ c.if-not-bytes_zero-2.true)
 
 overflow_cast-result : tie.Need-overflow_cast-result
 overflow_cast-result c = let t = eighth c in
@@ -220,9 +220,9 @@ returns c = let t = eighth c in
     let four = five.before.before in
     let three = four.before.before in
     let two = three.before.before in
-    let bytes = all_bytes s.args.state.now (λ i. omega (arith, t.before.before.before.shared_slice_known-1.given i)) in
+    let bytes = all_bytes s.args.state.now (λ i. omega (arith, t.shared_slice_known-1.given i)) in
     let tail = sym (tail_is c.before) ∙ not-false _ c.if-not-bytes_zero-2.false in
-    all_good s.pre bytes t.before.before.time_at-left.ensures t.before.time_at-last.ensures t.time_at-since.ensures four.before.held_at-again.ensures refl
+    all_good s.requires bytes t.time_at-left.ensures t.time_at-last.ensures t.time_at-since.ensures four.held_at-again.ensures refl
     (bits_good two.before.before) (since_good two) (faultless three) four.if-again.false (waits_good five) (gap_good six) tail
 
 pub load_sized_spec : {M : Type 1} → statement M

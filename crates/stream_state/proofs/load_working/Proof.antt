@@ -38,35 +38,35 @@ abbrev bytes : Tested → List ℕ
 bytes c = (start c).args.state.now
 
 abbrev words : Tested → ℕ
-words c = c.before.before.before.before.before.before.before.time_at-words.result
+words c = c.time_at-words.result
 
 abbrev tracks : Tested → ℕ
-tracks c = c.before.before.before.before.before.before.time_at-tracks.result
+tracks c = c.time_at-tracks.result
 
 abbrev time : Tested → ℕ
-time c = c.before.before.before.before.before.time_at-frame_time.result
+time c = c.time_at-frame_time.result
 
 abbrev crc : Tested → ℕ
-crc c = c.before.before.before.before.time_at-crc.result
+crc c = c.time_at-crc.result
 
 abbrev parity : Tested → ℕ
-parity c = c.before.before.before.time_at-parity.result
+parity c = c.time_at-parity.result
 
 abbrev label : Tested → ℕ
-label c = c.before.before.time_at-label.result
+label c = c.time_at-label.result
 
 abbrev code : Tested → ℕ
-code c = c.before.time_at-code.result
+code c = c.time_at-code.result
 
 seven : (c : Tested) → Seven (bytes c) (words c) (tracks c) (time c) (crc c) (parity c) (label c) (code c)
 seven c = record {
-  first = c.before.before.before.before.before.before.before.time_at-words.ensures;
-  second = c.before.before.before.before.before.before.time_at-tracks.ensures;
-  third = c.before.before.before.before.before.time_at-frame_time.ensures;
-  fourth = c.before.before.before.before.time_at-crc.ensures;
-  fifth = c.before.before.before.time_at-parity.ensures;
-  sixth = c.before.before.time_at-label.ensures;
-  seventh = c.before.time_at-code.ensures;
+  first = c.time_at-words.ensures;
+  second = c.time_at-tracks.ensures;
+  third = c.time_at-frame_time.ensures;
+  fourth = c.time_at-crc.ensures;
+  fifth = c.time_at-parity.ensures;
+  sixth = c.time_at-label.ensures;
+  seventh = c.time_at-code.ensures;
 }
 
 -- they are in their ranges
@@ -88,16 +88,16 @@ good k = k.before.before.before
 abbrev tested : Kinds → Tested
 tested k = (good k).before
 
-low_used : (k : Kinds) → k.before.before.eight_buses-low.result.used ≡ used_in (list (number_at (bytes (tested k))) 20 8)
-low_used k = ap (λ (x : Buses). x.used) k.before.before.eight_buses-low.ensures
+low_used : (k : Kinds) → k.eight_buses-low.result.used ≡ used_in (list (number_at (bytes (tested k))) 20 8)
+low_used k = ap (λ (x : Buses). x.used) k.eight_buses-low.ensures
 
-high_used : (k : Kinds) → k.before.eight_buses-high.result.used ≡ used_in (list (number_at (bytes (tested k))) 28 8)
-high_used k = ap (λ (x : Buses). x.used) k.before.eight_buses-high.ensures
+high_used : (k : Kinds) → k.eight_buses-high.result.used ≡ used_in (list (number_at (bytes (tested k))) 28 8)
+high_used k = ap (λ (x : Buses). x.used) k.eight_buses-high.ensures
 
 kinds_tested : (k : Kinds) → k.both.result ≡ are_kinds (list (number_at (bytes (tested k))) 20 16)
 kinds_tested k =
     k.both.ensures
-    ∙ ap₂ (λ (x y : Buses). x.named && y.named) k.before.before.eight_buses-low.ensures k.before.eight_buses-high.ensures
+    ∙ ap₂ (λ (x y : Buses). x.named && y.named) k.eight_buses-low.ensures k.eight_buses-high.ensures
     ∙ sym (kinds_both (number_at (bytes (tested k))))
 
 time_at-words-requires : tie.Need-time_at-words-requires
@@ -129,7 +129,7 @@ ended-requires c κs = search rules
 
 returns-then-not-plan_named : tie.Need-returns-then-not-plan_named
 returns-then-not-plan_named c = let t = c.before.before in
-    c.ended.ensures ∙ unnamed (seven t) (start t).requires.1 (sym t.plan_named.ensures ∙ not-true _ c.before.if-not-plan_named.true)
+    c.ended.ensures ∙ unnamed (seven t) (start t).requires.1 (sym t.plan_named.ensures ∙ not-true _ c.if-not-plan_named.true)
 
 eight_buses-low-requires : tie.Need-eight_buses-low-requires
 eight_buses-low-requires c κs = search rules
@@ -146,7 +146,7 @@ ended-requires-then-not-both c κs = search rules
 returns-then-not-both : tie.Need-returns-then-not-both
 returns-then-not-both c = let k = c.before.before in
     let t = tested k in
-    c.ended-then-not-both.ensures ∙ unkind (bytes t) (start t).pre.1 (sym (kinds_tested k) ∙ not-true _ c.before.if-not-both.true)
+    c.ended-then-not-both.ensures ∙ unkind (bytes t) (start t).requires.1 (sym (kinds_tested k) ∙ not-true _ c.if-not-both.true)
 
 overflow_cast-words : tie.Need-overflow_cast-words
 overflow_cast-words c = omega (arith, (in_ranges (good c.before)).0)
@@ -182,8 +182,8 @@ load_planned-requires c κs = let f = c.before.before in
     let k = f.before.before in
     let t = tested k in
     let named = sym t.plan_named.ensures ∙ not-false _ (good k).if-not-plan_named.false in
-    let kinds = sym (kinds_tested k) ∙ not-false _ f.before.if-not-both.false in (
-      rw f.plan_from-plan.ensures (planned (seven t) (start t).pre.0 (start t).pre.1 named kinds),
+    let kinds = sym (kinds_tested k) ∙ not-false _ f.if-not-both.false in (
+      rw f.plan_from-plan.ensures (planned (seven t) (start t).requires.0 (start t).requires.1 named kinds),
       ap₂ (λ (n m : ℕ). n + m) (low_used k) (high_used k) ∙ used_both (number_at (bytes t)),
       high_used k,
     )

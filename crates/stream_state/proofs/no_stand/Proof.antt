@@ -14,7 +14,7 @@ nothing-requires : tie.Need-nothing-requires
 nothing-requires c κs = search rules
 
 returns : tie.Need-returns
-returns c = rw (c.before.plan_from.ensures, c.nothing.ensures) refl
+returns c = rw (c.plan_from.ensures, c.nothing.ensures) refl
 
 pub no_stand_spec : {M : Type 1} → statement M
 no_stand_spec = tie.close (tie.spec plan_from-requires nothing-requires returns)

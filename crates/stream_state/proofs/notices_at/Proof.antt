@@ -25,7 +25,7 @@ shape_of-table c = search rules
 returns : tie.Need-returns
 returns c = let r = c.before.before in
     let s = r.before.before.before.before.before in
-    r.read_table.ensures ∙ table_read s.args.state.now s.args.table-1.now s.requires.0 s.requires.1
+    r.read_table.ensures ∙ table_read s.args.state.now s.args.table.now s.requires.0 s.requires.1
 
 pub notices_at_spec : {M : Type 1} → statement M
 notices_at_spec =

@@ -21,7 +21,7 @@ abbrev decreases-loop-index : tie.decreases-loop-index
 decreases-loop-index state first end index₀ index = end - index
 
 loop-index-init : tie.Need-loop-index-init invariant-loop-index decreases-loop-index
-loop-index-init c = (omega arith, c.before.requires.0, c.before.requires.1, refl)
+loop-index-init c = (omega arith, c.requires.0, c.requires.1, refl)
 
 overflow_mul-index : tie.Need-overflow_mul-index invariant-loop-index decreases-loop-index
 overflow_mul-index c = search rules
@@ -30,8 +30,8 @@ time_at-requires : tie.Need-time_at-requires invariant-loop-index decreases-loop
 time_at-requires c κs = search rules
 
 returns-then-time_at-ne0 : tie.Need-returns-then-time_at-ne0 invariant-loop-index decreases-loop-index
-returns-then-time_at-ne0 c = let o = c.before.before.before.loop-index in let a = c.before.before.before.before.before.args in
-    sym (o.invariant.3 ∙ zero_bad (number_at a.state.now) o.index a.end c.before.before.loop-index-test.true (λ z. c.if-time_at-ne0.true (c.before.time_at.ensures ∙ z)))
+returns-then-time_at-ne0 c = let o = c.loop-index in let a = c.args in
+    sym (o.invariant.3 ∙ zero_bad (number_at a.state.now) o.index a.end c.loop-index-test.true (λ z. c.if-time_at-ne0.true (c.time_at.ensures ∙ z)))
 
 overflow_add-index : tie.Need-overflow_add-index invariant-loop-index decreases-loop-index
 overflow_add-index c = search rules
@@ -41,13 +41,13 @@ loop-index-smaller c = search rules
 
 loop-index-preserved : tie.Need-loop-index-preserved invariant-loop-index decreases-loop-index
 loop-index-preserved c = let t = c.before.before in
-    let o = t.before.loop-index in
-    let a = t.before.before.before.args in
-    let e = zero_good (number_at a.state.now) o.index a.end t.loop-index-test.true (sym c.before.time_at.ensures ∙ c.if-time_at-ne0.false) in
+    let o = t.loop-index in
+    let a = t.args in
+    let e = zero_good (number_at a.state.now) o.index a.end t.loop-index-test.true (sym c.time_at.ensures ∙ c.if-time_at-ne0.false) in
     (omega (arith, o.invariant.0), omega (arith, t.loop-index-test.true), o.invariant.2, o.invariant.3 ∙ e)
 
 returns : tie.Need-returns invariant-loop-index decreases-loop-index
-returns c = let o = c.before.loop-index in let a = c.before.before.before.args in
+returns c = let o = c.loop-index in let a = c.args in
     sym (o.invariant.3 ∙ zeros_end (number_at a.state.now) o.index a.end (omega arith))
 
 pub numbers_zero_spec : {M : Type 1} → statement M

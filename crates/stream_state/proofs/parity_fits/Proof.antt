@@ -6,10 +6,10 @@ use Rattle.stream_state.proofs.parity_fits.Reads as reads
 use Rattle.stream_state.proofs.parity_fits.Lts as lts
 
 returns-then-above-eq0 : tie.Need-returns-then-above-eq0
-returns-then-above-eq0 c = rw (c.before.if-parity.true, eq-eqb _ _ c.if-above-eq0.true)
+returns-then-above-eq0 c = rw (c.if-parity.true, eq-eqb _ _ c.if-above-eq0.true)
 
 returns-then-parity : tie.Need-returns-then-parity
-returns-then-parity c = rw (c.before.if-parity.true, ne_eqb _ _ c.if-above-eq0.false)
+returns-then-parity c = rw (c.if-parity.true, ne_eqb _ _ c.if-above-eq0.false)
 
 returns : tie.Need-returns
 returns c = rw c.if-parity.false

@@ -17,10 +17,10 @@ group_words-requires : tie.Need-group_words-requires
 group_words-requires c κs = search rules
 
 overflow_mul-result : tie.Need-overflow_mul-result
-overflow_mul-result c = rw c.group_words.ensures.0 (omega (arith, words_room c.before.before.args.plan c.before.before.requires.0 c.before.before.args.groups c.before.before.requires.1))
+overflow_mul-result c = rw c.group_words.ensures.0 (omega (arith, words_room c.args.plan c.requires.0 c.args.groups c.requires.1))
 
 returns : tie.Need-returns
-returns c = rw (ne_eqb _ _ c.before.if-since-eq0.false, c.group_words.ensures.0) refl
+returns c = rw (ne_eqb _ _ c.if-since-eq0.false, c.group_words.ensures.0) refl
 
 pub place_fits_spec : {M : Type 1} → statement M
 place_fits_spec = tie.close (tie.spec returns-then-since-eq0 group_words-requires overflow_mul-result returns)

@@ -19,7 +19,7 @@ shape_of-bytes c = search rules
 
 returns : tie.Need-returns
 returns c = let s = c.before.before.before.before.before.before in
-    c.before.before.put_times.ensures ∙ row_fills (s.args.count ∷ []) s.args.bytes-1.now 1 refl (sym s.requires) ∙ one_time s.args.count
+    c.put_times.ensures ∙ row_fills (s.args.count ∷ []) s.args.bytes.now 1 refl (sym s.requires) ∙ one_time s.args.count
 
 pub put_count_spec : {M : Type 1} → statement M
 put_count_spec =

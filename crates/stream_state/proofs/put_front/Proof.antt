@@ -97,10 +97,10 @@ returns c = let t = c.before.before.before.before.before.before in
     let table = s.args.table.now in
     let five : length words ≡ 5 = ap length h.held_words-words.ensures ∙ four_long (held_parts (held_of x.held)) in
     let sixteen : length numbers ≡ 16 = ap length k.kind_numbers-numbers.ensures ∙ length-map s.args.kinds kind_number ∙ s.requires.2 in
-    let stood = front_part 120 _ (front_none s.args.bytes-1.now) (length_times (stand_row x)) (omega (arith, s.requires.0)) refl p.put_stand.ensures in
+    let stood = front_part 120 _ (front_none s.args.bytes.now) (length_times (stand_row x)) (omega (arith, s.requires.0)) refl p.put_stand.ensures in
     let held = put_row 40 5 words five refl stood (omega (arith, s.requires.0)) refl u.put_times.ensures in
     let kinds = put_row 128 16 numbers sixteen refl held (omega (arith, s.requires.0)) refl t.put_times-2.ensures in
-    let all = put_row 512 64 table s.requires.1 refl kinds (omega (arith, s.requires.0)) refl c.before.before.put_table.ensures in
+    let all = put_row 512 64 table s.requires.1 refl kinds (omega (arith, s.requires.0)) refl c.put_table.ensures in
     all_put all s.requires.0
     ∙ rw (h.held_words-words.ensures, k.kind_numbers-numbers.ensures) (rows_joined (stand_row x) (four_words (held_parts (held_of x.held))) (map kind_number s.args.kinds) table)
 

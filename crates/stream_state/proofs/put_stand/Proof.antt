@@ -42,9 +42,9 @@ shape_of-bytes c = search rules
 returns : tie.Need-returns
 returns c = let s = c.before.before.before.before.before.before.before.before.before.before.before.before.before.before in
     let f = c.before.before.before.before.before.before.before.before.before in
-    c.before.before.put_times.ensures
-    ∙ rw (f.before.before.flag-frame_time.ensures, f.before.flag-crc.ensures, f.flag-parity.ensures)
-    (row_fills (stand_row s.args.stand) s.args.bytes-1.now 15 refl (sym s.requires))
+    c.put_times.ensures
+    ∙ rw (f.flag-frame_time.ensures, f.flag-crc.ensures, f.flag-parity.ensures)
+    (row_fills (stand_row s.args.stand) s.args.bytes.now 15 refl (sym s.requires))
 
 pub put_stand_spec : {M : Type 1} → statement M
 put_stand_spec =

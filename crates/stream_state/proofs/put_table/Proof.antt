@@ -21,8 +21,8 @@ shape_of-bytes-then-none_waits c = search rules
 returns-then-none_waits : tie.Need-returns-then-none_waits
 returns-then-none_waits c = let s = c.before.before.before.before.before.before.before.before in
     let t = c.before.before.before.before in
-    c.before.before.clear.ensures
-    ∙ zeros_stored s.args.table.now s.args.bytes-1.now s.requires.0 s.requires.1 (sym t.before.none_waits.ensures ∙ t.if-none_waits.true)
+    c.clear.ensures
+    ∙ zeros_stored s.args.table.now s.args.bytes.now s.requires.0 s.requires.1 (sym t.none_waits.ensures ∙ t.if-none_waits.true)
 
 put_times-requires : tie.Need-put_times-requires
 put_times-requires c κs = search rules

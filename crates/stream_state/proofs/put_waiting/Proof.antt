@@ -70,15 +70,15 @@ shape_of-bytes c = search rules
 
 returns : tie.Need-returns
 returns c = let s = c.before.before.before.before.before.before.before.before.before.before.before.before.before.before.before.before.before.before in
-    let d = s.args.bytes-1.now in
+    let d = s.args.bytes.now in
     let v = s.args.waiting.now in
     let cleared = c.before.before.before.before.before.before in
     let counted = cleared.before.before.before.before.before.before.before.before in
     let count = front_part 8 _ (front_none d) (length_time (length v)) (omega (arith, s.requires.0)) refl counted.put_count.ensures in
-    let gap = put_zeros 216 count (omega (arith, s.requires.0)) refl cleared.before.before.before.before.clear.ensures in
+    let gap = put_zeros 216 count (omega (arith, s.requires.0)) refl cleared.clear.ensures in
     let k : 224 + length v - 224 ≡ length v = omega arith in
     let bytes = front_part {n = 224 + length v} (224 + length v - 224) v gap (sym k) (omega (arith, s.requires.0, s.requires.1)) (omega arith) cleared.copy.ensures in
-    let rest = put_zeros {n = 6368} (6368 - (224 + length v)) bytes (omega (arith, s.requires.0, s.requires.1)) (omega (arith, s.requires.1)) c.before.before.clear-2.ensures in
+    let rest = put_zeros {n = 6368} (6368 - (224 + length v)) bytes (omega (arith, s.requires.0, s.requires.1)) (omega (arith, s.requires.1)) c.clear-2.ensures in
     all_put rest s.requires.0 ∙ waiting_put v (length v) (6368 - (224 + length v)) refl (omega arith)
 
 pub put_waiting_spec : {M : Type 1} → statement M

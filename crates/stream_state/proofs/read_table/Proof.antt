@@ -21,8 +21,8 @@ shape_of-table-then-bytes_zero c = search rules
 returns-then-bytes_zero : tie.Need-returns-then-bytes_zero
 returns-then-bytes_zero c = let s = c.before.before.before.before.before.before.before.before in
     let t = c.before.before.before.before in
-    c.before.before.clear_table.ensures
-    ∙ zero_table s.args.bytes.now s.args.table-1.now s.requires.0 s.requires.1 (sym t.before.bytes_zero.ensures ∙ t.if-bytes_zero.true)
+    c.clear_table.ensures
+    ∙ zero_table s.args.bytes.now s.args.table.now s.requires.0 s.requires.1 (sym t.bytes_zero.ensures ∙ t.if-bytes_zero.true)
 
 times_from-requires : tie.Need-times_from-requires
 times_from-requires c κs = search rules

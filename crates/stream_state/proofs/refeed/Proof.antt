@@ -50,13 +50,13 @@ abbrev at : Read → ℕ → ℕ
 at c = number_at (start c).args.state.now
 
 abbrev index : Read → ℕ
-index c = c.before.before.loop-index.index
+index c = c.loop-index.index
 
 abbrev holding : Read → Held
-holding c = held_of c.before.before.loop-index.held-1
+holding c = held_of c.loop-index.held-1
 
 less : (c : Read) → index c < (start c).args.count
-less c = c.before.loop-index-test.true
+less c = c.loop-index-test.true
 
 word_is : (c : Read) → at c (16 + index c) ≡ c.time_at-word.result
 word_is c =
@@ -70,7 +70,7 @@ abbrev read : Fed-one → Read
 read c = c.before.before
 
 small : (c : Fed-one) → at (read c) (16 + index (read c)) < 2 ^ 24
-small c = omega (arith, word_is (read c), c.before.if-word-ge16777216.false)
+small c = omega (arith, word_is (read c), c.if-word-ge16777216.false)
 
 abbrev feeding : Fed-one → ℕ → Fed
 feeding c w = feed (start (read c)).args.kinds (holding (read c)) (bus_of false w) (label_of w) (info_of w)
@@ -79,11 +79,11 @@ means : (c : Fed-one) → Means (feeding c (at (read c) (16 + index (read c)))) 
 unfolding bus_of label_of info_of
 means c =
     let w = (read c).time_at-word.result in
-    let l : w < 2 ^ 24 = omega (arith, c.before.if-word-ge16777216.false) in
-    let s : Sane (read c).before.before.loop-index.held-1 = (read c).before.before.loop-index.invariant.3 in
+    let l : w < 2 ^ 24 = omega (arith, c.if-word-ge16777216.false) in
+    let s : Sane (read c).loop-index.held-1 = (read c).loop-index.invariant.3 in
     subst (λ (v : ℕ). Means (feeding c v) c.feed-step.result) (sym (word_is (read c)))
     (subst (λ (r : Step). Means (feeding c w) r) (sym c.feed-step.ensures)
-    (feed_means (start (read c)).args.kinds (read c).before.before.loop-index.held-1 (w / 2 ^ 20) (w / 2 ^ 16 % 16) (w % 2 ^ 16) s (omega arith) (omega arith) (omega arith)))
+    (feed_means (start (read c)).args.kinds (read c).loop-index.held-1 (w / 2 ^ 20) (w / 2 ^ 16 % 16) (w % 2 ^ 16) s (omega arith) (omega arith) (omega arith)))
 
 -- what is held, handed over
 abbrev keeping : Holding → Again
@@ -92,7 +92,7 @@ keeping g = record { bad = false; held = g }
 -- the words come to nothing
 fails : (c : Read) → again (start c).args.kinds (holding c) (list (at c) (16 + index c) ((start c).args.count - index c)) ≡ bad
     → again_from bad ≡ again_from (again (start c).args.kinds Nothing (list (at c) 16 (start c).args.count))
-fails c e = ap again_from (sym (c.before.before.loop-index.invariant.4 ∙ e))
+fails c e = ap again_from (sym (c.loop-index.invariant.4 ∙ e))
 
 fails_fed : (c : Fed-one) → ((go : Held → Fed) → only_held (feeding c (at (read c) (16 + index (read c)))) go ≡ bad)
     → again_from bad ≡ again_from (again (start (read c)).args.kinds Nothing (list (at (read c)) 16 (start (read c)).args.count))
@@ -104,11 +104,11 @@ nothing-held-requires : tie.Need-nothing-held-requires invariant-loop-index decr
 nothing-held-requires c κs = search rules
 
 loop-index-init : tie.Need-loop-index-init invariant-loop-index decreases-loop-index
-loop-index-init c = let a = c.before.before.args in
+loop-index-init c = let a = c.args in
     let z : a.count ≡ a.count - 0 = omega arith in
     let h : held_of c.nothing-held.result ≡ Nothing = ap held_of c.nothing-held.ensures ∙ nothing_is_held in
     let sane = subst Sane (sym c.nothing-held.ensures) nothing_is_sane in
-    (omega arith, c.before.before.requires.1, c.before.before.requires.0, sane, ap₂ (λ (k : Held) (n : ℕ). again a.kinds k (list (number_at a.state.now) 16 n)) (sym h) z)
+    (omega arith, c.requires.1, c.requires.0, sane, ap₂ (λ (k : Held) (n : ℕ). again a.kinds k (list (number_at a.state.now) 16 n)) (sym h) z)
 
 overflow_mul-index : tie.Need-overflow_mul-index invariant-loop-index decreases-loop-index
 overflow_mul-index c = search rules
@@ -125,7 +125,7 @@ lost-requires c κs = search rules
 returns-then-word-ge16777216 : tie.Need-returns-then-word-ge16777216 invariant-loop-index decreases-loop-index
 returns-then-word-ge16777216 c = let r = c.before.before in
     c.lost.ensures
-    ∙ fails r (too_wide (start r).args.kinds (holding r) (at r) (index r) (start r).args.count (less r) (omega (arith, word_is r, c.before.if-word-ge16777216.true)))
+    ∙ fails r (too_wide (start r).args.kinds (holding r) (at r) (index r) (start r).args.count (less r) (omega (arith, word_is r, c.if-word-ge16777216.true)))
 
 overflow_cast-bus : tie.Need-overflow_cast-bus invariant-loop-index decreases-loop-index
 overflow_cast-bus c = search rules
@@ -137,28 +137,28 @@ overflow_cast-information : tie.Need-overflow_cast-information invariant-loop-in
 overflow_cast-information c = search rules
 
 feed-step-requires : tie.Need-feed-step-requires invariant-loop-index decreases-loop-index
-feed-step-requires c κs = ((omega (arith, c.if-word-ge16777216.false), omega arith, omega arith), c.before.before.before.loop-index.invariant.3)
+feed-step-requires c κs = ((omega (arith, c.if-word-ge16777216.false), omega arith, omega arith), c.loop-index.invariant.3)
 
 lost-requires-then-step : tie.Need-lost-requires-then-step invariant-loop-index decreases-loop-index
 lost-requires-then-step c κs = search rules
 
 returns-then-step : tie.Need-returns-then-step invariant-loop-index decreases-loop-index
 returns-then-step c = let f = c.before.before in
-    c.lost-then-step.ensures ∙ fails_fed f (λ go. ends_bad (feeding f (at (read f) (16 + index (read f)))) f.feed-step.result go (means f) c.before.if-step.true)
+    c.lost-then-step.ensures ∙ fails_fed f (λ go. ends_bad (feeding f (at (read f) (16 + index (read f)))) f.feed-step.result go (means f) c.if-step.true)
 
 lost-requires-then-step-ne0 : tie.Need-lost-requires-then-step-ne0 invariant-loop-index decreases-loop-index
 lost-requires-then-step-ne0 c κs = search rules
 
 returns-then-step-ne0 : tie.Need-returns-then-step-ne0 invariant-loop-index decreases-loop-index
 returns-then-step-ne0 c = let f = c.before.before.before.before in
-    c.lost-then-step-ne0.ensures ∙ fails_fed f (λ go. ends_item (feeding f (at (read f) (16 + index (read f)))) f.feed-step.result go (means f) (λ e. absurd (c.before.if-step-ne0.true (omega (arith, e)))))
+    c.lost-then-step-ne0.ensures ∙ fails_fed f (λ go. ends_item (feeding f (at (read f) (16 + index (read f)))) f.feed-step.result go (means f) (λ e. absurd (c.if-step-ne0.true (omega (arith, e)))))
 
 lost-requires-then-step-ne0-2 : tie.Need-lost-requires-then-step-ne0-2 invariant-loop-index decreases-loop-index
 lost-requires-then-step-ne0-2 c κs = search rules
 
 returns-then-step-ne0-2 : tie.Need-returns-then-step-ne0-2 invariant-loop-index decreases-loop-index
 returns-then-step-ne0-2 c = let f = c.before.before.before.before.before.before in
-    c.lost-then-step-ne0-2.ensures ∙ fails_fed f (λ go. ends_item (feeding f (at (read f) (16 + index (read f)))) f.feed-step.result go (means f) (λ e. absurd (c.before.if-step-ne0-2.true (omega (arith, e)))))
+    c.lost-then-step-ne0-2.ensures ∙ fails_fed f (λ go. ends_item (feeding f (at (read f) (16 + index (read f)))) f.feed-step.result go (means f) (λ e. absurd (c.if-step-ne0-2.true (omega (arith, e)))))
 
 overflow_add-index-in-loop-index : tie.Need-overflow_add-index-in-loop-index invariant-loop-index decreases-loop-index
 overflow_add-index-in-loop-index c = search rules
@@ -169,22 +169,22 @@ loop-index-smaller c = search rules
 loop-index-preserved : tie.Need-loop-index-preserved invariant-loop-index decreases-loop-index
 loop-index-preserved c = let f = c.before.before.before.before.before.before in
     let r = read f in
-    let o = r.before.before.loop-index in
+    let o = r.loop-index in
     let t = c.before.before.before in
-    let g = goes_on (feeding f (at r (16 + index r))) f.feed-step.result (means f) t.before.before.if-step.false t.if-step-ne0.false c.before.if-step-ne0-2.false in (
+    let g = goes_on (feeding f (at r (16 + index r))) f.feed-step.result (means f) t.if-step.false t.if-step-ne0.false c.if-step-ne0-2.false in (
       omega (arith, less r),
-      o.inv.1,
-      o.inv.2,
+      o.invariant.1,
+      o.invariant.2,
       g.1,
-      o.inv.4 ∙ fed_on_lem (start r).args.kinds (holding r) (at r) (index r) (start r).args.count (less r) (held_of f.feed-step.result.held-1) (small f) g.0,
+      o.invariant.4 ∙ fed_on_lem (start r).args.kinds (holding r) (at r) (index r) (start r).args.count (less r) (held_of f.feed-step.result.held-1) (small f) g.0,
     )
 
 kept-requires : tie.Need-kept-requires invariant-loop-index decreases-loop-index
 kept-requires c κs = search rules
 
 returns : tie.Need-returns invariant-loop-index decreases-loop-index
-returns c = let o = c.before.before.loop-index in
-    let a = c.before.before.before.before.before.args in
+returns c = let o = c.loop-index in
+    let a = c.args in
     c.kept.ensures
     ∙ (rw (o.invariant.4, again_end a.kinds (held_of o.held-1) (number_at a.state.now) o.index a.count (omega arith)) (ap keeping o.invariant.3.is))
 

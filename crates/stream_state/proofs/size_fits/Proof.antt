@@ -18,26 +18,26 @@ overflow_mul-size : tie.Need-overflow_mul-size
 overflow_mul-size c = search rules
 
 returns-then-size-waiting : tie.Need-returns-then-size-waiting
-returns-then-size-waiting c = let a = c.before.before.args in rw (le-ltb a.waiting (group_size a.plan) (omega (arith, c.if-size-waiting.true, c.before.group_words.ensures.0))) refl
+returns-then-size-waiting c = let a = c.args in rw (le-ltb a.waiting (group_size a.plan) (omega (arith, c.if-size-waiting.true, c.group_words.ensures.0))) refl
 
 returns-then-groups-gt1099511627776 : tie.Need-returns-then-groups-gt1099511627776
 returns-then-groups-gt1099511627776 c = let s = c.before.before.before in
     let a = s.args in
-    let few : a.waiting < group_size a.plan = omega (arith, c.before.if-size-waiting.false, c.before.before.group_words.ensures.0) in
+    let few : a.waiting < group_size a.plan = omega (arith, c.if-size-waiting.false, c.group_words.ensures.0) in
     rw (lt-ltb a.waiting (group_size a.plan) few, size_over a.plan s.requires a.groups a.waiting c.if-groups-gt1099511627776.true) refl
 
 overflow_mul-result : tie.Need-overflow_mul-result
-overflow_mul-result c = let s = c.before.before.before in rw c.before.before.group_words.ensures.0 (omega (arith, words_room s.args.plan s.requires s.args.groups c.if-groups-gt1099511627776.false))
+overflow_mul-result c = let s = c.before.before.before in rw c.group_words.ensures.0 (omega (arith, words_room s.args.plan s.requires s.args.groups c.if-groups-gt1099511627776.false))
 
 overflow_add-result : tie.Need-overflow_add-result
 overflow_add-result c = let s = c.before.before.before in
     let p = s.args.plan in
-    let words = c.before.before.group_words.ensures.0 in
-    rw words (omega (arith, words_room p s.requires s.args.groups c.if-groups-gt1099511627776.false, size_most p s.requires, c.before.if-size-waiting.false, words))
+    let words = c.group_words.ensures.0 in
+    rw words (omega (arith, words_room p s.requires s.args.groups c.if-groups-gt1099511627776.false, size_most p s.requires, c.if-size-waiting.false, words))
 
 returns : tie.Need-returns
-returns c = let a = c.before.before.before.args in
-    rw (lt-ltb a.waiting (group_size a.plan) (omega (arith, c.before.if-size-waiting.false, c.before.before.group_words.ensures.0)), c.before.before.group_words.ensures.0) refl
+returns c = let a = c.args in
+    rw (lt-ltb a.waiting (group_size a.plan) (omega (arith, c.if-size-waiting.false, c.group_words.ensures.0)), c.group_words.ensures.0) refl
 
 pub size_fits_spec : {M : Type 1} → statement M
 size_fits_spec =

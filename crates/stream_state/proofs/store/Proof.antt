@@ -33,9 +33,9 @@ kinded s = sixteen (work s) s.requires.1.fit
 abbrev numbers : tie.Start → List ℕ
 numbers s = flat_map time_bytes (front_row s.args.kinds s.args.stand s.args.table.now)
 
-numbered : (s : tie.Start) {ys : List ℕ} → ys ≡ numbers s → Front ([] ++ numbers s) s.args.state-1.now (put_mid 0 800 s.args.state-1.now ys) 800
+numbered : (s : tie.Start) {ys : List ℕ} → ys ≡ numbers s → Front ([] ++ numbers s) s.args.state.now (put_mid 0 800 s.args.state.now ys) 800
 numbered s e =
-    front_part 800 (numbers s) (front_none s.args.state-1.now) (front_row_long s.args.kinds s.args.stand s.args.table.now (kinded s) (tabled s)) (omega (arith, s.requires.0)) refl e
+    front_part 800 (numbers s) (front_none s.args.state.now) (front_row_long s.args.kinds s.args.stand s.args.table.now (kinded s) (tabled s)) (omega (arith, s.requires.0)) refl e
 
 slice_bounds-put_front-count : tie.Need-slice_bounds-put_front-count
 slice_bounds-put_front-count c = search rules
@@ -48,7 +48,7 @@ slice_bounds-put_front-end c = search rules
 
 put_front-requires : tie.Need-put_front-requires
 put_front-requires c κs = let s = c.before.before.before.before in
-    (part_long 800 (front_none s.args.state-1.now) (omega (arith, s.requires.0)), tabled s, kinded s, s.requires.1.held)
+    (part_long 800 (front_none s.args.state.now) (omega (arith, s.requires.0)), tabled s, kinded s, s.requires.1.held)
 
 slice_bounds-put_waiting-count : tie.Need-slice_bounds-put_waiting-count
 slice_bounds-put_waiting-count c = search rules
@@ -62,7 +62,7 @@ slice_bounds-put_waiting-end c = search rules
 put_waiting-requires : tie.Need-put_waiting-requires
 put_waiting-requires c κs = let s = c.before.before.before.before.before.before.before.before in
     let few = rest_few s.args.kinds s.args.stand s.args.table.now s.args.rest.now s.requires.1 in
-    (part_long 6368 (numbered s c.before.before.before.put_front.ensures) (omega (arith, s.requires.0)), few)
+    (part_long 6368 (numbered s c.put_front.ensures) (omega (arith, s.requires.0)), few)
 
 shape_of-state : tie.Need-shape_of-state
 shape_of-state c = search rules
@@ -70,8 +70,8 @@ shape_of-state c = search rules
 returns : tie.Need-returns
 returns c = let s = c.before.before.before.before.before.before.before.before.before.before.before in
     let few = rest_few s.args.kinds s.args.stand s.args.table.now s.args.rest.now s.requires.1 in
-    let front = numbered s c.before.before.before.before.before.before.put_front.ensures in
-    let all = front_part 6368 _ front (waiting_long s.args.rest.now few) (omega (arith, s.requires.0)) refl c.before.before.put_waiting.ensures in
+    let front = numbered s c.put_front.ensures in
+    let all = front_part 6368 _ front (waiting_long s.args.rest.now few) (omega (arith, s.requires.0)) refl c.put_waiting.ensures in
     all_put all s.requires.0 ∙ stand_bytes s.args.kinds s.args.stand s.args.table.now s.args.rest.now s.requires.1
 
 pub store_spec : {M : Type 1} → statement M

@@ -27,7 +27,7 @@ shape_of-state c = search rules
 
 returns : tie.Need-returns
 returns c = let s = c.before.before.before.before.before in
-    all_put (put_zeros {n = 7168} 7168 (front_none s.args.state-1.now) (omega (arith, s.requires)) refl c.before.before.clear.ensures) s.requires ∙ closed_bytes
+    all_put (put_zeros {n = 7168} 7168 (front_none s.args.state.now) (omega (arith, s.requires)) refl c.clear.ensures) s.requires ∙ closed_bytes
 
 pub store_closed_spec : {M : Type 1} → statement M
 store_closed_spec =

@@ -21,15 +21,15 @@ slice_bounds-store-end-2 c = search rules
 
 store-requires : tie.Need-store-requires
 store-requires c κs = let s = c.before.before.before.before.before in
-    (s.requires.0, fresh_storable s.args.plan s.args.kinds c.before.before.before.nothing.result c.before.before.before.nothing.ensures s.requires.1 s.requires.2)
+    (s.requires.0, fresh_storable s.args.plan s.args.kinds c.nothing.result c.nothing.ensures s.requires.1 s.requires.2)
 
 shape_of-state : tie.Need-shape_of-state
 shape_of-state c = search rules
 
 returns : tie.Need-returns
 returns c = let s = c.before.before.before.before.before.before.before.before in
-    let n = c.before.before.before.before.before.before.nothing in
-    c.before.before.store.ensures ∙ ap (λ (w : Working). state_bytes (working w)) (fresh_is s.args.plan s.args.kinds n.result n.ensures)
+    let n = c.nothing in
+    c.store.ensures ∙ ap (λ (w : Working). state_bytes (working w)) (fresh_is s.args.plan s.args.kinds n.result n.ensures)
 
 pub store_open_spec : {M : Type 1} → statement M
 store_open_spec =

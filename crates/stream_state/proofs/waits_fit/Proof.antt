@@ -28,7 +28,7 @@ few_zero-requires c κs = search rules
 returns-then-few_zero : tie.Need-returns-then-few_zero
 returns-then-few_zero c = let s = c.before.before.before.before in
     let b = s.args.state.now in
-    let z = sym c.before.few_zero.ensures ∙ c.if-few_zero.true in
+    let z = sym c.few_zero.ensures ∙ c.if-few_zero.true in
     sym (none_wait s.args.plan (kinds_at b) s.args.groups 0 (list (number_at b) 36 64) (zero_numbers b 36 64 s.requires.2 (omega arith) z))
 
 each_fits-requires : tie.Need-each_fits-requires

@@ -20,7 +20,7 @@ abbrev decreases-loop-index : tie.decreases-loop-index
 decreases-loop-index table end lead last kinds index₀ index = 64 - index
 
 loop-index-init : tie.Need-loop-index-init invariant-loop-index decreases-loop-index
-loop-index-init c = (omega arith, c.before.requires, refl)
+loop-index-init c = (omega arith, c.requires, refl)
 
 bounds-kinds-index : tie.Need-bounds-kinds-index invariant-loop-index decreases-loop-index
 bounds-kinds-index c = search rules
@@ -36,10 +36,10 @@ wait_fits-requires c κs = search rules
 
 returns-then-not-wait_fits : tie.Need-returns-then-not-wait_fits invariant-loop-index decreases-loop-index
 returns-then-not-wait_fits c = let t = c.before.before.before.before in
-    let o = t.before.loop-index in
-    let a = t.before.before.before.args in
-    let e = sym c.before.wait_fits.ensures ∙ not-true _ c.if-not-wait_fits.true in
-    sym (o.invariant.2 ∙ wait_bad a.t2 a.end a.lead a.last a.table.now o.index (omega (arith, o.invariant.1, t.loop-index-test.true)) e)
+    let o = t.loop-index in
+    let a = t.args in
+    let e = sym c.wait_fits.ensures ∙ not-true _ c.if-not-wait_fits.true in
+    sym (o.invariant.2 ∙ wait_bad a.kinds a.end a.lead a.last a.table.now o.index (omega (arith, o.invariant.1, t.loop-index-test.true)) e)
 
 overflow_add-index : tie.Need-overflow_add-index invariant-loop-index decreases-loop-index
 overflow_add-index c = search rules
@@ -49,18 +49,18 @@ loop-index-smaller c = search rules
 
 loop-index-preserved : tie.Need-loop-index-preserved invariant-loop-index decreases-loop-index
 loop-index-preserved c = let t = c.before.before.before.before in
-    let o = t.before.loop-index in
-    let a = t.before.before.before.args in
-    let e = sym c.before.wait_fits.ensures ∙ not-false _ c.if-not-wait_fits.false in (
+    let o = t.loop-index in
+    let a = t.args in
+    let e = sym c.wait_fits.ensures ∙ not-false _ c.if-not-wait_fits.false in (
       omega (arith, t.loop-index-test.true),
       o.invariant.1,
-      o.invariant.2 ∙ wait_good a.t2 a.end a.lead a.last a.table.now o.index (omega (arith, o.invariant.1, t.loop-index-test.true)) e,
+      o.invariant.2 ∙ wait_good a.kinds a.end a.lead a.last a.table.now o.index (omega (arith, o.invariant.1, t.loop-index-test.true)) e,
     )
 
 returns : tie.Need-returns invariant-loop-index decreases-loop-index
-returns c = let o = c.before.loop-index in
-    let a = c.before.before.before.args in
-    sym (o.invariant.2 ∙ waits_end a.t2 a.end a.lead a.last a.table.now o.index (omega arith))
+returns c = let o = c.loop-index in
+    let a = c.args in
+    sym (o.invariant.2 ∙ waits_end a.kinds a.end a.lead a.last a.table.now o.index (omega arith))
 
 pub waits_in_spec : {M : Type 1} → statement M
 waits_in_spec =

@@ -9,7 +9,7 @@ shape_of-out : tie.Need-shape_of-out
 shape_of-out c = search rules
 
 returns : tie.Need-returns
-returns c = c.before.before.join.ensures
+returns c = c.join.ensures
 
 pub vin_join_spec : {M : Type 1} → statement M
 vin_join_spec =

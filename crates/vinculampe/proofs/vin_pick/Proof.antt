@@ -9,7 +9,7 @@ shape_of-out : tie.Need-shape_of-out
 shape_of-out c = search rules
 
 returns : tie.Need-returns
-returns c = c.before.before.pick.ensures
+returns c = c.pick.ensures
 
 pub vin_pick_spec : {M : Type 1} → statement M
 vin_pick_spec =

@@ -12,7 +12,7 @@ shape_of-times : tie.Need-shape_of-times
 shape_of-times c = search rules
 
 returns : tie.Need-returns
-returns c = c.before.before.before.before.read_from.ensures
+returns c = c.read_from.ensures
 
 pub vin_read_closed_spec : {M : Type 1} → statement M
 vin_read_closed_spec = tie.close (tie.spec read_from-requires shape_of-log shape_of-times returns)

@@ -9,7 +9,7 @@ shape_of-out : tie.Need-shape_of-out
 shape_of-out c = search rules
 
 returns : tie.Need-returns
-returns c = c.before.before.replay.ensures
+returns c = c.replay.ensures
 
 pub vin_replay_spec : {M : Type 1} → statement M
 vin_replay_spec = tie.close (tie.spec replay-requires shape_of-out returns)

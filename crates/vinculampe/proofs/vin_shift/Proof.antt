@@ -16,7 +16,7 @@ shape_of-out : tie.Need-shape_of-out
 shape_of-out c = search rules
 
 returns : tie.Need-returns
-returns c = rw (to_z-of_z c.before.before.before.before.before.before.before.before.before.before.ranges.microseconds) at c.before.before.before.before.shift.ensures
+returns c = rw (to_z-of_z c.ranges.microseconds) at c.shift.ensures
 
 pub vin_shift_spec : {M : Type 1} → statement M
 vin_shift_spec = tie.close (tie.spec shift-requires shape_of-times shape_of-out returns)

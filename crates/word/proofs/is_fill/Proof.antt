@@ -12,11 +12,11 @@ information_of-requires c κs = search rules
 
 returns-then-label_of-eq1 : tie.Need-returns-then-label_of-eq1
 unfolding is_fill
-returns-then-label_of-eq1 c = rw (← c.before.before.label_of.ensures, ← c.information_of.ensures, eq-eqb _ _ c.before.if-label_of-eq1.true)
+returns-then-label_of-eq1 c = rw (← c.label_of.ensures, ← c.information_of.ensures, eq-eqb _ _ c.if-label_of-eq1.true)
 
 returns-else-label_of-eq1 : tie.Need-returns-else-label_of-eq1
 unfolding is_fill
-returns-else-label_of-eq1 c = rw (← c.before.label_of.ensures, ne_eqb _ _ c.if-label_of-eq1.false)
+returns-else-label_of-eq1 c = rw (← c.label_of.ensures, ne_eqb _ _ c.if-label_of-eq1.false)
 
 pub is_fill_spec : {M : Type 1} → statement M
 is_fill_spec = tie.close (tie.spec label_of-requires information_of-requires returns-then-label_of-eq1 returns-else-label_of-eq1)

@@ -11,11 +11,11 @@ overflow_add-result c = search rules
 
 returns-then-is_odd : tie.Need-returns-then-is_odd
 unfolding sent
-returns-then-is_odd c = rw (c.before.before.if-parity.true, ← c.before.is_odd.ensures, c.if-is_odd.true)
+returns-then-is_odd c = rw (c.if-parity.true, ← c.is_odd.ensures, c.if-is_odd.true)
 
 returns-else-is_odd : tie.Need-returns-else-is_odd
 unfolding sent
-returns-else-is_odd c = rw (c.before.before.if-parity.true, ← c.before.is_odd.ensures, c.if-is_odd.false)
+returns-else-is_odd c = rw (c.if-parity.true, ← c.is_odd.ensures, c.if-is_odd.false)
 
 returns-else-parity : tie.Need-returns-else-parity
 unfolding sent

@@ -257,6 +257,7 @@ pub data Behind (size : ℕ) : Fault → Got → Type 0 where
 before_behind : (size : ℕ) (f : Fault) (is : List Item) (r : Got) → Behind size f r → Behind size f (before is r)
 before_behind size none is r b = clear
 before_behind size (found k q) is (stopped k' q' r) b = b
+before_behind size (found k q) is (got _) b = elim b [ ]
 
 abbrev Over : ℕ → Fault → Type 0
 Over lo none = Unit {0}
@@ -384,6 +385,7 @@ log_given p times log times' (refuses k q r) e = no_gives e
 
 met_none : {A : Type 0} {size k q second : ℕ} {log times : List ℕ} (r : Reading) → Meets size k q second r → r ≡ gives log times → A
 met_none (refuses k q r) m e = no_gives e
+met_none {A = A} {size = size} {k = k} {q = q} {second = second} {log = log} {times = times} (gives _ _) m e = elim m [ ]
 
 -- the second operation gives no times
 abbrev Rowless : Reading → Type 0

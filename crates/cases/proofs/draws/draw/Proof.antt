@@ -12,7 +12,7 @@ nonzero_rem-result : tie.Need-nonzero_rem-result
 nonzero_rem-result c = search rules
 
 overflow_cast-result-2 : tie.Need-overflow_cast-result-2
-overflow_cast-result-2 c = let h = mod-lt ((c.before.args.seed.now % 2147483647) * 48271 % 2147483647) {m = c.before.args.below} (omega arith) in omega (arith, h)
+overflow_cast-result-2 c = let h = mod-lt ((c.args.seed.now % 2147483647) * 48271 % 2147483647) {m = c.args.below} (omega arith) in omega (arith, h)
 
 returns : tie.Need-returns
 returns c = mod-lt _ (omega arith)

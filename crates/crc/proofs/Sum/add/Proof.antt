@@ -27,7 +27,7 @@ returns c =
     let r = s.args.self.rest in
     let o = s.args.self.ones in
     let w = s.args.word in
-    let e = c.before.fold.ensures in
+    let e = c.fold.ensures in
     record {
       small = (rw e (folded_low (bit_xor (far r) w) (met_low r w s.requires.0.0 s.requires.1)), xor_lt 24 o w s.requires.0.1 s.requires.1);
       check = ap (λ (n : ℕ). made n (bit_xor o w)) e ∙ one_more r o w s.requires.0.0 s.requires.1;

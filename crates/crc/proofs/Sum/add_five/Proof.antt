@@ -13,7 +13,7 @@ overflow_mul-rest : tie.Need-overflow_mul-rest
 overflow_mul-rest c = search rules
 
 fold-requires : tie.Need-fold-requires
-fold-requires c κs = met_five_low c.before.args.self.rest c.before.args.five.rest c.before.requires.0.0 c.before.requires.1.0
+fold-requires c κs = met_five_low c.args.self.rest c.args.five.rest c.requires.0.0 c.requires.1.0
 
 returns : tie.Need-returns
 unfolding check_of_sum
@@ -23,7 +23,7 @@ returns c =
     let o = s.args.self.ones in
     let f = s.args.five.rest in
     let p = s.args.five.ones in
-    let e = c.before.before.fold.ensures in (
+    let e = c.fold.ensures in (
       (rw e (folded_low (bit_xor (past r) f) (met_five_low r f s.requires.0.0 s.requires.1.0)), xor_lt 24 o p s.requires.0.1 s.requires.1.1),
       ap (λ (n : ℕ). made n (bit_xor o p)) e ∙ five_more r o f p s.requires.0.0 s.requires.1.0,
     )

@@ -27,36 +27,36 @@ start-requires : tie.Need-start-requires invariant-loop-left decreases-loop-left
 start-requires c κs = search rules
 
 add-requires : tie.Need-add-requires invariant-loop-left decreases-loop-left invariant-loop-left-2 decreases-loop-left-2
-add-requires c κs = (c.start.ensures.small, c.before.requires.1)
+add-requires c κs = (c.start.ensures.small, c.requires.1)
 
 add_two-requires : tie.Need-add_two-requires invariant-loop-left decreases-loop-left invariant-loop-left-2 decreases-loop-left-2
-add_two-requires c κs = (c.add.ensures.small, c.before.before.requires.1, c.before.before.requires.1)
+add_two-requires c κs = (c.add.ensures.small, c.requires.1, c.requires.1)
 
 add_two-five-requires : tie.Need-add_two-five-requires invariant-loop-left decreases-loop-left invariant-loop-left-2 decreases-loop-left-2
-add_two-five-requires c κs = (c.add_two.ensures.small, c.before.before.before.requires.1, c.before.before.before.requires.1)
+add_two-five-requires c κs = (c.add_two.ensures.small, c.requires.1, c.requires.1)
 
 -- what five of the word make
-five_is : (c : tie.After-add_two-five invariant-loop-left decreases-loop-left invariant-loop-left-2 decreases-loop-left-2) → check_of_sum c.add_two-five.result ≡ next_five 0 c.before.before.before.before.args.word
+five_is : (c : tie.After-add_two-five invariant-loop-left decreases-loop-left invariant-loop-left-2 decreases-loop-left-2) → check_of_sum c.add_two-five.result ≡ next_five 0 c.args.word
 unfolding check_from
 five_is c =
-    let w = c.before.before.before.before.args.word in
+    let w = c.args.word in
     let one : ℕ → ℕ = λ n. next_check n w in
     c.add_two-five.ensures.check
-    ∙ ap (λ (n : ℕ). one (one n)) (c.before.add_two.ensures.check ∙ ap (λ (n : ℕ). one (one n)) (c.before.before.add.ensures.check ∙ ap one (check_none c.before.before.before.start.ensures)))
+    ∙ ap (λ (n : ℕ). one (one n)) (c.add_two.ensures.check ∙ ap (λ (n : ℕ). one (one n)) (c.add.ensures.check ∙ ap one (check_none c.start.ensures)))
 
 loop-left-init : tie.Need-loop-left-init invariant-loop-left decreases-loop-left invariant-loop-left-2 decreases-loop-left-2
-loop-left-init c = (c.before.before.before.before.requires.0, refl)
+loop-left-init c = (c.requires.0, refl)
 
 add_five-sum-requires : tie.Need-add_five-sum-requires invariant-loop-left decreases-loop-left invariant-loop-left-2 decreases-loop-left-2
-add_five-sum-requires c κs = (c.before.loop-left.invariant.0, c.before.before.add_two-five.ensures.small)
+add_five-sum-requires c κs = (c.loop-left.invariant.0, c.add_two-five.ensures.small)
 
 loop-left-smaller : tie.Need-loop-left-smaller invariant-loop-left decreases-loop-left invariant-loop-left-2 decreases-loop-left-2
 loop-left-smaller c = search rules
 
 loop-left-preserved : tie.Need-loop-left-preserved invariant-loop-left decreases-loop-left invariant-loop-left-2 decreases-loop-left-2
 loop-left-preserved c =
-    let w = c.before.before.before.before.before.before.before.args.word in
-    let o = c.before.before.loop-left in
+    let w = c.args.word in
+    let o = c.loop-left in
     let m = check_of_sum o.sum in (
       c.add_five-sum.ensures.0,
       o.invariant.1 ∙ same_five m w o.left (omega arith)
@@ -64,10 +64,10 @@ loop-left-preserved c =
     )
 
 loop-left-2-init : tie.Need-loop-left-2-init invariant-loop-left decreases-loop-left invariant-loop-left-2 decreases-loop-left-2
-loop-left-2-init c = (c.before.loop-left.invariant.0, refl)
+loop-left-2-init c = (c.loop-left.invariant.0, refl)
 
 add-sum-requires : tie.Need-add-sum-requires invariant-loop-left decreases-loop-left invariant-loop-left-2 decreases-loop-left-2
-add-sum-requires c κs = (c.before.loop-left-2.invariant.0, c.before.before.before.before.before.before.before.before.requires.1)
+add-sum-requires c κs = (c.loop-left-2.invariant.0, c.requires.1)
 
 overflow_sub-left-in-loop-left-2 : tie.Need-overflow_sub-left-in-loop-left-2 invariant-loop-left decreases-loop-left invariant-loop-left-2 decreases-loop-left-2
 overflow_sub-left-in-loop-left-2 c = search rules
@@ -78,18 +78,18 @@ loop-left-2-smaller c = search rules
 loop-left-2-preserved : tie.Need-loop-left-2-preserved invariant-loop-left decreases-loop-left invariant-loop-left-2 decreases-loop-left-2
 unfolding check_from
 loop-left-2-preserved c =
-    let w = c.before.before.before.before.before.before.before.before.before.args.word in
-    let o = c.before.before.loop-left-2 in (
+    let w = c.args.word in
+    let o = c.loop-left-2 in (
       c.add-sum.ensures.small,
       o.invariant.1 ∙ same_one (check_of_sum o.sum) w o.left (omega arith) ∙ ap (λ (n : ℕ). check_from n (same w (o.left - 1))) (sym c.add-sum.ensures.check),
     )
 
 returns : tie.Need-returns invariant-loop-left decreases-loop-left invariant-loop-left-2 decreases-loop-left-2
 returns c =
-    let o = c.before.loop-left-2 in
+    let o = c.loop-left-2 in
     record {
       small = o.invariant.0;
-      check = sym (c.before.before.before.loop-left.invariant.1 ∙ o.invariant.1 ∙ same_none (check_of_sum o.sum) c.before.before.before.before.before.before.before.before.args.word o.left (omega arith));
+      check = sym (c.loop-left.invariant.1 ∙ o.invariant.1 ∙ same_none (check_of_sum o.sum) c.args.word o.left (omega arith));
     }
 
 pub add_same_spec : {M : Type 1} → statement M

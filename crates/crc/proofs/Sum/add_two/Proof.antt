@@ -30,7 +30,7 @@ fold-requires : tie.Need-fold-requires
 fold-requires c κs = met_two_low c.args.self.rest c.args.one c.args.two c.requires.0.0 c.requires.1 c.requires.2
 
 overflow_cast-result : tie.Need-overflow_cast-result
-overflow_cast-result c = omega (arith, both_low c.before.args.one c.before.args.two c.before.requires.1 c.before.requires.2)
+overflow_cast-result c = omega (arith, both_low c.args.one c.args.two c.requires.1 c.requires.2)
 
 returns : tie.Need-returns
 unfolding check_of_sum check_from
@@ -40,7 +40,7 @@ returns c =
     let o = s.args.self.ones in
     let u = s.args.one in
     let w = s.args.two in
-    let e = c.before.fold.ensures in
+    let e = c.fold.ensures in
     record {
       small = (
         rw e (folded_low (bit_xor (farther r) (u * 2 ^ 24 + w)) (met_two_low r u w s.requires.0.0 s.requires.1 s.requires.2)),

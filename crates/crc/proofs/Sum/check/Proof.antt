@@ -19,17 +19,17 @@ reduce-requires c κs = omega (arith, wide_low c.args.self.rest c.requires.0)
 
 once : (c : tie.After-reduce) → c.reduce.result < 2 ^ 18
 once c =
-    let r = c.before.args.self.rest in
-    rw c.reduce.ensures (once_low (bit_xor (r * 2 ^ 1) (r * 2 ^ 2)) (wide_low r c.before.requires.0))
+    let r = c.args.self.rest in
+    rw c.reduce.ensures (once_low (bit_xor (r * 2 ^ 1) (r * 2 ^ 2)) (wide_low r c.requires.0))
 
 reduce-less-requires : tie.Need-reduce-less-requires
 reduce-less-requires c κs = omega (arith, once c)
 
-got : (c : tie.After-reduce-less) → c.reduce-less.result ≡ less c.before.before.args.self.rest
-got c = c.reduce-less.ensures ∙ ap reduced c.before.reduce.ensures
+got : (c : tie.After-reduce-less) → c.reduce-less.result ≡ less c.args.self.rest
+got c = c.reduce-less.ensures ∙ ap reduced c.reduce.ensures
 
 low : (c : tie.After-reduce-less) → c.reduce-less.result < 2 ^ 15
-low c = rw (got c) (less_low c.before.before.args.self.rest c.before.before.requires.0)
+low c = rw (got c) (less_low c.args.self.rest c.requires.0)
 
 overflow_cast-less : tie.Need-overflow_cast-less
 overflow_cast-less c = omega (arith, low c)
@@ -38,23 +38,23 @@ overflow_cast-self : tie.Need-overflow_cast-self
 overflow_cast-self c = search rules
 
 is_odd-requires : tie.Need-is_odd-requires
-is_odd-requires c κs = met_ones_low c.before.reduce-less.result c.before.before.before.args.self.ones (low c.before) c.before.before.before.requires.1
+is_odd-requires c κs = met_ones_low c.reduce-less.result c.args.self.ones (low c.before) c.requires.1
 
 returns-then-is_odd : tie.Need-returns-then-is_odd
 unfolding check_of_sum
 returns-then-is_odd c =
-    let l = c.before.before.before.reduce-less.result in
-    let r = c.before.before.before.before.before.args.self.rest in
-    let o = c.before.before.before.before.before.args.self.ones in
-    (odd_check r l o (got c.before.before.before) (sym c.before.is_odd.ensures ∙ c.if-is_odd.true), turned_low l (low c.before.before.before))
+    let l = c.reduce-less.result in
+    let r = c.args.self.rest in
+    let o = c.args.self.ones in
+    (odd_check r l o (got c.before.before.before) (sym c.is_odd.ensures ∙ c.if-is_odd.true), turned_low l (low c.before.before.before))
 
 returns : tie.Need-returns
 unfolding check_of_sum
 returns c =
-    let l = c.before.before.before.reduce-less.result in
-    let r = c.before.before.before.before.before.args.self.rest in
-    let o = c.before.before.before.before.before.args.self.ones in
-    (even_check r l o (got c.before.before.before) (sym c.before.is_odd.ensures ∙ c.if-is_odd.false), omega (arith, low c.before.before.before))
+    let l = c.reduce-less.result in
+    let r = c.args.self.rest in
+    let o = c.args.self.ones in
+    (even_check r l o (got c.before.before.before) (sym c.is_odd.ensures ∙ c.if-is_odd.false), omega (arith, low c.before.before.before))
 
 pub check_spec : {M : Type 1} → statement M
 check_spec =

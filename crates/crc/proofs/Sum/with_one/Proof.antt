@@ -11,10 +11,10 @@ add-requires : tie.Need-add-requires
 add-requires c κs = search rules
 
 returns-then-crc : tie.Need-returns-then-crc
-returns-then-crc c = summed_true c.before.if-crc.true c.add.ensures
+returns-then-crc c = summed_true c.if-crc.true c.add.ensures
 
 returns-else-crc : tie.Need-returns-else-crc
-returns-else-crc c = summed_false (c.before.args.word ∷ []) c.if-crc.false c.before.requires.0
+returns-else-crc c = summed_false (c.args.word ∷ []) c.if-crc.false c.requires.0
 
 pub with_one_spec : {M : Type 1} → statement M
 with_one_spec = tie.close (tie.spec add-requires returns-then-crc returns-else-crc)

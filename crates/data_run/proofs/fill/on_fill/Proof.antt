@@ -10,10 +10,10 @@ or_place-requires : tie.Need-or_place-requires
 or_place-requires c κs = search rules
 
 returns-then-odd : tie.Need-returns-then-odd
-returns-then-odd c = rw (c.before.before.or_place-first.ensures, c.or_place.ensures, c.before.if-odd.true) refl
+returns-then-odd c = rw (c.or_place-first.ensures, c.or_place.ensures, c.if-odd.true) refl
 
 returns : tie.Need-returns
-returns c = rw (c.before.or_place-first.ensures, c.if-odd.false) refl
+returns c = rw (c.or_place-first.ensures, c.if-odd.false) refl
 
 pub on_fill_spec : {M : Type 1} → statement M
 on_fill_spec = tie.close (tie.spec or_place-first-requires or_place-requires returns-then-odd returns)

@@ -49,28 +49,28 @@ enum_known-item-in-Overflow-1 : tie.Need-enum_known-item-in-Overflow-1
 enum_known-item-in-Overflow-1 c = search rules
 
 returns-in-Command : tie.Need-returns-in-Command
-returns-in-Command c = rw c.before.before.item-1.given.1 c.tagged_load.ensures
+returns-in-Command c = rw c.in-Command.is c.tagged_load.ensures
 
 returns-in-Status : tie.Need-returns-in-Status
-returns-in-Status c = rw c.before.before.item-in-Status-1.given.1 c.status_load.ensures
+returns-in-Status c = rw c.in-Status.is c.status_load.ensures
 
 returns-in-Data : tie.Need-returns-in-Data
-returns-in-Data c = rw c.before.before.item-in-Data-1.given.1 c.plain_load.ensures
+returns-in-Data c = rw c.in-Data.is c.plain_load.ensures
 
 returns-in-BusError : tie.Need-returns-in-BusError
-returns-in-BusError c = rw c.before.before.item-in-BusError-1.given.1 c.plain_load-in-BusError.ensures
+returns-in-BusError c = rw c.in-BusError.is c.plain_load-in-BusError.ensures
 
 returns-in-Arinc : tie.Need-returns-in-Arinc
-returns-in-Arinc c = rw c.before.before.item-in-Arinc-1.given.1 c.tagged_load-in-Arinc.ensures
+returns-in-Arinc c = rw c.in-Arinc.is c.tagged_load-in-Arinc.ensures
 
 returns-in-Notice : tie.Need-returns-in-Notice
-returns-in-Notice c = rw c.before.before.item-in-Notice-1.given.1 c.plain_load-in-Notice.ensures
+returns-in-Notice c = rw c.in-Notice.is c.plain_load-in-Notice.ensures
 
 returns-in-User : tie.Need-returns-in-User
-returns-in-User c = rw c.before.before.item-in-User-1.given.1 c.plain_load-in-User.ensures
+returns-in-User c = rw c.in-User.is c.plain_load-in-User.ensures
 
 returns-in-Overflow : tie.Need-returns-in-Overflow
-returns-in-Overflow c = rw c.before.item-in-Overflow-1.given.1 refl
+returns-in-Overflow c = rw c.in-Overflow.is refl
 
 pub load_of_spec : {M : Type 1} → statement M
 load_of_spec =

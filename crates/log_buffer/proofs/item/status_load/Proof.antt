@@ -15,10 +15,10 @@ plain_load-requires-in-After : tie.Need-plain_load-requires-in-After
 plain_load-requires-in-After c κs = search rules
 
 returns-in-Untimed : tie.Need-returns-in-Untimed
-returns-in-Untimed c = rw c.before.enum_told-1.given.1 c.plain_load.ensures
+returns-in-Untimed c = rw c.in-Untimed.is c.plain_load.ensures
 
 returns-in-After : tie.Need-returns-in-After
-returns-in-After c = rw c.before.enum_told-in-After-1.given.1 c.plain_load-in-After.ensures
+returns-in-After c = rw c.in-After.is c.plain_load-in-After.ensures
 
 pub status_load_spec : {M : Type 1} → statement M
 status_load_spec =

@@ -18,10 +18,10 @@ plain_load-requires-in-At : tie.Need-plain_load-requires-in-At
 plain_load-requires-in-At c κs = search rules
 
 returns-in-Untagged : tie.Need-returns-in-Untagged
-returns-in-Untagged c = rw c.before.enum_told-1.given.1 c.plain_load.ensures
+returns-in-Untagged c = rw c.in-Untagged.is c.plain_load.ensures
 
 returns-in-At : tie.Need-returns-in-At
-returns-in-At c = rw c.before.enum_told-in-At-1.given.1 c.plain_load-in-At.ensures
+returns-in-At c = rw c.in-At.is c.plain_load-in-At.ensures
 
 pub tagged_load_spec : {M : Type 1} → statement M
 tagged_load_spec =

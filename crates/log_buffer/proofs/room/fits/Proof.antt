@@ -10,7 +10,7 @@ overflow_add-result : tie.Need-overflow_add-result
 overflow_add-result c = search rules
 
 returns : tie.Need-returns
-returns c = rw (← c.before.need.ensures.0) refl
+returns c = rw (← c.need.ensures.0) refl
 
 pub fits_spec : {M : Type 1} → statement M
 fits_spec = tie.close (tie.spec need-requires overflow_add-result returns)

@@ -13,7 +13,7 @@ overflow_sub-result : tie.Need-overflow_sub-result
 overflow_sub-result c = search rules
 
 returns : tie.Need-returns
-returns c = rw (← c.before.before.least-words.ensures.0) refl
+returns c = rw (← c.least-words.ensures.0) refl
 
 pub left_spec : {M : Type 1} → statement M
 left_spec = tie.close (tie.spec least-words-requires overflow_add-result overflow_sub-result returns)

@@ -1,7 +1,7 @@
 use mathlib.Core.Path.{refl}
 use borrow.Author.Rules.{rules}
-use Rattle.log_buffer.proofs.room.taken.Statement.{statement}
-use Rattle.log_buffer.proofs.room.taken.Tie as tie
+use Rattle.log_buffer.proofs.room.true.Statement.{statement}
+use Rattle.log_buffer.proofs.room.true.Tie as tie
 
 need-requires : tie.Need-need-requires
 need-requires c κs = search rules
@@ -10,7 +10,7 @@ overflow_add-result : tie.Need-overflow_add-result
 overflow_add-result c = search rules
 
 returns : tie.Need-returns
-returns c = rw (← c.before.need.ensures.0) refl
+returns c = rw (← c.need.ensures.0) refl
 
 pub taken_spec : {M : Type 1} → statement M
 taken_spec = tie.close (tie.spec need-requires overflow_add-result returns)

@@ -13,10 +13,10 @@ time_number-requires : tie.Need-time_number-requires
 time_number-requires c κs = search rules
 
 returns-in-Untagged : tie.Need-returns-in-Untagged
-returns-in-Untagged c = rw c.enum_told-1.given.1 refl
+returns-in-Untagged c = rw c.in-Untagged.is refl
 
 returns-in-At : tie.Need-returns-in-At
-returns-in-At c = rw (c.before.before.tag-1.given.1, c.time_number.ensures) refl
+returns-in-At c = rw (c.in-At.is, c.time_number.ensures) refl
 
 pub command_role_spec : {M : Type 1} → statement M
 command_role_spec =

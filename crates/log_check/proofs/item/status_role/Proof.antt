@@ -15,10 +15,10 @@ plain_role-requires-in-After : tie.Need-plain_role-requires-in-After
 plain_role-requires-in-After c κs = search rules
 
 returns-in-Untimed : tie.Need-returns-in-Untimed
-returns-in-Untimed c = rw c.before.enum_told-1.given.1 c.plain_role.ensures
+returns-in-Untimed c = rw c.in-Untimed.is c.plain_role.ensures
 
 returns-in-After : tie.Need-returns-in-After
-returns-in-After c = rw c.before.enum_told-in-After-1.given.1 c.plain_role-in-After.ensures
+returns-in-After c = rw c.in-After.is c.plain_role-in-After.ensures
 
 pub status_role_spec : {M : Type 1} → statement M
 status_role_spec =

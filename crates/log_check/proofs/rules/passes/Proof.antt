@@ -10,10 +10,10 @@ keeps-requires : tie.Need-keeps-requires
 keeps-requires c κs = search rules
 
 returns-then-same_bus : tie.Need-returns-then-same_bus
-returns-then-same_bus c = rw (sym c.before.before.same_bus.ensures ∙ c.before.if-same_bus.true) c.keeps.ensures
+returns-then-same_bus c = rw (sym c.same_bus.ensures ∙ c.if-same_bus.true) c.keeps.ensures
 
 returns : tie.Need-returns
-returns c = rw (sym c.before.same_bus.ensures ∙ c.if-same_bus.false) refl
+returns c = rw (sym c.same_bus.ensures ∙ c.if-same_bus.false) refl
 
 pub passes_spec : {M : Type 1} → statement M
 passes_spec = tie.close (tie.spec same_bus-requires keeps-requires returns-then-same_bus returns)

@@ -36,11 +36,11 @@ loop-i-preserved : tie.Need-loop-i-preserved invariant-loop-i decreases-loop-i
 loop-i-preserved c =
     let test = c.before.before in
     let o = test.before in
-    let m = arrivals_more o.before.before.args.events.now o.loop-i.i test.loop-i-test.true in
+    let m = arrivals_more o.args.events.now o.loop-i.i test.loop-i-test.true in
     (omega arith, omega (arith, o.loop-i.invariant.1, c.arrives-number.ensures.1), o.loop-i.invariant.2 ∙ omega (arith, m, c.arrives-number.ensures.0))
 
 returns : tie.Need-returns invariant-loop-i decreases-loop-i
-returns c = let o = c.before in sym (o.loop-i.invariant.2 ∙ omega (arith, arrivals_end o.before.before.args.events.now o.loop-i.i c.loop-i-test.false))
+returns c = let o = c.before in sym (o.loop-i.invariant.2 ∙ omega (arith, arrivals_end o.args.events.now o.loop-i.i c.loop-i-test.false))
 
 pub arriving_spec : {M : Type 1} → statement M
 arriving_spec =

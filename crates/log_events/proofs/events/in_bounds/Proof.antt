@@ -7,14 +7,14 @@ use borrow.Author.Rules.{rules}
 use Rattle.log_events.proofs.events.in_bounds.Statement.{statement}
 use Rattle.log_events.proofs.events.in_bounds.Tie as tie
 
-in_limits : (c : tie.Else-not-limits) → let a = c.before.before.before.args in limits_by (length a.events.now) a.capacity a.slots ≡ true
-in_limits c = sym c.before.limits.ensures ∙ not_false c.before.limits.result c.if-not-limits.false
+in_limits : (c : tie.Else-not-limits) → let a = c.args in limits_by (length a.events.now) a.capacity a.slots ≡ true
+in_limits c = sym c.limits.ensures ∙ not_false c.limits.result c.if-not-limits.false
 
 limits-requires : tie.Need-limits-requires
 limits-requires c κs = search rules
 
 returns-then-not-limits : tie.Need-returns-then-not-limits
-returns-then-not-limits c = rw (sym c.before.limits.ensures ∙ not_true c.before.limits.result c.if-not-limits.true) refl
+returns-then-not-limits c = rw (sym c.limits.ensures ∙ not_true c.limits.result c.if-not-limits.true) refl
 
 known-requires : tie.Need-known-requires
 known-requires c κs = search rules
@@ -30,7 +30,7 @@ arriving-requires c κs = search rules
 returns : tie.Need-returns
 returns c =
     let known = c.before.before in
-    rw (in_limits known.before, sym known.known.ensures ∙ not_false known.known.result c.before.if-not-known.false, ← c.arriving.ensures) refl
+    rw (in_limits known.before, sym known.known.ensures ∙ not_false known.known.result c.if-not-known.false, ← c.arriving.ensures) refl
 
 pub in_bounds_spec : {M : Type 1} → statement M
 in_bounds_spec =

@@ -21,7 +21,7 @@ bounds-events-i : tie.Need-bounds-events-i invariant-loop-i decreases-loop-i
 bounds-events-i c = search rules
 
 returns-then-events-i-gt1 : tie.Need-returns-then-events-i-gt1 invariant-loop-i decreases-loop-i
-returns-then-events-i-gt1 c = let o = c.before.before.before in sym (o.loop-i.invariant.1 ∙ known_bad o.before.args.events.now o.loop-i.i c.before.before.loop-i-test.true c.if-events-i-gt1.true)
+returns-then-events-i-gt1 c = let o = c.before.before.before in sym (o.loop-i.invariant.1 ∙ known_bad o.args.events.now o.loop-i.i c.loop-i-test.true c.if-events-i-gt1.true)
 
 overflow_add-i : tie.Need-overflow_add-i invariant-loop-i decreases-loop-i
 overflow_add-i c = search rules
@@ -30,10 +30,10 @@ loop-i-smaller : tie.Need-loop-i-smaller invariant-loop-i decreases-loop-i
 loop-i-smaller c = search rules
 
 loop-i-preserved : tie.Need-loop-i-preserved invariant-loop-i decreases-loop-i
-loop-i-preserved c = let o = c.before.before.before in (omega arith, o.loop-i.invariant.1 ∙ known_good o.before.args.events.now o.loop-i.i c.before.before.loop-i-test.true c.if-events-i-gt1.false)
+loop-i-preserved c = let o = c.before.before.before in (omega arith, o.loop-i.invariant.1 ∙ known_good o.args.events.now o.loop-i.i c.loop-i-test.true c.if-events-i-gt1.false)
 
 returns : tie.Need-returns invariant-loop-i decreases-loop-i
-returns c = let o = c.before in sym (o.loop-i.invariant.1 ∙ known_end o.before.args.events.now o.loop-i.i c.loop-i-test.false)
+returns c = let o = c.before in sym (o.loop-i.invariant.1 ∙ known_end o.args.events.now o.loop-i.i c.loop-i-test.false)
 
 pub known_spec : {M : Type 1} → statement M
 known_spec =

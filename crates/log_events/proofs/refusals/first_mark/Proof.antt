@@ -25,7 +25,7 @@ abbrev Loop : Type 0
 Loop = tie.At-loop-item invariant-loop-item decreases-loop-item
 
 abbrev the_log : Loop → List ℕ
-the_log c = c.before.before.args.log.now
+the_log c = c.args.log.now
 
 abbrev next : Loop → Next
 next c = next_at (bytes_bits (the_log c)) c.loop-item.at.at
@@ -38,19 +38,19 @@ abbrev at_turn : Turn → Loop
 at_turn c = c.before.before.before.before.before
 
 abbrev the_item : Turn → Item
-the_item c = c.before.before.item-1.given.0.0
+the_item c = c.in-Has.item
 
-here : (c : Turn) → Follows (the_log (at_turn c)) (at_turn c).loop-item.at.at (the_item c) c.before.before.item-1.given.0.1.0.at
+here : (c : Turn) → Follows (the_log (at_turn c)) (at_turn c).loop-item.at.at (the_item c) c.in-Has.next.at
 here c =
-    let i = c.before.before.item-1.given in
-    follows (the_log (at_turn c)) (at_turn c).loop-item.at.at c.before.before.before.before.item.result i.0.0 i.0.1.0
-    c.before.before.before.before.item.ensures i.1
+    let i = c.item-1.given in
+    follows (the_log (at_turn c)) (at_turn c).loop-item.at.at c.item.result i.0.0 i.0.1.0
+    c.item.ensures i.1
 
 seen : (c : Turn) → (load_of (the_item c)).mark ≡ c.load_of.result.mark
 seen c = ap (λ (l : Load). l.mark) (sym c.load_of.ensures)
 
 loop-item-init : tie.Need-loop-item-init invariant-loop-item decreases-loop-item
-loop-item-init c = looking_start c.before.args.log.now c.before.requires.0 c.before.requires.1
+loop-item-init c = looking_start c.args.log.now c.requires.0 c.requires.1
 
 item-requires : tie.Need-item-requires invariant-loop-item decreases-loop-item
 item-requires c κs = search rules
@@ -80,7 +80,7 @@ enum_told-1 c = search rules
 returns-in-End : tie.Need-returns-in-End invariant-loop-item decreases-loop-item
 returns-in-End c =
     let o : Loop = c.before.before.before in
-    rw (looking_over o.loop-item.invariant (found_end (next o) (sym c.before.before.item.ensures ∙ c.enum_told-1.given.1))) refl
+    rw (looking_over o.loop-item.invariant (found_end (next o) (sym c.item.ensures ∙ c.in-End.is))) refl
 
 enum_told-in-Wrong : tie.Need-enum_told-in-Wrong invariant-loop-item decreases-loop-item
 enum_told-in-Wrong c = search rules
@@ -88,7 +88,7 @@ enum_told-in-Wrong c = search rules
 returns-in-Wrong : tie.Need-returns-in-Wrong invariant-loop-item decreases-loop-item
 returns-in-Wrong c =
     let o : Loop = c.before.before.before in
-    absurd (looking_never o.loop-item.invariant (found_wrong (next o) (sym c.before.before.item.ensures ∙ c.enum_told-in-Wrong-1.given.1)))
+    absurd (looking_never o.loop-item.invariant (found_wrong (next o) (sym c.item.ensures ∙ c.in-Wrong.is)))
 
 pub first_mark_spec : {M : Type 1} → statement M
 first_mark_spec =

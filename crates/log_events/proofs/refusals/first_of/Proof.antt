@@ -13,10 +13,10 @@ enum_known-mark : tie.Need-enum_known-mark
 enum_known-mark c = search rules
 
 returns-in-May : tie.Need-returns-in-May
-returns-in-May c = rw (c.before.before.if-bounded.false, c.enum_told-1.given.1) refl
+returns-in-May c = rw (c.if-bounded.false, c.in-May.is) refl
 
 returns-in-Not : tie.Need-returns-in-Not
-returns-in-Not c = rw (c.before.before.before.if-bounded.false, c.before.mark-1.given.1) refl
+returns-in-Not c = rw (c.if-bounded.false, c.in-Not.is) refl
 
 pub first_of_spec : {M : Type 1} → statement M
 first_of_spec = tie.close (tie.spec returns-then-bounded enum_told-1 enum_known-mark returns-in-May returns-in-Not)

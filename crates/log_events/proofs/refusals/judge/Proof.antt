@@ -21,7 +21,7 @@ returns : tie.Need-returns
 returns c =
     let bounds = c.before in
     let first = bounds.before in
-    let a = first.before.before.before.args in
+    let a = first.args in
     c.first_of.ensures ∙ ap₂ first_of first.first_mark-mark.ensures bounds.in_bounds.ensures
     ∙ first_verdict (first_mark 0 (items_of (parsed on_no_plan a.log.now))) (bounded_by a.events.now a.capacity a.slots a.count)
 

@@ -16,9 +16,9 @@ take-word-requires c κs = search rules
 returns : tie.Need-returns
 unfolding channelled_of
 returns c =
-    let channel = c.before.before.before.take-channel.ensures in
-    let mark = c.before.before.take-mark.ensures in
-    let word = c.before.take-word.ensures in
+    let channel = c.take-channel.ensures in
+    let mark = c.take-mark.ensures in
+    let word = c.take-word.ensures in
     (rw (word.0, mark.0, channel.0), omega arith, omega arith, omega arith)
 
 pub channelled_spec : {M : Type 1} → statement M

@@ -16,7 +16,7 @@ returns-then-left-lt4 c =
 returns-then-left-ge12 : tie.Need-returns-then-left-ge12
 unfolding ends_of
 returns-then-left-ge12 c =
-    rw (le-leb 4 _ c.before.if-left-lt4.false, le-ltb _ 12 c.if-left-ge12.true)
+    rw (le-leb 4 _ c.if-left-lt4.false, le-ltb _ 12 c.if-left-ge12.true)
 
 overflow_cast-left : tie.Need-overflow_cast-left
 overflow_cast-left c = search rules
@@ -27,7 +27,7 @@ take-rest-requires c κs = search rules
 returns : tie.Need-returns
 unfolding ends_of
 returns c =
-    rw (le-leb 4 _ c.before.before.before.if-left-lt4.false, lt-ltb _ 12 c.before.before.if-left-ge12.false, ← c.before.take-rest.ensures.0)
+    rw (le-leb 4 _ c.if-left-lt4.false, lt-ltb _ 12 c.if-left-ge12.false, ← c.take-rest.ensures.0)
 
 pub ends_spec : {M : Type 1} → statement M
 ends_spec = tie.close (tie.spec overflow_sub-left returns-then-left-lt4 returns-then-left-ge12 overflow_cast-left take-rest-requires returns)

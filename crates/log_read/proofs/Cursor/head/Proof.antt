@@ -14,8 +14,8 @@ take-bus-requires c κs = search rules
 returns : tie.Need-returns
 unfolding head_of
 returns c =
-    let kind = c.before.before.take-kind.ensures in
-    let bus = c.before.take-bus.ensures in
+    let kind = c.take-kind.ensures in
+    let bus = c.take-bus.ensures in
     (rw (bus.0, kind.0), omega arith, omega arith, omega arith)
 
 pub head_spec : {M : Type 1} → statement M

@@ -25,8 +25,8 @@ log c = (entry c).args.log.now
 abbrev place : tie.After-head-head → ℕ
 place c = (entry c).args.self.at
 
-ahead : (c : tie.After-head-head) → Ahead (bytes_bits (log c)) (place c) 57 0 c.before.filled-from.result
-ahead c = filled_ahead (log c) (place c) c.before.filled-from.ensures.0
+ahead : (c : tie.After-head-head) → Ahead (bytes_bits (log c)) (place c) 57 0 c.filled-from.result
+ahead c = filled_ahead (log c) (place c) c.filled-from.ensures.0
 
 here : (c : tie.After-head-head) → Heads (bytes_bits (log c)) (place c) c.head-head.result
 here c = head_read (ahead c) c.head-head.ensures.0
@@ -36,7 +36,7 @@ overflow_mul-total c = search rules
 
 returns-then-total-self : tie.Need-returns-then-total-self
 returns-then-total-self c =
-    let a = c.before.before.before.args in
+    let a = c.args in
     rw (next_past (bytes_bits a.log.now) a.self.at (omega (arith, length_bytes a.log.now)))
 
 filled-from-requires : tie.Need-filled-from-requires
@@ -75,36 +75,36 @@ overflow-requires c κs = search rules
 returns-in-0 : tie.Need-returns-in-0
 returns-in-0 c =
     let h = c.before.before in
-    rw (ends_here (ahead h) _ (length_bytes (log h)) (omega arith) (sym (ap (λ (r : Head). r.kind) h.head-head.ensures.0) ∙ c.before.in_default.keys1)) c.end_mark.ensures
+    rw (ends_here (ahead h) _ (length_bytes (log h)) (omega arith) (sym (ap (λ (r : Head). r.kind) h.head-head.ensures.0) ∙ c.in-0.is)) c.end_mark.ensures
 
 returns-in-1 : tie.Need-returns-in-1
-returns-in-1 c = found_item (here c.before.before) 1 (omega arith) c.before.in_default.keys2 c.command.ensures
+returns-in-1 c = found_item (here c.before.before) 1 (omega arith) c.in-1.is c.command.ensures
 
 returns-in-2 : tie.Need-returns-in-2
-returns-in-2 c = found_item (here c.before.before) 2 (omega arith) c.before.in_default.keys3 (c.status.ensures _ (length_bytes (log c.before.before)))
+returns-in-2 c = found_item (here c.before.before) 2 (omega arith) c.in-2.is (c.status.ensures _ (length_bytes (log c.before.before)))
 
 returns-in-3 : tie.Need-returns-in-3
-returns-in-3 c = found_item (here c.before.before) 3 (omega arith) c.before.in_default.keys4 (c.data.ensures _ (length_bytes (log c.before.before)))
+returns-in-3 c = found_item (here c.before.before) 3 (omega arith) c.in-3.is (c.data.ensures _ (length_bytes (log c.before.before)))
 
 returns-in-4 : tie.Need-returns-in-4
-returns-in-4 c = found_item (here c.before.before) 4 (omega arith) c.before.in_default.keys5 (c.bus_error.ensures _ (length_bytes (log c.before.before)))
+returns-in-4 c = found_item (here c.before.before) 4 (omega arith) c.in-4.is (c.bus_error.ensures _ (length_bytes (log c.before.before)))
 
 returns-in-5 : tie.Need-returns-in-5
-returns-in-5 c = found_item (here c.before.before) 5 (omega arith) c.before.in_default.keys6 c.arinc.ensures
+returns-in-5 c = found_item (here c.before.before) 5 (omega arith) c.in-5.is c.arinc.ensures
 
 returns-in-6 : tie.Need-returns-in-6
-returns-in-6 c = found_item (here c.before.before) 6 (omega arith) c.before.in_default.keys7 (c.notice.ensures _ (length_bytes (log c.before.before)))
+returns-in-6 c = found_item (here c.before.before) 6 (omega arith) c.in-6.is (c.notice.ensures _ (length_bytes (log c.before.before)))
 
 returns-in-7 : tie.Need-returns-in-7
-returns-in-7 c = found_item (here c.before.before) 7 (omega arith) c.before.in_default.keys8 (c.user.ensures _ (length_bytes (log c.before.before)))
+returns-in-7 c = found_item (here c.before.before) 7 (omega arith) c.in-7.is (c.user.ensures _ (length_bytes (log c.before.before)))
 
 returns-in-8 : tie.Need-returns-in-8
-returns-in-8 c = found_item (here c.before.before) 8 (omega arith) c.before.in_default.keys9 (c.overflow.ensures _ (length_bytes (log c.before.before)))
+returns-in-8 c = found_item (here c.before.before) 8 (omega arith) c.in-8.is (c.overflow.ensures _ (length_bytes (log c.before.before)))
 
 returns-in_default : tie.Need-returns-in_default
 returns-in_default c =
-    let r = c.in_default.rest in
-    let k = c.before.head-head.result.kind in
+    let r = c.in_default.in_default-own.rest in
+    let k = c.head-head.result.kind in
     rw (
       next_item (here c.before) r.0.0.0.0.0.0.0.0.1,
       none_other (bytes_bits (log c.before)) (place c.before) k r.0.0.0.0.0.0.0.1 r.0.0.0.0.0.0.1

@@ -16,9 +16,9 @@ take-word-requires c κs = search rules
 returns : tie.Need-returns
 unfolding marked_of
 returns c =
-    let side = c.before.before.before.take-side.ensures in
-    let mark = c.before.before.take-mark.ensures in
-    let word = c.before.take-word.ensures in
+    let side = c.take-side.ensures in
+    let mark = c.take-mark.ensures in
+    let word = c.take-word.ensures in
     (rw (word.0, mark.0, side.0), omega arith, omega arith, omega arith, omega arith)
 
 pub marked_spec : {M : Type 1} → statement M

@@ -13,8 +13,8 @@ take-diagnostics-requires c κs = search rules
 returns : tie.Need-returns
 unfolding noticed_of
 returns c =
-    let channel = c.before.before.take-channel.ensures in
-    let diagnostics = c.before.take-diagnostics.ensures in
+    let channel = c.take-channel.ensures in
+    let diagnostics = c.take-diagnostics.ensures in
     (rw (diagnostics.0, channel.0), omega arith, omega arith, omega arith)
 
 pub noticed_spec : {M : Type 1} → statement M

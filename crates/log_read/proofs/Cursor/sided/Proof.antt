@@ -13,8 +13,8 @@ take-word-requires c κs = search rules
 returns : tie.Need-returns
 unfolding sided_of
 returns c =
-    let side = c.before.before.take-side.ensures in
-    let word = c.before.take-word.ensures in
+    let side = c.take-side.ensures in
+    let word = c.take-word.ensures in
     (rw (word.0, side.0), omega arith, omega arith, omega arith)
 
 pub sided_spec : {M : Type 1} → statement M

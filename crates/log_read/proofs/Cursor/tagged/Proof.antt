@@ -16,9 +16,9 @@ take-micro-requires c κs = search rules
 returns : tie.Need-returns
 unfolding tagged_of
 returns c =
-    let high = c.before.before.before.take-high.ensures in
-    let low = c.before.before.take-low.ensures in
-    let micro = c.before.take-micro.ensures in
+    let high = c.take-high.ensures in
+    let low = c.take-low.ensures in
+    let micro = c.take-micro.ensures in
     (rw (micro.0, low.0, high.0), omega arith, omega arith, omega arith, omega arith)
 
 pub tagged_spec : {M : Type 1} → statement M

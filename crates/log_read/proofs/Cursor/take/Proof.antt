@@ -17,7 +17,7 @@ overflow_shr-field c = search rules
 
 overflow_cast-field-2 : tie.Need-overflow_cast-field-2
 overflow_cast-field-2 c =
-    record { fits = (top_small {a = c.before.args.self.ahead} c.before.args.width (omega arith) (omega arith)).1 }
+    record { fits = (top_small {a = c.args.self.ahead} c.args.width (omega arith) (omega arith)).1 }
 
 overflow_add-at : tie.Need-overflow_add-at
 overflow_add-at c = search rules
@@ -28,7 +28,7 @@ overflow_shl-ahead c = search rules
 returns : tie.Need-returns
 unfolding took_of
 returns c =
-    let a = c.before.before.before.args in
+    let a = c.args in
     (refl, (top_small {a = a.self.ahead} a.width (omega arith) (omega arith)).0, refl)
 
 pub take_spec : {M : Type 1} → statement M

@@ -21,8 +21,8 @@ abbrev entry : tie.After-shared_slice_known-1 invariant-loop-m decreases-loop-m 
 entry c = c.before.before.before
 
 -- the byte that is read
-byte : (c : tie.After-shared_slice_known-1 invariant-loop-m decreases-loop-m) → get_or (entry c).args.s.now ((entry c).args.i + (turn c).before.loop-m.m) 0 < 256
-byte c = omega (arith, c.shared_slice_known-1.given ((entry c).args.i + (turn c).before.loop-m.m))
+byte : (c : tie.After-shared_slice_known-1 invariant-loop-m decreases-loop-m) → get_or (entry c).args.s.now ((entry c).args.i + (turn c).loop-m.m) 0 < 256
+byte c = omega (arith, c.shared_slice_known-1.given ((entry c).args.i + (turn c).loop-m.m))
 
 loop-m-init : tie.Need-loop-m-init invariant-loop-m decreases-loop-m
 unfolding bits_of bytes_bits
@@ -50,16 +50,16 @@ loop-m-smaller : tie.Need-loop-m-smaller invariant-loop-m decreases-loop-m
 loop-m-smaller c = search rules
 
 loop-m-preserved : tie.Need-loop-m-preserved invariant-loop-m decreases-loop-m
-loop-m-preserved c = let e = entry c in let o = (turn c).before.loop-m in (
-  omega (arith, (turn c).loop-m-test.taken),
-  cut_more e.args.s.now e.args.i o.m o.n (turn c).loop-m-test.taken
-      (omega (arith, (turn c).loop-m-test.taken, e.pre.1)) (byte c) o.inv.1,
+loop-m-preserved c = let e = entry c in let o = (turn c).loop-m in (
+  omega (arith, (turn c).loop-m-test.true),
+  cut_more e.args.s.now e.args.i o.m o.n (turn c).loop-m-test.true
+      (omega (arith, (turn c).loop-m-test.true, e.requires.1)) (byte c) o.invariant.1,
 )
 
 returns-then-m-eq0 : tie.Need-returns-then-m-eq0 invariant-loop-m decreases-loop-m
 unfolding bits_of bytes_bits
-returns-then-m-eq0 c = let o = c.before.before.loop-m in let e = c.before.before.before in
-    cut_eight e.args.s.now e.args.i 0 0 e.requires.1 (omega (arith, c.if-m-eq0.true, c.before.loop-m-test.false)) refl
+returns-then-m-eq0 c = let o = c.loop-m in let e = c.before.before.before in
+    cut_eight e.args.s.now e.args.i 0 0 e.requires.1 (omega (arith, c.if-m-eq0.true, c.loop-m-test.false)) refl
 
 overflow_mul-result : tie.Need-overflow_mul-result invariant-loop-m decreases-loop-m
 overflow_mul-result c = search rules
@@ -77,8 +77,8 @@ overflow_shl-result : tie.Need-overflow_shl-result invariant-loop-m decreases-lo
 overflow_shl-result c = search rules
 
 returns : tie.Need-returns invariant-loop-m decreases-loop-m
-returns c = let o = c.before.before.loop-m in let e = c.before.before.before in
-    cut_eight e.args.s.now e.args.i o.m o.n e.requires.1 (omega (arith, o.invariant.0, c.before.loop-m-test.false)) o.invariant.1
+returns c = let o = c.loop-m in let e = c.before.before.before in
+    cut_eight e.args.s.now e.args.i o.m o.n e.requires.1 (omega (arith, o.invariant.0, c.loop-m-test.false)) o.invariant.1
 
 pub eight_cut_spec : {M : Type 1} → statement M
 eight_cut_spec =

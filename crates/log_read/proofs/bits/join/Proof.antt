@@ -20,8 +20,8 @@ overflow_add-result c = search rules
 
 returns : tie.Need-returns
 returns c =
-    eight_num c.before.before.args.a c.before.before.args.b c.before.before.args.c c.before.before.args.d c.before.before.args.e c.before.before.args.f c.before.before.args.g c.before.before.args.h (omega arith)
-    ∙ ap (bits_of 64) (omega (arith, c.before.four.ensures.0, c.four-2.ensures.0))
+    eight_num c.args.a c.args.b c.args.c c.args.d c.args.e c.args.f c.args.g c.args.h (omega arith)
+    ∙ ap (bits_of 64) (omega (arith, c.four.ensures.0, c.four-2.ensures.0))
 
 pub join_spec : {M : Type 1} → statement M
 join_spec = tie.close (tie.spec four-requires overflow_mul-result four-requires-2 overflow_add-result returns)

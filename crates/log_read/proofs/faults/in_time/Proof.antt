@@ -39,35 +39,35 @@ enum_told-in-Overflow c = search rules
 
 returns-in-Command : tie.Need-returns-in-Command
 unfolding in_time
-returns-in-Command c = simp c.before.before.item-1.given.1 c.tag_in_time.ensures
+returns-in-Command c = simp c.in-Command.is c.tag_in_time.ensures
 
 returns-in-Status : tie.Need-returns-in-Status
 unfolding in_time
-returns-in-Status c = simp c.before.before.item-in-Status-1.given.1 c.response_in_time.ensures
+returns-in-Status c = simp c.in-Status.is c.response_in_time.ensures
 
 returns-in-Data : tie.Need-returns-in-Data
 unfolding in_time
-returns-in-Data c = simp c.enum_told-1.given.1
+returns-in-Data c = simp c.in-Data.is
 
 returns-in-BusError : tie.Need-returns-in-BusError
 unfolding in_time
-returns-in-BusError c = simp c.enum_told-in-BusError-1.given.1
+returns-in-BusError c = simp c.in-BusError.is
 
 returns-in-Arinc : tie.Need-returns-in-Arinc
 unfolding in_time
-returns-in-Arinc c = simp c.before.before.item-in-Arinc-1.given.1 c.tag_in_time-in-Arinc.ensures
+returns-in-Arinc c = simp c.in-Arinc.is c.tag_in_time-in-Arinc.ensures
 
 returns-in-Notice : tie.Need-returns-in-Notice
 unfolding in_time
-returns-in-Notice c = simp c.enum_told-in-Notice-1.given.1
+returns-in-Notice c = simp c.in-Notice.is
 
 returns-in-User : tie.Need-returns-in-User
 unfolding in_time
-returns-in-User c = simp c.enum_told-in-User-1.given.1
+returns-in-User c = simp c.in-User.is
 
 returns-in-Overflow : tie.Need-returns-in-Overflow
 unfolding in_time
-returns-in-Overflow c = simp c.enum_told-in-Overflow-1.given.1
+returns-in-Overflow c = simp c.in-Overflow.is
 
 pub in_time_spec : {M : Type 1} → statement M
 in_time_spec =

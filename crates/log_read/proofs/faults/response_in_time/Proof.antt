@@ -10,10 +10,10 @@ enum_known-response : tie.Need-enum_known-response
 enum_known-response c = search rules
 
 returns-in-Untimed : tie.Need-returns-in-Untimed
-returns-in-Untimed c = simp c.enum_told-1.given.1
+returns-in-Untimed c = simp c.in-Untimed.is
 
 returns-in-After : tie.Need-returns-in-After
-returns-in-After c = simp c.before.response-1.given.1
+returns-in-After c = simp c.in-After.is
 
 pub response_in_time_spec : {M : Type 1} → statement M
 response_in_time_spec = tie.close (tie.spec enum_told-1 enum_known-response returns-in-Untimed returns-in-After)

@@ -10,10 +10,10 @@ enum_known-tag : tie.Need-enum_known-tag
 enum_known-tag c = search rules
 
 returns-in-Untagged : tie.Need-returns-in-Untagged
-returns-in-Untagged c = simp c.enum_told-1.given.1
+returns-in-Untagged c = simp c.in-Untagged.is
 
 returns-in-At : tie.Need-returns-in-At
-returns-in-At c = simp c.before.before.tag-1.given.1
+returns-in-At c = simp c.in-At.is
 
 pub tag_in_time_spec : {M : Type 1} → statement M
 tag_in_time_spec = tie.close (tie.spec enum_told-1 enum_known-tag returns-in-Untagged returns-in-At)

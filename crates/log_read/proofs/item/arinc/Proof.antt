@@ -46,10 +46,10 @@ returns-then-fields-eq1 c =
     let f = timed c in
     let log = (entry f).args.log.now in
     λ p g.
-    let q : f.channelled-fields.result.next-1.at ≡ p + 43 = omega (arith, f.channelled-fields.ensures.3, g.next-1.place) in
-    let t : p + 43 + 46 ≤ length (bytes_bits log) → time_at (bytes_bits log) (p + 43) ≡ c.before.before.time_at.result =
-    λ l. sym (rw q at (c.before.before.time_at.ensures (omega (arith, l, length_bytes log, q)))) in
-    rw (arinc_tagged g (rw f.channelled-fields.ensures.0 at c.before.before.before.if-fields-eq1.true) _ t, ← f.channelled-fields.ensures.0, ← q) (c.if_there.ensures (bytes_bits log) (length_bytes log))
+    let q : f.channelled-fields.result.next.at ≡ p + 43 = omega (arith, f.channelled-fields.ensures.3, g.next-1.place) in
+    let t : p + 43 + 46 ≤ length (bytes_bits log) → time_at (bytes_bits log) (p + 43) ≡ c.time_at.result =
+    λ l. sym (rw q at (c.time_at.ensures (omega (arith, l, length_bytes log, q)))) in
+    rw (arinc_tagged g (rw f.channelled-fields.ensures.0 at c.if-fields-eq1.true) _ t, ← f.channelled-fields.ensures.0, ← q) (c.if_there.ensures (bytes_bits log) (length_bytes log))
 
 if_there-requires-2 : tie.Need-if_there-requires-2
 if_there-requires-2 c κs = search rules
@@ -58,8 +58,8 @@ returns : tie.Need-returns
 returns c =
     let f = plain c in
     λ p g.
-    let q : f.channelled-fields.result.next-1.at ≡ p + 43 = omega (arith, f.channelled-fields.ensures.3, g.next-1.place) in
-    rw (arinc_plain g (rw f.channelled-fields.ensures.0 at c.before.if-fields-eq1.false), ← f.channelled-fields.ensures.0, ← q)
+    let q : f.channelled-fields.result.next.at ≡ p + 43 = omega (arith, f.channelled-fields.ensures.3, g.next.place) in
+    rw (arinc_plain g (rw f.channelled-fields.ensures.0 at c.if-fields-eq1.false), ← f.channelled-fields.ensures.0, ← q)
     (c.if_there-2.ensures (bytes_bits (entry f).args.log.now) (length_bytes (entry f).args.log.now))
 
 pub arinc_spec : {M : Type 1} → statement M

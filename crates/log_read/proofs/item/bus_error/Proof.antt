@@ -26,7 +26,7 @@ returns : tie.Need-returns
 returns c =
     let f = read c in
     λ s e p g.
-    let q : f.sided-fields.result.next-1.at ≡ p + 25 = omega (arith, f.sided-fields.ensures.3, g.next-1.place) in
+    let q : f.sided-fields.result.next.at ≡ p + 25 = omega (arith, f.sided-fields.ensures.3, g.next.place) in
     rw (error_at g, ← f.sided-fields.ensures.0, ← q) (c.if_there.ensures s e)
 
 pub bus_error_spec : {M : Type 1} → statement M

@@ -7,11 +7,11 @@ ends-requires c κs = search rules
 
 returns-then-ends : tie.Need-returns-then-ends
 returns-then-ends c =
-    rw (← c.before.ends.ensures, c.if-ends.true)
+    rw (← c.ends.ensures, c.if-ends.true)
 
 returns : tie.Need-returns
 returns c =
-    rw (← c.before.ends.ensures, c.if-ends.false)
+    rw (← c.ends.ensures, c.if-ends.false)
 
 pub end_mark_spec : {M : Type 1} → statement M
 end_mark_spec = tie.close (tie.spec ends-requires returns-then-ends returns)

@@ -29,7 +29,7 @@ returns : tie.Need-returns
 returns c =
     let f = read c in
     λ s e p g.
-    let q : f.noticed-fields.result.next-1.at ≡ p + 18 = omega (arith, f.noticed-fields.ensures.3, g.next-1.place) in
+    let q : f.noticed-fields.result.next.at ≡ p + 18 = omega (arith, f.noticed-fields.ensures.3, g.next.place) in
     rw (notice_at g, ← f.noticed-fields.ensures.0, ← q) (c.if_there.ensures s e)
 
 pub notice_spec : {M : Type 1} → statement M

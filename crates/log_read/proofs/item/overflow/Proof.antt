@@ -26,7 +26,7 @@ returns : tie.Need-returns
 returns c =
     let f = read c in
     λ s e p g.
-    let q : f.take-took.result.next-1.at ≡ p + 24 = omega (arith, f.take-took.ensures.2, g.next-1.place) in
+    let q : f.take-took.result.next.at ≡ p + 24 = omega (arith, f.take-took.ensures.2, g.next.place) in
     rw (overflow_at g, ← f.take-took.ensures.0, ← q) (c.if_there.ensures s e)
 
 pub overflow_spec : {M : Type 1} → statement M

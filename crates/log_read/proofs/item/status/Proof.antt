@@ -34,10 +34,10 @@ if_there-requires c κs = search rules
 returns-then-fields-eq1 : tie.Need-returns-then-fields-eq1
 returns-then-fields-eq1 c =
     let f = timed c in
-    let r = c.before.before.take-after in
+    let r = c.take-after in
     λ s e p g.
-    let q : r.result.next-1.at ≡ p + 26 + 14 = omega (arith, f.marked-fields.ensures.4, r.ensures.2, g.next-1.place) in
-    rw (status-timed g (rw f.marked-fields.ensures.0 at c.before.before.before.if-fields-eq1.true), ← f.marked-fields.ensures.0, ← r.ensures.0, ← q)
+    let q : r.result.next.at ≡ p + 26 + 14 = omega (arith, f.marked-fields.ensures.4, r.ensures.2, g.next-1.place) in
+    rw (status-timed g (rw f.marked-fields.ensures.0 at c.if-fields-eq1.true), ← f.marked-fields.ensures.0, ← r.ensures.0, ← q)
     (c.if_there.ensures s e)
 
 if_there-requires-2 : tie.Need-if_there-requires-2
@@ -47,8 +47,8 @@ returns : tie.Need-returns
 returns c =
     let f = plain c in
     λ s e p g.
-    let q : f.marked-fields.result.next-1.at ≡ p + 26 = omega (arith, f.marked-fields.ensures.4, g.next-1.place) in
-    rw (status-plain g (rw f.marked-fields.ensures.0 at c.before.if-fields-eq1.false), ← f.marked-fields.ensures.0, ← q) (c.if_there-2.ensures s e)
+    let q : f.marked-fields.result.next.at ≡ p + 26 = omega (arith, f.marked-fields.ensures.4, g.next.place) in
+    rw (status-plain g (rw f.marked-fields.ensures.0 at c.if-fields-eq1.false), ← f.marked-fields.ensures.0, ← q) (c.if_there-2.ensures s e)
 
 pub status_spec : {M : Type 1} → statement M
 status_spec =

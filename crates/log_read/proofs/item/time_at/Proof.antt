@@ -25,8 +25,8 @@ overflow_cast-result-3 c = search rules
 returns : tie.Need-returns
 returns c =
     let t = c.before.before.before in
-    let log = t.before.before.before.args.log.now in
-    λ l. rw t.tagged-tag.ensures.0 (sym (tagged_read (filled_ahead log _ t.before.filled.ensures.0) (omega arith) (omega arith) (omega (arith, l, length_bytes log))))
+    let log = t.args.log.now in
+    λ l. rw t.tagged-tag.ensures.0 (sym (tagged_read (filled_ahead log _ t.filled.ensures.0) (omega arith) (omega arith) (omega (arith, l, length_bytes log))))
 
 pub time_at_spec : {M : Type 1} → statement M
 time_at_spec = tie.close (tie.spec filled-requires tagged-tag-requires overflow_cast-result overflow_cast-result-2 overflow_cast-result-3 returns)

@@ -16,10 +16,10 @@ abbrev decreases-loop-item : tie.decreases-loop-item
 decreases-loop-item log at₀ items₀ words₀ at items words = length log * 8 - at.at
 
 returns-then-log-gt32768 : tie.Need-returns-then-log-gt32768 invariant-loop-item decreases-loop-item
-returns-then-log-gt32768 c = rw (tally_long on_no_plan c.before.before.args.log.now c.if-log-gt32768.true)
+returns-then-log-gt32768 c = rw (tally_long on_no_plan c.args.log.now c.if-log-gt32768.true)
 
 loop-item-init : tie.Need-loop-item-init invariant-loop-item decreases-loop-item
-loop-item-init c = (omega arith, omega arith, omega arith, c.if-log-gt32768.false, tally_start on_no_plan c.before.before.args.log.now c.if-log-gt32768.false)
+loop-item-init c = (omega arith, omega arith, omega arith, c.if-log-gt32768.false, tally_start on_no_plan c.args.log.now c.if-log-gt32768.false)
 
 item-requires : tie.Need-item-requires invariant-loop-item decreases-loop-item
 item-requires c κs = search rules
@@ -32,11 +32,11 @@ fault_of-number-requires c κs = search rules
 
 returns-then-number-ne0 : tie.Need-returns-then-number-ne0 invariant-loop-item decreases-loop-item
 returns-then-number-ne0 c =
-    let a = c.before.before.before.before.before.before.before.before.before.args in
-    let o = c.before.before.before.before.before.before.loop-item in
-    let i = c.before.before.before.item-1.given in
-    let f = follows a.log.now o.at.at c.before.before.before.before.before.item.result i.0.0 i.0.1.0 c.before.before.before.before.before.item.ensures i.1 in
-    let e = c.before.fault_of-number.ensures in
+    let a = c.args in
+    let o = c.loop-item in
+    let i = c.item, .loop-item.given in
+    let f = follows a.log.now o.at.at c.item.result i.0.0 i.0.1.0 c.item.ensures i.1 in
+    let e = c.fault_of-number.ensures in
     rw e (sym (o.invariant.4 ∙ tally-fault on_no_plan a.log.now o.at.at o.items o.words o.invariant.0 o.invariant.1 _ _ f (λ z. c.if-number-ne0.true (e ∙ z))))
 
 overflow_add-items : tie.Need-overflow_add-items invariant-loop-item decreases-loop-item
@@ -46,27 +46,27 @@ words_of-words-requires : tie.Need-words_of-words-requires invariant-loop-item d
 words_of-words-requires c κs = search rules
 
 overflow_add-words : tie.Need-overflow_add-words invariant-loop-item decreases-loop-item
-overflow_add-words c = omega (arith, words_few c.before.before.before.before.item-1.given.0.0, c.words_of-words.ensures)
+overflow_add-words c = omega (arith, words_few c.in-Has.item, c.words_of-words.ensures)
 
 loop-item-smaller : tie.Need-loop-item-smaller invariant-loop-item decreases-loop-item
 loop-item-smaller c =
-    let a = c.before.before.before.before.before.before.before.before.before.before.args in
-    let o = c.before.before.before.before.before.before.before.loop-item in
-    let i = c.before.before.before.before.item-1.given in
-    let f = follows a.log.now o.at.at c.before.before.before.before.before.before.item.result i.0.0 i.0.1.0 c.before.before.before.before.before.before.item.ensures i.1 in
+    let a = c.args in
+    let o = c.loop-item in
+    let i = c.item, .loop-item.given in
+    let f = follows a.log.now o.at.at c.item.result i.0.0 i.0.1.0 c.item.ensures i.1 in
     omega (arith, f.far, f.fits)
 
 loop-item-preserved : tie.Need-loop-item-preserved invariant-loop-item decreases-loop-item
 loop-item-preserved c =
-    let a = c.before.before.before.before.before.before.before.before.before.before.args in
-    let o = c.before.before.before.before.before.before.before.loop-item in
-    let i = c.before.before.before.before.item-1.given in
-    let f = follows a.log.now o.at.at c.before.before.before.before.before.before.item.result i.0.0 i.0.1.0 c.before.before.before.before.before.before.item.ensures i.1 in (
+    let a = c.args in
+    let o = c.loop-item in
+    let i = c.item, .loop-item.given in
+    let f = follows a.log.now o.at.at c.item.result i.0.0 i.0.1.0 c.item.ensures i.1 in (
       omega (arith, f.far),
       f.fits,
       omega (arith, words_few i.0.0, c.words_of-words.ensures),
       o.invariant.3,
-      rw c.words_of-words.ensures (o.invariant.4 ∙ tally-more on_no_plan a.log.now o.at.at o.items o.words o.invariant.0 o.invariant.1 i.0.0 _ f (sym c.before.before.fault_of-number.ensures ∙ c.before.if-number-ne0.false)),
+      rw c.words_of-words.ensures (o.invariant.4 ∙ tally-more on_no_plan a.log.now o.at.at o.items o.words o.invariant.0 o.invariant.1 i.0.0 _ f (sym c.fault_of-number.ensures ∙ c.if-number-ne0.false)),
     )
 
 enum_told-1 : tie.Need-enum_told-1 invariant-loop-item decreases-loop-item
@@ -74,16 +74,16 @@ enum_told-1 c = search rules
 
 returns-in-End : tie.Need-returns-in-End invariant-loop-item decreases-loop-item
 returns-in-End c =
-    let o = c.before.before.before.loop-item in
-    sym (o.invariant.4 ∙ tally-end on_no_plan c.before.before.before.before.before.before.args.log.now o.at.at o.items o.words o.invariant.0 o.invariant.1 c.before.before.item.result c.before.before.item.ensures c.enum_told-1.given.1)
+    let o = c.loop-item in
+    sym (o.invariant.4 ∙ tally-end on_no_plan c.args.log.now o.at.at o.items o.words o.invariant.0 o.invariant.1 c.item.result c.item.ensures c.in-End.is)
 
 enum_told-in-Wrong : tie.Need-enum_told-in-Wrong invariant-loop-item decreases-loop-item
 enum_told-in-Wrong c = search rules
 
 returns-in-Wrong : tie.Need-returns-in-Wrong invariant-loop-item decreases-loop-item
 returns-in-Wrong c =
-    let o = c.before.before.before.loop-item in
-    sym (o.invariant.4 ∙ tally-wrong on_no_plan c.before.before.before.before.before.before.args.log.now o.at.at o.items o.words o.invariant.0 o.invariant.1 c.before.before.item.result c.before.before.item.ensures c.enum_told-in-Wrong-1.given.1)
+    let o = c.loop-item in
+    sym (o.invariant.4 ∙ tally-wrong on_no_plan c.args.log.now o.at.at o.items o.words o.invariant.0 o.invariant.1 c.item.result c.item.ensures c.in-Wrong.is)
 
 pub parse_spec : {M : Type 1} → statement M
 parse_spec =

@@ -48,47 +48,47 @@ enum_told-in-Overflow c = search rules
 
 returns-in-Untagged : tie.Need-returns-in-Untagged
 unfolding item_words
-returns-in-Untagged c = simp (c.before.before.before.item-1.given.1, c.enum_told-1.given.1)
+returns-in-Untagged c = simp (c.in-Command.is, c.in-Untagged.is)
 
 returns-in-At : tie.Need-returns-in-At
 unfolding item_words
-returns-in-At c = simp (c.before.before.before.item-1.given.1, c.enum_told-in-At-1.given.1)
+returns-in-At c = simp (c.in-Command.is, c.in-At.is)
 
 returns-in-Untimed : tie.Need-returns-in-Untimed
 unfolding item_words
-returns-in-Untimed c = simp (c.before.before.before.item-in-Status-1.given.1, c.enum_told-in-Untimed-1.given.1)
+returns-in-Untimed c = simp (c.in-Status.is, c.in-Untimed.is)
 
 returns-in-After : tie.Need-returns-in-After
 unfolding item_words
-returns-in-After c = simp (c.before.before.before.item-in-Status-1.given.1, c.enum_told-in-After-1.given.1)
+returns-in-After c = simp (c.in-Status.is, c.in-After.is)
 
 returns-in-Data : tie.Need-returns-in-Data
 unfolding item_words
-returns-in-Data c = simp c.enum_told-in-Data-1.given.1
+returns-in-Data c = simp c.in-Data.is
 
 returns-in-BusError : tie.Need-returns-in-BusError
 unfolding item_words
-returns-in-BusError c = simp c.enum_told-in-BusError-1.given.1
+returns-in-BusError c = simp c.in-BusError.is
 
 returns-in-Untagged-tag : tie.Need-returns-in-Untagged-tag
 unfolding item_words
-returns-in-Untagged-tag c = simp (c.before.before.before.item-in-Arinc-1.given.1, c.enum_told-in-Untagged-tag-1.given.1)
+returns-in-Untagged-tag c = simp (c.in-Arinc.is, c.in-Untagged-tag.is)
 
 returns-in-At-tag : tie.Need-returns-in-At-tag
 unfolding item_words
-returns-in-At-tag c = simp (c.before.before.before.item-in-Arinc-1.given.1, c.enum_told-in-At-tag-1.given.1)
+returns-in-At-tag c = simp (c.in-Arinc.is, c.in-At-tag.is)
 
 returns-in-Notice : tie.Need-returns-in-Notice
 unfolding item_words
-returns-in-Notice c = simp c.enum_told-in-Notice-1.given.1
+returns-in-Notice c = simp c.in-Notice.is
 
 returns-in-User : tie.Need-returns-in-User
 unfolding item_words
-returns-in-User c = simp c.enum_told-in-User-1.given.1
+returns-in-User c = simp c.in-User.is
 
 returns-in-Overflow : tie.Need-returns-in-Overflow
 unfolding item_words
-returns-in-Overflow c = simp c.enum_told-in-Overflow-1.given.1
+returns-in-Overflow c = simp c.in-Overflow.is
 
 pub words_of_spec : {M : Type 1} → statement M
 words_of_spec =

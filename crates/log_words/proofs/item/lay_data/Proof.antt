@@ -42,8 +42,8 @@ returns c =
     let f = read j in
     λ s e ks p g b.
     let q : f.sided-fields.result.next-1.at ≡ p + 25 = omega (arith, f.sided-fields.ensures.3, g.next-1.place) in
-    read_lays (data_read g) ks _ b e (omega arith) l.before.is_1553.ensures refl
-    (data_word f.before.before.before.args.head.bus f.sided-fields.ensures.0 f.sided-fields.ensures.1 j.join-word.ensures)
+    read_lays (data_read g) ks _ b e (omega arith) l.is_1553.ensures refl
+    (data_word f.args.head.bus f.sided-fields.ensures.0 f.sided-fields.ensures.1 j.join-word.ensures)
     q l.lay_one.ensures
 
 pub lay_data_spec : {M : Type 1} → statement M

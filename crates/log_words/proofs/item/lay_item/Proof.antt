@@ -15,7 +15,7 @@ shape_of-words-then-number-eq3 c = search rules
 returns-then-number-eq3 : tie.Need-returns-then-number-eq3
 returns-then-number-eq3 c =
     let l = c.before.before in
-    λ ks p g b. rw l.before.before.if-number-eq3.true (l.lay_data.ensures _ (length_bytes _) ks p g b)
+    λ ks p g b. rw l.if-number-eq3.true (l.lay_data.ensures _ (length_bytes _) ks p g b)
 
 lay_arinc-requires : tie.Need-lay_arinc-requires
 lay_arinc-requires c κs = search rules
@@ -26,7 +26,7 @@ shape_of-words-then-number-eq5 c = search rules
 returns-then-number-eq5 : tie.Need-returns-then-number-eq5
 returns-then-number-eq5 c =
     let l = c.before.before in
-    λ ks p g b. rw l.before.before.if-number-eq5.true (l.lay_arinc.ensures ks p g b)
+    λ ks p g b. rw l.if-number-eq5.true (l.lay_arinc.ensures ks p g b)
 
 lay_other-requires : tie.Need-lay_other-requires
 lay_other-requires c κs = search rules
@@ -36,7 +36,7 @@ shape_of-words c = search rules
 
 returns : tie.Need-returns
 returns c =
-    c.before.before.lay_other.ensures
+    c.lay_other.ensures
 
 pub lay_item_spec : {M : Type 1} → statement M
 lay_item_spec =

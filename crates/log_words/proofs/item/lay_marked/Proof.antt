@@ -37,11 +37,11 @@ abbrev taken : tie.After-is_1553-stands → Head
 taken c = (entry (read c)).args.head
 
 -- the word of a command or a status, by its kind
-word_is : (c : tie.After-is_1553-stands) → c.before.join-word.result
+word_is : (c : tie.After-is_1553-stands) → c.join-word.result
     ≡ word_of (taken c).bus (sided (16 - (taken c).kind) (eqb (marked_of (taken c).next-1).side 1)) (marked_of (taken c).next-1).word
 word_is c =
     let m = (read c).marked-fields in
-    marked_word (taken c).bus (16 - (taken c).kind) m.ensures.0 m.ensures.1 c.before.join-word.ensures
+    marked_word (taken c).bus (16 - (taken c).kind) m.ensures.0 m.ensures.1 c.join-word.ensures
 
 marked-fields-requires : tie.Need-marked-fields-requires
 marked-fields-requires c κs = search rules
@@ -75,8 +75,8 @@ returns-then-head-eq1 c =
     let a = entry f in
     λ ks p g b.
     let q : f.marked-fields.result.next-1.at ≡ p + 26 = omega (arith, f.marked-fields.ensures.4, g.next-1.place) in
-    let t = command-read g (rw f.marked-fields.ensures.0 at l.before.before.before.before.if-fields-eq1.true) a.args.head.kind l.before.before.if-head-eq1.true in
-    tagged_lays t ks _ b (length_bytes a.args.log.now) (omega arith) (omega (arith, a.pre)) w.is_1553-stands.ensures (ap (λ (x : ℕ). x ∷ []) (word_is w)) q l.lay_tagged.ensures
+    let t = command-read g (rw f.marked-fields.ensures.0 at l.if-fields-eq1.true) a.args.head.kind l.if-head-eq1.true in
+    tagged_lays t ks _ b (length_bytes a.args.log.now) (omega arith) (omega (arith, a.requires)) w.is_1553-stands.ensures (ap (λ (x : ℕ). x ∷ []) (word_is w)) q l.lay_tagged.ensures
 
 overflow_mul-log : tie.Need-overflow_mul-log
 overflow_mul-log c = search rules
@@ -94,10 +94,10 @@ returns-then-fields-eq1 c =
     let f = read w in
     let a = entry f in
     let m = f.marked-fields.ensures.0 in
-    let k : a.args.head.kind ≡ 2 = omega (arith, l.before.before.if-head-eq1.false, a.pre) in
+    let k : a.args.head.kind ≡ 2 = omega (arith, l.if-head-eq1.false, a.requires) in
     λ ks p g b.
     let q : f.marked-fields.result.next-1.at + 14 ≡ p + 26 + 14 = omega (arith, f.marked-fields.ensures.4, g.next-1.place) in
-    let t = timed-read g (rw m at l.before.before.before.before.if-fields-eq1.true) a.args.head.kind k in
+    let t = timed-read g (rw m at l.if-fields-eq1.true) a.args.head.kind k in
     read_lays t ks _ b (length_bytes a.args.log.now) (omega arith) w.is_1553-stands.ensures
     (ap (λ (x : Marked). ltb (took_of x.next-1 14).field 10000) m) (timed_words a.args.head.bus m (word_is w)) q l.lay_timed.ensures
 
@@ -118,7 +118,7 @@ returns c =
     λ ks p g b.
     let q : f.marked-fields.result.next-1.at ≡ p + 26 = omega (arith, f.marked-fields.ensures.4, g.next-1.place) in
     let a = entry f in
-    let t = marked_read g a.args.head.kind a.pre.5 a.pre.6 (rw f.marked-fields.ensures.0 at l.before.before.if-fields-eq1.false) in
+    let t = marked_read g a.args.head.kind a.requires.5 a.requires.6 (rw f.marked-fields.ensures.0 at l.if-fields-eq1.false) in
     read_lays t ks _ b (length_bytes a.args.log.now)
     (omega arith) w.is_1553-stands.ensures refl (ap (λ (x : ℕ). x ∷ []) (word_is w)) q l.lay_one.ensures
 

@@ -52,12 +52,12 @@ returns c =
     let l = c.before.before in
     let j = made l in
     let f = read j in
-    let hi = j.before.before.before.high_label in
-    let lo = j.before.before.low_label in
+    let hi = j.high_label in
+    let lo = j.low_label in
     λ s e ks p g b.
     let q : f.noticed-fields.result.next-1.at ≡ p + 18 = omega (arith, f.noticed-fields.ensures.3, g.next-1.place) in
-    read_lays (notice_read g) ks _ b e (omega arith) l.before.is_arinc.ensures refl
-    (notice_word f.before.before.before.args.head.bus hi.result lo.result f.noticed-fields.ensures.0 hi.ensures lo.ensures j.join-word.ensures)
+    read_lays (notice_read g) ks _ b e (omega arith) l.is_arinc.ensures refl
+    (notice_word f.args.head.bus hi.result lo.result f.noticed-fields.ensures.0 hi.ensures lo.ensures j.join-word.ensures)
     q l.lay_one.ensures
 
 pub lay_notice_spec : {M : Type 1} → statement M

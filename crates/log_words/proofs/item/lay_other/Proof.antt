@@ -15,7 +15,7 @@ overflow_mul-log c = search rules
 
 lay_plain-requires : tie.Need-lay_plain-requires
 lay_plain-requires c κs =
-    (omega arith, omega arith, omega arith, sym c.before.before.is_plain.ensures ∙ c.before.if-is_plain.true)
+    (omega arith, omega arith, omega arith, sym c.is_plain.ensures ∙ c.if-is_plain.true)
 
 shape_of-words-then-is_plain : tie.Need-shape_of-words-then-is_plain
 shape_of-words-then-is_plain c = search rules
@@ -30,7 +30,7 @@ fault-requires c κs = search rules
 
 returns-then-number-eq0 : tie.Need-returns-then-number-eq0
 returns-then-number-eq0 c =
-    λ ks p g b. cut (none_zero _ p _ c.before.if-number-eq0.true) c.fault.ensures refl
+    λ ks p g b. cut (none_zero _ p _ c.if-number-eq0.true) c.fault.ensures refl
 
 lay_marked-requires : tie.Need-lay_marked-requires
 lay_marked-requires c κs = search rules
@@ -40,7 +40,7 @@ shape_of-words-then-number-le2 c = search rules
 
 returns-then-number-le2 : tie.Need-returns-then-number-le2
 returns-then-number-le2 c =
-    c.before.before.lay_marked.ensures
+    c.lay_marked.ensures
 
 overflow_mul-log-then-number-eq6 : tie.Need-overflow_mul-log-then-number-eq6
 overflow_mul-log-then-number-eq6 c = search rules
@@ -54,7 +54,7 @@ shape_of-words-then-number-eq6 c = search rules
 returns-then-number-eq6 : tie.Need-returns-then-number-eq6
 returns-then-number-eq6 c =
     let l = c.before.before in
-    λ ks p g b. rw l.before.before.if-number-eq6.true (l.lay_notice.ensures _ (length_bytes _) ks p g b)
+    λ ks p g b. rw l.if-number-eq6.true (l.lay_notice.ensures _ (length_bytes _) ks p g b)
 
 overflow_mul-log-then-number-eq8 : tie.Need-overflow_mul-log-then-number-eq8
 overflow_mul-log-then-number-eq8 c = search rules
@@ -68,7 +68,7 @@ shape_of-words-then-number-eq8 c = search rules
 returns-then-number-eq8 : tie.Need-returns-then-number-eq8
 returns-then-number-eq8 c =
     let l = c.before.before in
-    λ ks p g b. rw l.before.before.if-number-eq8.true (l.lay_overflow.ensures _ (length_bytes _) ks p g b)
+    λ ks p g b. rw l.if-number-eq8.true (l.lay_overflow.ensures _ (length_bytes _) ks p g b)
 
 fault-requires-2 : tie.Need-fault-requires-2
 fault-requires-2 c κs = search rules
@@ -78,8 +78,8 @@ returns c =
     let a = c.before.before.before.before.before.before.before.before.before in
     let n = c.before.before.before.before.before in
     λ ks p g b.
-    cut (none_left_over _ p a.args.head.kind c.before.before.before.if-number-le2.false a.requires.1.0 a.requires.1.1 c.before.before.if-number-eq6.false c.before.if-number-eq8.false
-    (sym n.before.is_plain.ensures ∙ n.if-is_plain.false)) c.fault-2.ensures refl
+    cut (none_left_over _ p a.args.head.kind c.if-number-le2.false a.requires.1.0 a.requires.1.1 c.if-number-eq6.false c.if-number-eq8.false
+    (sym n.is_plain.ensures ∙ n.if-is_plain.false)) c.fault-2.ensures refl
 
 pub lay_other_spec : {M : Type 1} → statement M
 lay_other_spec =

@@ -35,7 +35,7 @@ returns c =
     let f = read j in
     λ s e ks p g b.
     let q : f.take-took.result.next-1.at ≡ p + 24 = omega (arith, f.take-took.ensures.2, g.next-1.place) in
-    read_lays (overflow_read g) ks _ b e (omega arith) l.before.is_used.ensures refl
+    read_lays (overflow_read g) ks _ b e (omega arith) l.is_used.ensures refl
     (rw (j.join-word.ensures, ← f.take-took.ensures.0))
     q l.lay_one.ensures
 

@@ -18,7 +18,7 @@ sided-fields-requires : tie.Need-sided-fields-requires
 sided-fields-requires c κs = search rules
 
 plain_label-label-requires : tie.Need-plain_label-label-requires
-plain_label-label-requires c κs = let h = plain_few _ c.before.before.before.requires.3 in (h.0, h.1, c.sided-fields.ensures.1)
+plain_label-label-requires c κs = let h = plain_few _ c.requires.3 in (h.0, h.1, c.sided-fields.ensures.1)
 
 join-word-requires : tie.Need-join-word-requires
 join-word-requires c κs = search rules
@@ -40,8 +40,8 @@ returns c =
     let a = f.before.before.before in
     λ s e ks p g b.
     let q : f.sided-fields.result.next-1.at ≡ p + 25 = omega (arith, f.sided-fields.ensures.3, g.next-1.place) in
-    read_lays (plain_read g a.args.head.kind a.pre.3) ks _ b e (omega arith) l.before.plain_stands.ensures refl
-    (plain_word a.args.head.bus a.args.head.kind j.before.Plain-Label.result f.sided-fields.ensures.0 j.before.Plain-Label.ensures.0 j.join-word.ensures)
+    read_lays (plain_read g a.args.head.kind a.requires.3) ks _ b e (omega arith) l.plain_stands.ensures refl
+    (plain_word a.args.head.bus a.args.head.kind j.Plain-Label.result f.sided-fields.ensures.0 j.Plain-Label.ensures.0 j.join-word.ensures)
     q l.lay_one.ensures
 
 pub lay_plain_spec : {M : Type 1} → statement M

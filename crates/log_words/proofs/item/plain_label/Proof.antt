@@ -10,7 +10,7 @@ overflow_add-result c = search rules
 
 returns-then-number-eq7 : tie.Need-returns-then-number-eq7
 returns-then-number-eq7 c =
-    rw (eq-eqb _ 7 c.if-number-eq7.true) (user_label c.before.args.bit c.before.requires.2, omega arith)
+    rw (eq-eqb _ 7 c.if-number-eq7.true) (user_label c.args.bit c.requires.2, omega arith)
 
 overflow_sub-result : tie.Need-overflow_sub-result
 overflow_sub-result c = search rules
@@ -23,7 +23,7 @@ overflow_sub-result-2 c = search rules
 
 returns : tie.Need-returns
 returns c =
-    rw (ne_eqb _ 7 c.if-number-eq7.false) (side_is _ c.before.args.bit c.before.requires.2, omega arith)
+    rw (ne_eqb _ 7 c.if-number-eq7.false) (side_is _ c.args.bit c.requires.2, omega arith)
 
 pub plain_label_spec : {M : Type 1} → statement M
 plain_label_spec =

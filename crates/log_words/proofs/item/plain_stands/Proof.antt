@@ -8,14 +8,14 @@ is_1553-requires c κs = search rules
 
 returns-then-number-lt7 : tie.Need-returns-then-number-lt7
 returns-then-number-lt7 c =
-    rw (lt-ltb _ 7 c.before.if-number-lt7.true) c.is_1553.ensures
+    rw (lt-ltb _ 7 c.if-number-lt7.true) c.is_1553.ensures
 
 is_used-requires : tie.Need-is_used-requires
 is_used-requires c κs = search rules
 
 returns : tie.Need-returns
 returns c =
-    rw (le-ltb _ 7 c.before.if-number-lt7.false) c.is_used.ensures
+    rw (le-ltb _ 7 c.if-number-lt7.false) c.is_used.ensures
 
 pub plain_stands_spec : {M : Type 1} → statement M
 plain_stands_spec = tie.close (tie.spec is_1553-requires returns-then-number-lt7 is_used-requires returns)

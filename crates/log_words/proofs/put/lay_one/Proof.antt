@@ -10,7 +10,7 @@ fault-requires c κs = search rules
 
 returns-then-total-at : tie.Need-returns-then-total-at
 returns-then-total-at c =
-    laid.short c.before.if-total-at.true c.fault.ensures refl
+    laid.short c.if-total-at.true c.fault.ensures refl
 
 put-next-requires : tie.Need-put-next-requires
 put-next-requires c κs = search rules
@@ -20,14 +20,14 @@ shape_of-words-then-stands c = search rules
 
 returns-then-stands : tie.Need-returns-then-stands
 returns-then-stands c =
-    laid.put-next c.before.before.before.before.before.if-total-at.false c.before.before.before.before.if-stands.true refl refl refl c.before.before.put-next.ensures
+    laid.put-next c.if-total-at.false c.if-stands.true refl refl refl c.put-next.ensures
 
 fault-requires-2 : tie.Need-fault-requires-2
 fault-requires-2 c κs = search rules
 
 returns : tie.Need-returns
 returns c =
-    laid.misplaced c.before.before.if-total-at.false c.before.if-stands.false c.fault-2.ensures refl
+    laid.misplaced c.if-total-at.false c.if-stands.false c.fault-2.ensures refl
 
 pub lay_one_spec : {M : Type 1} → statement M
 lay_one_spec =

@@ -10,7 +10,7 @@ fault-requires c κs = search rules
 
 returns-then-total-fields : tie.Need-returns-then-total-fields
 returns-then-total-fields c =
-    laid.short c.before.if-total-fields.true c.fault.ensures refl
+    laid.short c.if-total-fields.true c.fault.ensures refl
 
 put_syllables-next-requires : tie.Need-put_syllables-next-requires
 put_syllables-next-requires c κs = search rules
@@ -20,14 +20,14 @@ shape_of-words-then-stands c = search rules
 
 returns-then-stands : tie.Need-returns-then-stands
 returns-then-stands c =
-    laid.put c.before.before.before.before.before.if-total-fields.false c.before.before.before.before.if-stands.true refl refl refl c.before.before.put_syllables-next.ensures
+    laid.put c.if-total-fields.false c.if-stands.true refl refl refl c.put_syllables-next.ensures
 
 fault-requires-2 : tie.Need-fault-requires-2
 fault-requires-2 c κs = search rules
 
 returns : tie.Need-returns
 returns c =
-    laid.misplaced c.before.before.if-total-fields.false c.before.if-stands.false c.fault-2.ensures refl
+    laid.misplaced c.if-total-fields.false c.if-stands.false c.fault-2.ensures refl
 
 pub lay_pair_spec : {M : Type 1} → statement M
 lay_pair_spec =

@@ -20,7 +20,7 @@ first c = c.before.before.before.before
 
 returns-then-log-behind : tie.Need-returns-then-log-behind
 returns-then-log-behind c =
-    laid.short c.before.if-log-behind.true c.fault.ensures refl
+    laid.short c.if-log-behind.true c.fault.ensures refl
 
 put_syllables-next-requires : tie.Need-put_syllables-next-requires
 put_syllables-next-requires c κs = search rules
@@ -35,14 +35,14 @@ returns-then-stands : tie.Need-returns-then-stands
 returns-then-stands c =
     let t = c.before.before in
     let w = first t in
-    laid.put w.before.before.before.if-log-behind.left w.before.before.if-stands.taken _ _ w.put_syllables-next.ensures t.lay_tag.ensures
+    laid.put w.if-log-behind.false w.if-stands.true _ _ w.put_syllables-next.ensures t.lay_tag.ensures
 
 fault-requires-2 : tie.Need-fault-requires-2
 fault-requires-2 c κs = search rules
 
 returns : tie.Need-returns
 returns c =
-    laid.misplaced c.before.before.if-log-behind.false c.before.if-stands.false c.fault-2.ensures refl
+    laid.misplaced c.if-log-behind.false c.if-stands.false c.fault-2.ensures refl
 
 pub lay_pair_tagged_spec : {M : Type 1} → statement M
 lay_pair_tagged_spec =

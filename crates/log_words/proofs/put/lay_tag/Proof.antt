@@ -37,8 +37,8 @@ time_is : (c : tie.After-tagged-tag) → time_at (bytes_bits (entry c).args.log.
     ≡ record { high = c.tagged-tag.result.high; low = c.tagged-tag.result.low; micro = c.tagged-tag.result.micro }
 time_is c =
     let a = entry c in
-    tagged_read (tag_ahead a.args.log.now _ (omega (arith, a.pre)) c.before.tag_filled.ensures.0) (omega arith) (omega arith)
-    (omega (arith, a.pre, length_bytes a.args.log.now))
+    tagged_read (tag_ahead a.args.log.now _ (omega (arith, a.requires)) c.tag_filled.ensures.0) (omega arith) (omega arith)
+    (omega (arith, a.requires, length_bytes a.args.log.now))
     ∙ ap (λ (t : Tagged). record { high = t.high; low = t.low; micro = t.micro }) (sym c.tagged-tag.ensures.0)
 
 tag_filled-requires : tie.Need-tag_filled-requires
@@ -76,10 +76,10 @@ returns-then-tag-lt10000 c =
     let t = read one in
     let a = entry t in
     let e = time_is t in
-    let room : a.args.count + 1 ≤ length a.args.words-1.now = omega (arith, a.pre) in
-    let more : a.args.count + 2 ≤ length a.args.words-1.now = omega (arith, a.pre) in
-    timely (ap (λ (m : Time). tag_in_time (At m)) e ∙ lt-ltb _ 10000 one.before.before.before.if-tag-lt10000.taken) refl (omega (arith, t.tagged-tag.ensures.4, t.before.tag_filled.ensures.1))
-    (puts_same (tag_words a.args.bus e one.before.join.ensures two.before.join-then-tag-lt10000.ensures three.before.join-then-tag-lt10000-2.ensures)
+    let room : a.args.count + 1 ≤ length a.args.words.now = omega (arith, a.requires) in
+    let more : a.args.count + 2 ≤ length a.args.words.now = omega (arith, a.requires) in
+    timely (ap (λ (m : Time). tag_in_time (At m)) e ∙ lt-ltb _ 10000 one.if-tag-lt10000.true) refl (omega (arith, t.tagged-tag.ensures.4, t.tag_filled.ensures.1))
+    (puts_same (tag_words a.args.bus e one.join.ensures two.join-then-tag-lt10000.ensures three.join-then-tag-lt10000-2.ensures)
     (puts_more (puts_more one.put-high.ensures two.put-low.ensures room) three.put-micro.ensures more))
 
 fault-requires : tie.Need-fault-requires
@@ -88,7 +88,7 @@ fault-requires c κs = search rules
 returns : tie.Need-returns
 returns c =
     let t = c.before.before.before in
-    late (ap (λ (m : Time). tag_in_time (At m)) (time_is t) ∙ le-ltb _ 10000 c.before.if-tag-lt10000.false) c.fault.ensures refl
+    late (ap (λ (m : Time). tag_in_time (At m)) (time_is t) ∙ le-ltb _ 10000 c.if-tag-lt10000.false) c.fault.ensures refl
 
 pub lay_tag_spec : {M : Type 1} → statement M
 lay_tag_spec =

@@ -20,7 +20,7 @@ first c = c.before.before.before.before
 
 returns-then-log-tag : tie.Need-returns-then-log-tag
 returns-then-log-tag c =
-    laid.short c.before.if-log-tag.true c.fault.ensures refl
+    laid.short c.if-log-tag.true c.fault.ensures refl
 
 put-next-requires : tie.Need-put-next-requires
 put-next-requires c κs = search rules
@@ -35,14 +35,14 @@ returns-then-stands : tie.Need-returns-then-stands
 returns-then-stands c =
     let t = c.before.before in
     let w = first t in
-    laid.put-next w.before.before.before.if-log-tag.left w.before.before.if-stands.taken _ _ w.put-next.ensures t.lay_tag.ensures
+    laid.put-next w.if-log-tag.false w.if-stands.true _ _ w.put-next.ensures t.lay_tag.ensures
 
 fault-requires-2 : tie.Need-fault-requires-2
 fault-requires-2 c κs = search rules
 
 returns : tie.Need-returns
 returns c =
-    laid.misplaced c.before.before.if-log-tag.false c.before.if-stands.false c.fault-2.ensures refl
+    laid.misplaced c.if-log-tag.false c.if-stands.false c.fault-2.ensures refl
 
 pub lay_tagged_spec : {M : Type 1} → statement M
 lay_tagged_spec =

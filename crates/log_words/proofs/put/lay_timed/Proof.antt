@@ -25,8 +25,8 @@ fault-requires c κs = search rules
 
 returns-then-total-response : tie.Need-returns-then-total-response
 returns-then-total-response c =
-    let t = c.before.before.before.take-response in
-    laid.short (omega (arith, c.before.if-total-response.true, t.ensures.2)) c.fault.ensures refl
+    let t = c.take-response in
+    laid.short (omega (arith, c.if-total-response.true, t.ensures.2)) c.fault.ensures refl
 
 join-requires : tie.Need-join-requires
 join-requires c κs = search rules
@@ -46,26 +46,26 @@ returns-then-response-lt10000 c =
     let one = first two in
     let m = timely one in
     let t = (took m).take-response in
-    rw (← t.ensures.0, ← t.ensures.2, ← one.before.join.ensures)
-    (laid.put-first m.before.before.before.if-total-response.left m.before.before.if-stands.taken (lt-ltb _ 10000 m.if-response-lt10000.taken) refl refl
-    (puts_more one.put-first.ensures two.put-next.ensures (omega (arith, (took m).before.before.pre))))
+    rw (← t.ensures.0, ← t.ensures.2, ← one.join.ensures)
+    (laid.put-first m.if-total-response.false m.if-stands.true (lt-ltb _ 10000 m.if-response-lt10000.true) refl refl
+    (puts_more one.put-first.ensures two.put-next.ensures (omega (arith, (took m).requires))))
 
 fault-requires-then-stands : tie.Need-fault-requires-then-stands
 fault-requires-then-stands c κs = search rules
 
 returns-then-stands : tie.Need-returns-then-stands
 returns-then-stands c =
-    let t = c.before.before.before.before.before.before.take-response in
+    let t = c.take-response in
     rw (← t.ensures.0, ← t.ensures.2)
-    (laid.past c.before.before.before.before.if-total-response.false c.before.before.before.if-stands.true (le-ltb _ 10000 c.before.if-response-lt10000.false) c.fault-then-stands.ensures refl)
+    (laid.past c.if-total-response.false c.if-stands.true (le-ltb _ 10000 c.if-response-lt10000.false) c.fault-then-stands.ensures refl)
 
 fault-requires-2 : tie.Need-fault-requires-2
 fault-requires-2 c κs = search rules
 
 returns : tie.Need-returns
 returns c =
-    let t = c.before.before.before.before.take-response in
-    laid.misplaced (omega (arith, c.before.before.if-total-response.false, t.ensures.2)) c.before.if-stands.false c.fault-2.ensures refl
+    let t = c.take-response in
+    laid.misplaced (omega (arith, c.if-total-response.false, t.ensures.2)) c.if-stands.false c.fault-2.ensures refl
 
 pub lay_timed_spec : {M : Type 1} → statement M
 lay_timed_spec =

@@ -44,8 +44,8 @@ returns c =
     let one = first two in
     let b = low one in
     let a = high b in
-    rw (← b.before.before.low_label.ensures, ← a.before.before.high_label.ensures, ← a.join-high.ensures, ← b.join-low.ensures)
-    (puts_more one.put-next.ensures two.put.ensures (omega (arith, (entry a).pre)))
+    rw (← b.low_label.ensures, ← a.high_label.ensures, ← a.join-high.ensures, ← b.join-low.ensures)
+    (puts_more one.put-next.ensures two.put.ensures (omega (arith, (entry a).requires)))
 
 pub put_syllables_spec : {M : Type 1} → statement M
 put_syllables_spec =

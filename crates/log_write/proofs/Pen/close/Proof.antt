@@ -18,7 +18,7 @@ shape_of-out c = search rules
 
 returns : tie.Need-returns
 unfolding closed_size closed_in
-returns c = (refl, c.before.before.before.put.ensures.1)
+returns c = (refl, c.put.ensures.1)
 
 pub close_spec : {M : Type 1} → statement M
 close_spec = tie.close (tie.spec put-requires overflow_add-result shape_of-out returns)

@@ -13,7 +13,7 @@ overflow_shl-last : tie.Need-overflow_shl-last
 overflow_shl-last c = search rules
 
 overflow_add-last : tie.Need-overflow_add-last
-overflow_add-last c = omega (arith, joined_low c.before.before.args.self c.before.before.args.value c.before.before.args.width c.before.before.requires.1 c.before.before.requires.2)
+overflow_add-last c = omega (arith, joined_low c.args.self c.args.value c.args.width c.requires.1 c.requires.2)
 
 overflow_cast-part : tie.Need-overflow_cast-part
 overflow_cast-part c = search rules
@@ -41,7 +41,7 @@ shape_of-out c = search rules
 
 returns : tie.Need-returns
 unfolding pen_put pen_in
-returns c = (refl, c.before.before.set_eight.ensures)
+returns c = (refl, c.set_eight.ensures)
 
 pub put_in_spec : {M : Type 1} → statement M
 put_in_spec =

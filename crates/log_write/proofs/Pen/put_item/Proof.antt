@@ -45,7 +45,7 @@ put-requires : tie.Need-put-requires
 put-requires c κs =
     let f = c.before.before.before in
     let p = numbers f in
-    (omega (arith, first_put f, (told p).first_few, (start p).pre), omega (arith, (told p).behind_few), (told p).behind_low)
+    (omega (arith, first_put f, (told p).first_few, (start p).requires), omega (arith, (told p).behind_few), (told p).behind_low)
 
 shape_of-out : tie.Need-shape_of-out
 shape_of-out c = search rules

@@ -11,7 +11,7 @@ use Rattle.log_write.proofs.numbers.arinc_bits.Statement.{statement}
 use Rattle.log_write.proofs.numbers.arinc_bits.Tie as tie
 
 abbrev item : tie.After-head → Tag → Item
-item c x = let a = c.before.args in Arinc a.bus a.channel x a.word
+item c x = let a = c.args in Arinc a.bus a.channel x a.word
 
 head-requires : tie.Need-head-requires
 head-requires c κs = search rules
@@ -54,13 +54,13 @@ tag_number-requires c κs = search rules
 
 returns-in-Untagged : tie.Need-returns-in-Untagged
 unfolding item_fields
-returns-in-Untagged c = rw c.enum_told-1.given.1 (packed_by (item c.before.before Untagged) _ _ (omega arith) refl)
+returns-in-Untagged c = rw c.in-Untagged.is (packed_by (item c.before.before Untagged) _ _ (omega arith) refl)
 
 returns-in-At : tie.Need-returns-in-At
 unfolding item_fields
 returns-in-At c =
     let t = c.before.before in
-    rw t.tag-1.given.1 (packed_by (item t.before.before (At t.tag-1.given.0.0)) _ _ (omega arith) (omega (arith, c.tag_number.ensures)))
+    rw t.in-At.is (packed_by (item t.before.before (At t.in-At.time)) _ _ (omega arith) (omega (arith, c.tag_number.ensures)))
 
 pub arinc_bits_spec : {M : Type 1} → statement M
 arinc_bits_spec =

@@ -27,7 +27,7 @@ overflow_add-result-2 c = search rules
 
 returns : tie.Need-returns
 unfolding item_fields
-returns c = packed_by (Data c.before.before.args.bus c.before.before.args.b c.before.before.args.word) _ _ (omega arith) refl
+returns c = packed_by (Data c.args.bus c.args.b c.args.word) _ _ (omega arith) refl
 
 pub data_bits_spec : {M : Type 1} → statement M
 data_bits_spec =

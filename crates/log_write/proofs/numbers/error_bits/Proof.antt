@@ -27,7 +27,7 @@ overflow_add-result-2 c = search rules
 
 returns : tie.Need-returns
 unfolding item_fields
-returns c = packed_by (BusError c.before.before.args.bus c.before.before.args.b c.before.before.args.word) _ _ (omega arith) refl
+returns c = packed_by (BusError c.args.bus c.args.b c.args.word) _ _ (omega arith) refl
 
 pub error_bits_spec : {M : Type 1} → statement M
 error_bits_spec =

@@ -52,28 +52,28 @@ overflow_bits-requires : tie.Need-overflow_bits-requires
 overflow_bits-requires c κs = search rules
 
 returns-in-Command : tie.Need-returns-in-Command
-returns-in-Command c = simp c.before.before.item-1.given.1 c.command_bits.ensures
+returns-in-Command c = simp c.in-Command.is c.command_bits.ensures
 
 returns-in-Status : tie.Need-returns-in-Status
-returns-in-Status c = simp c.before.before.item-in-Status-1.given.1 c.status_bits.ensures
+returns-in-Status c = simp c.in-Status.is c.status_bits.ensures
 
 returns-in-Data : tie.Need-returns-in-Data
-returns-in-Data c = simp c.before.before.item-in-Data-1.given.1 c.data_bits.ensures
+returns-in-Data c = simp c.in-Data.is c.data_bits.ensures
 
 returns-in-BusError : tie.Need-returns-in-BusError
-returns-in-BusError c = simp c.before.before.item-in-BusError-1.given.1 c.error_bits.ensures
+returns-in-BusError c = simp c.in-BusError.is c.error_bits.ensures
 
 returns-in-Arinc : tie.Need-returns-in-Arinc
-returns-in-Arinc c = simp c.before.before.item-in-Arinc-1.given.1 c.arinc_bits.ensures
+returns-in-Arinc c = simp c.in-Arinc.is c.arinc_bits.ensures
 
 returns-in-Notice : tie.Need-returns-in-Notice
-returns-in-Notice c = simp c.before.before.item-in-Notice-1.given.1 c.notice_bits.ensures
+returns-in-Notice c = simp c.in-Notice.is c.notice_bits.ensures
 
 returns-in-User : tie.Need-returns-in-User
-returns-in-User c = simp c.before.before.item-in-User-1.given.1 c.user_bits.ensures
+returns-in-User c = simp c.in-User.is c.user_bits.ensures
 
 returns-in-Overflow : tie.Need-returns-in-Overflow
-returns-in-Overflow c = simp c.before.before.item-in-Overflow-1.given.1 c.overflow_bits.ensures
+returns-in-Overflow c = simp c.in-Overflow.is c.overflow_bits.ensures
 
 pub item_bits_spec : {M : Type 1} → statement M
 item_bits_spec =

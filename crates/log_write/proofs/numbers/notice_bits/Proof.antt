@@ -27,7 +27,7 @@ overflow_add-result-2 c = search rules
 
 returns : tie.Need-returns
 unfolding item_fields
-returns c = packed_by (Notice c.before.args.bus c.before.args.channel c.before.args.diagnostics) _ _ (omega arith) refl
+returns c = packed_by (Notice c.args.bus c.args.channel c.args.diagnostics) _ _ (omega arith) refl
 
 pub notice_bits_spec : {M : Type 1} → statement M
 notice_bits_spec = tie.close (tie.spec head-requires overflow_mul-result overflow_cast-result overflow_add-result overflow_mul-result-2 overflow_add-result-2 returns)

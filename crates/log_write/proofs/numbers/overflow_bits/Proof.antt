@@ -18,7 +18,7 @@ overflow_add-result c = search rules
 
 returns : tie.Need-returns
 unfolding item_fields
-returns c = packed_by (Overflow c.before.args.bus c.before.args.word) _ _ (omega arith) refl
+returns c = packed_by (Overflow c.args.bus c.args.word) _ _ (omega arith) refl
 
 pub overflow_bits_spec : {M : Type 1} → statement M
 overflow_bits_spec = tie.close (tie.spec head-requires overflow_mul-result overflow_add-result returns)

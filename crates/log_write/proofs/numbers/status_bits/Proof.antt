@@ -11,7 +11,7 @@ use Rattle.log_write.proofs.numbers.status_bits.Statement.{statement}
 use Rattle.log_write.proofs.numbers.status_bits.Tie as tie
 
 abbrev item : tie.After-flag → Response → Item
-item c x = let a = c.before.before.args in Status a.bus a.b x a.word
+item c x = let a = c.args in Status a.bus a.b x a.word
 
 head-requires : tie.Need-head-requires
 head-requires c κs = search rules
@@ -54,13 +54,13 @@ overflow_cast-result-in-After-2 c = search rules
 
 returns-in-Untimed : tie.Need-returns-in-Untimed
 unfolding item_fields
-returns-in-Untimed c = rw c.enum_told-1.given.1 (packed_by (item c.before.before Untimed) _ _ (omega arith) refl)
+returns-in-Untimed c = rw c.in-Untimed.is (packed_by (item c.before.before Untimed) _ _ (omega arith) refl)
 
 returns-in-After : tie.Need-returns-in-After
 unfolding item_fields
 returns-in-After c =
     let t = c.before in
-    rw t.response-1.given.1 (packed_by (item t.before.before (After t.response-1.given.0.0)) _ _ (omega arith) (omega arith))
+    rw t.in-After.is (packed_by (item t.before.before (After t.in-After.micro)) _ _ (omega arith) (omega arith))
 
 pub status_bits_spec : {M : Type 1} → statement M
 status_bits_spec =

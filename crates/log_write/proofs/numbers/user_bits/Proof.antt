@@ -27,7 +27,7 @@ overflow_add-result-2 c = search rules
 
 returns : tie.Need-returns
 unfolding item_fields
-returns c = packed_by (User c.before.before.args.bus c.before.before.args.three c.before.before.args.word) _ _ (omega arith) refl
+returns c = packed_by (User c.args.bus c.args.three c.args.word) _ _ (omega arith) refl
 
 pub user_bits_spec : {M : Type 1} → statement M
 user_bits_spec =

@@ -9,7 +9,7 @@ shape_of-out : tie.Need-shape_of-out
 shape_of-out c = search rules
 
 returns : tie.Need-returns
-returns c = c.before.before.compose_from.ensures
+returns c = c.compose_from.ensures
 
 pub vin_compose_full_spec : {M : Type 1} → statement M
 vin_compose_full_spec = tie.close (tie.spec compose_from-requires shape_of-out returns)

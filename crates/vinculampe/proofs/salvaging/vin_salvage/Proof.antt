@@ -15,7 +15,7 @@ shape_of-report : tie.Need-shape_of-report
 shape_of-report c = search rules
 
 returns : tie.Need-returns
-returns c = c.before.before.before.before.before.before.salvage_from.ensures
+returns c = c.salvage_from.ensures
 
 pub vin_salvage_spec : {M : Type 1} → statement M
 vin_salvage_spec = tie.close (tie.spec salvage_from-requires shape_of-log shape_of-times shape_of-report returns)

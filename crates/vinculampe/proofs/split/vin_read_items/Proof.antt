@@ -9,7 +9,7 @@ shape_of-log : tie.Need-shape_of-log
 shape_of-log c = search rules
 
 returns : tie.Need-returns
-returns c = c.before.before.items_from.ensures
+returns c = c.items_from.ensures
 
 pub vin_read_items_spec : {M : Type 1} → statement M
 vin_read_items_spec = tie.close (tie.spec items_from-requires shape_of-log returns)

@@ -12,7 +12,7 @@ shape_of-times : tie.Need-shape_of-times
 shape_of-times c = search rules
 
 returns : tie.Need-returns
-returns c = c.before.before.before.before.words_from.ensures
+returns c = c.words_from.ensures
 
 pub vin_read_words_spec : {M : Type 1} → statement M
 vin_read_words_spec = tie.close (tie.spec words_from-requires shape_of-words_out shape_of-times returns)

@@ -12,7 +12,7 @@ shape_of-log : tie.Need-shape_of-log
 shape_of-log c = search rules
 
 returns : tie.Need-returns
-returns c = c.before.before.before.before.close.ensures
+returns c = c.close.ensures
 
 pub vin_stream_close_spec : {M : Type 1} → statement M
 vin_stream_close_spec = tie.close (tie.spec close-requires shape_of-state shape_of-log returns)

@@ -15,7 +15,7 @@ shape_of-times : tie.Need-shape_of-times
 shape_of-times c = search rules
 
 returns : tie.Need-returns
-returns c = c.before.before.before.before.before.before.feed_from.ensures
+returns c = c.feed_from.ensures
 
 pub vin_stream_feed_spec : {M : Type 1} → statement M
 vin_stream_feed_spec = tie.close (tie.spec feed_from-requires shape_of-state shape_of-log shape_of-times returns)

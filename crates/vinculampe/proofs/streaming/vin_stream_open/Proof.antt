@@ -9,7 +9,7 @@ shape_of-state : tie.Need-shape_of-state
 shape_of-state c = search rules
 
 returns : tie.Need-returns
-returns c = c.before.before.open_from.ensures
+returns c = c.open_from.ensures
 
 pub vin_stream_open_spec : {M : Type 1} → statement M
 vin_stream_open_spec = tie.close (tie.spec open_from-requires shape_of-state returns)
