@@ -47,17 +47,17 @@ enum_known-words c = search rules
 
 slice_bounds-compose_laid-end : tie.Need-slice_bounds-compose_laid-end
 slice_bounds-compose_laid-end c =
-    let w = c.before in
+    let w = c in
     row_holds (count w) (row w) (words w) (begins w) (counted w).count
 
 slice_bounds-compose_laid-end-in-Items : tie.Need-slice_bounds-compose_laid-end-in-Items
 slice_bounds-compose_laid-end-in-Items c =
-    let w = c.before.before in
+    let w = c in
     sym (length-take-le (count w) (row w) (row_holds (count w) (row w) (words w) (begins w) (counted w).count))
 
 compose_laid-requires : tie.Need-compose_laid-requires
 compose_laid-requires c κs =
-    let w = c.before.before.before in
+    let w = c.before in
     let k = counted w in
     rw (begins w) (k.shape, omega (arith, k.count, k.few), k.unsent)
 
@@ -75,7 +75,7 @@ shape_of-row-in-Items c = search rules
 
 returns-in-Items : tie.Need-returns-in-Items
 returns-in-Items c =
-    let w = c.before.before.before.before.before.before in
+    let w = c.before.before.before.before in
     let a = (entry (laid w)).args in
     rw ((counted w).is a.times.now (length a.out-1.now)) (rw (begins w) at c.compose_laid.ensures)
 
@@ -85,7 +85,7 @@ shape_of-row-in-Fault c = search rules
 returns-in-Fault : tie.Need-returns-in-Fault
 returns-in-Fault c =
     let g = c.number-1.given in
-    let l = c.before.before.before.before.before.before in
+    let l = c.before.before.before.before in
     let a = entry l in
     rw (log_faulty a.args.plan a.args.kinds a.args.log.now a.args.times.now (length a.args.out.now) a.requires.0
     g.0.0 g.0.1.0 (sym g.1 ∙ l.lay.ensures.0))

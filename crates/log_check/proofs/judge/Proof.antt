@@ -100,7 +100,7 @@ answer-requires-in-End c κs = search rules
 
 returns-in-End : tie.Need-returns-in-End invariant-loop-item decreases-loop-item
 returns-in-End c =
-    let o : Loop = c.before.before.before.before in
+    let o : Loop = c.before.before.before in
     rw (judging_over o.loop-item.invariant (found_end (next o) (sym c.item.ensures ∙ c.in-End.is))) c.answer-in-End.ensures
 
 enum_told-in-Wrong : tie.Need-enum_told-in-Wrong invariant-loop-item decreases-loop-item
@@ -111,7 +111,7 @@ answer-requires-in-Wrong c κs = search rules
 
 returns-in-Wrong : tie.Need-returns-in-Wrong invariant-loop-item decreases-loop-item
 returns-in-Wrong c =
-    let o : Loop = c.before.before.before.before in
+    let o : Loop = c.before.before.before in
     absurd (judging_never o.loop-item.invariant (found_wrong (next o) (sym c.item.ensures ∙ c.in-Wrong.is)))
 
 pub judge_spec : {M : Type 1} → statement M

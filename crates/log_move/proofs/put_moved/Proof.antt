@@ -113,7 +113,7 @@ overflow_add-at : tie.Need-overflow_add-at invariant-loop-item decreases-loop-it
 overflow_add-at c =
     let o = c.loop-item in
     let i = c.item-1.given in
-    let a = c.before.before.before.before.before.before.before.before.before.before.before.before.before in
+    let a = c.before.before.before.before.before.before.before.before.before.before.before in
     let h = holds a.args.log.now o.at a.piece_at.result i.0.0 a.piece_at.ensures i.1 in
     omega (arith, h.says.first_few, h.says.behind_few)
 
@@ -124,7 +124,7 @@ overflow_add-at-in-Item : tie.Need-overflow_add-at-in-Item invariant-loop-item d
 overflow_add-at-in-Item c =
     let o = c.loop-item in
     let i = c.item-1.given in
-    let a = c.before.before.before.before.before.before.before.before.before.before.before.before.before in
+    let a = c.before.before.before.before.before.before.before.before.before.before.before in
     let h = holds a.args.log.now o.at a.piece_at.result i.0.0 a.piece_at.ensures i.1 in
     omega (arith, o.invariant.0, next_fits o.invariant.2.walk h)
 

@@ -17,7 +17,7 @@ enum_told-1 c = search rules
 
 replay_sized-requires : tie.Need-replay_sized-requires
 replay_sized-requires c κs =
-    let verdict = c.before.before.before in
+    let verdict = c.before.before in
     let a = verdict.args in
     ready_of a.log.now a.events.now a.capacity a.slots
     (may_none (refused_by a.events.now a.capacity a.slots (parsed on_no_plan a.log.now)) (sym c.in-May.is ∙ verdict.refused_by.ensures))
@@ -36,7 +36,7 @@ returns-in-May c = c.replay_sized.ensures
 
 returns-in-Not : tie.Need-returns-in-Not
 returns-in-Not c =
-    let verdict = c.before.before.before.before in
+    let verdict = c.before.before in
     let a = verdict.args in
     let by = refused_by a.events.now a.capacity a.slots (parsed on_no_plan a.log.now) in
     let told : by ≡ found _ _ = not_found by _ _ (sym c.in-Not.is ∙ verdict.refused_by.ensures) in

@@ -50,7 +50,7 @@ returns-in-All c =
 
 returns-in-Fault : tie.Need-returns-in-Fault
 returns-in-Fault c =
-    let p = c.before.before in
+    let p = c.before in
     let by = p.args.by in
     λ row most stands. put_fault by row most _ _ _ _ _ _ _ _ stands p.in-Fault.is c.refusal.ensures
 

@@ -57,8 +57,8 @@ returns-in-Has c =
     let arrived = put.before.before in
     let fits = arrived.before in
     let load = fits.before in
-    let found = load.before.before in
-    let item = found.before.before in
+    let found = load.before in
+    let item = found.before in
     let a = item.args in
     let i = found.item-1.given in
     turns-arrived a.log.now a.event a.capacity a.slots a.built-1.now a.state i.0.0 i.0.1.0 fits.fits2.result arrived.arrived.result
@@ -68,14 +68,14 @@ returns-in-Has c =
 
 returns-in-End : tie.Need-returns-in-End
 returns-in-End c =
-    let item = c.before.before in
+    let item = c.before in
     let a = item.args in
     turns_over a.log.now a.event a.capacity a.slots a.built-1.now a.state item.if-event-ne0.false
     (found_end (next_at (bytes_bits a.log.now) a.state.at-1.at-1) (sym item.item.ensures ∙ c.in-End.is))
 
 returns-in-Wrong : tie.Need-returns-in-Wrong
 returns-in-Wrong c =
-    let item = c.before.before in
+    let item = c.before in
     let a = item.args in
     turns_wrong a.log.now a.event a.capacity a.slots a.built-1.now a.state item.if-event-ne0.false
     (found_wrong (next_at (bytes_bits a.log.now) a.state.at-1.at-1) (sym item.item.ensures ∙ c.in-Wrong.is))

@@ -68,7 +68,7 @@ loop-item-smaller c = let f = after c.before.before.before.before.before in omeg
 loop-item-preserved : tie.Need-loop-item-preserved invariant-loop-item decreases-loop-item
 loop-item-preserved c =
     let p = c.before.before in
-    let f = p.before.before.before in
+    let f = p.before.before in
     doing_more f.in-Has.item _ (loop f).loop-item.invariant (after f).next p.item_line-at.ensures
 
 enum_told-1 : tie.Need-enum_told-1 invariant-loop-item decreases-loop-item
@@ -79,7 +79,7 @@ shape_of-out-in-End c = adds_long c.loop-item.invariant.adds
 
 returns-in-End : tie.Need-returns-in-End invariant-loop-item decreases-loop-item
 returns-in-End c =
-    let i = c.before.before in
+    let i = c.before in
     doing_over i.loop-item.invariant (found_end (here i.before) (sym i.item.ensures ∙ c.in-End.is))
 
 enum_told-in-Wrong : tie.Need-enum_told-in-Wrong invariant-loop-item decreases-loop-item
@@ -90,7 +90,7 @@ shape_of-out-in-Wrong c = adds_long c.loop-item.invariant.adds
 
 returns-in-Wrong : tie.Need-returns-in-Wrong invariant-loop-item decreases-loop-item
 returns-in-Wrong c =
-    let i = c.before.before in
+    let i = c.before in
     absurd (doing_never i.loop-item.invariant (found_wrong (here i.before) (sym i.item.ensures ∙ c.in-Wrong.is)))
 
 pub lines_spec : {M : Type 1} → statement M

@@ -51,7 +51,7 @@ enum_known-tally c = search rules
 
 lines-at-requires : tie.Need-lines-at-requires
 lines-at-requires c κs =
-    let t = c.before.before in
+    let t = c.before in
     (((start (parse t)).requires, (sizes t).0, (sizes t).1), (parses t).0)
 
 end_line-requires : tie.Need-end_line-requires
@@ -81,8 +81,8 @@ shape_of-out-in-Fault c = search rules
 returns-in-Fault : tie.Need-returns-in-Fault
 returns-in-Fault c =
     let e = c.before.before in
-    let t = e.before.before.before in
-    let p = t.before.before in
+    let t = e.before.before in
+    let p = t.before in
     let g = t.tally-in-Fault-1.given in
     adds_same e.refused_line.ensures (listing_refused (log p) _ _ (refused (log p) p.parse-tally.result g.0.0 g.0.1.0 p.parse-tally.ensures g.1))
 

@@ -79,7 +79,7 @@ enum_told-1 c = search rules
 
 returns-in-End : tie.Need-returns-in-End invariant-loop-item decreases-loop-item
 returns-in-End c =
-    let o : Loop = c.before.before.before in
+    let o : Loop = c.before.before in
     rw (looking_over o.loop-item.invariant (found_end (next o) (sym c.item.ensures ∙ c.in-End.is))) refl
 
 enum_told-in-Wrong : tie.Need-enum_told-in-Wrong invariant-loop-item decreases-loop-item
@@ -87,7 +87,7 @@ enum_told-in-Wrong c = search rules
 
 returns-in-Wrong : tie.Need-returns-in-Wrong invariant-loop-item decreases-loop-item
 returns-in-Wrong c =
-    let o : Loop = c.before.before.before in
+    let o : Loop = c.before.before in
     absurd (looking_never o.loop-item.invariant (found_wrong (next o) (sym c.item.ensures ∙ c.in-Wrong.is)))
 
 pub first_mark_spec : {M : Type 1} → statement M

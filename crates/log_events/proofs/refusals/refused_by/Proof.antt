@@ -35,7 +35,7 @@ returns-in-Items c =
 
 returns-in-Fault : tie.Need-returns-in-Fault
 returns-in-Fault c =
-    let parse = c.before.before.before in
+    let parse = c.before in
     let a = parse.args in
     rw (faulty_refused a.log.now parse.parse.result _ _ parse.parse.ensures c.in-Fault.is a.events.now a.capacity a.slots) refl
 

@@ -54,13 +54,13 @@ tag_number-requires c κs = search rules
 
 returns-in-Untagged : tie.Need-returns-in-Untagged
 unfolding item_fields
-returns-in-Untagged c = rw c.in-Untagged.is (packed_by (item c.before.before Untagged) _ _ (omega arith) refl)
+returns-in-Untagged c = rw c.in-Untagged.is (packed_by (item c.before Untagged) _ _ (omega arith) refl)
 
 returns-in-At : tie.Need-returns-in-At
 unfolding item_fields
 returns-in-At c =
-    let t = c.before.before in
-    rw t.in-At.is (packed_by (item t.before.before (At t.in-At.time)) _ _ (omega arith) (omega (arith, c.tag_number.ensures)))
+    let t = c.before in
+    rw t.in-At.is (packed_by (item t.before (At t.in-At.time)) _ _ (omega arith) (omega (arith, c.tag_number.ensures)))
 
 pub arinc_bits_spec : {M : Type 1} → statement M
 arinc_bits_spec =

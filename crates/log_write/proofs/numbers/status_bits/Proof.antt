@@ -54,13 +54,13 @@ overflow_cast-result-in-After-2 c = search rules
 
 returns-in-Untimed : tie.Need-returns-in-Untimed
 unfolding item_fields
-returns-in-Untimed c = rw c.in-Untimed.is (packed_by (item c.before.before Untimed) _ _ (omega arith) refl)
+returns-in-Untimed c = rw c.in-Untimed.is (packed_by (item c.before Untimed) _ _ (omega arith) refl)
 
 returns-in-After : tie.Need-returns-in-After
 unfolding item_fields
 returns-in-After c =
-    let t = c.before in
-    rw t.in-After.is (packed_by (item t.before.before (After t.in-After.micro)) _ _ (omega arith) (omega arith))
+    let t = c in
+    rw t.in-After.is (packed_by (item t.before (After t.in-After.micro)) _ _ (omega arith) (omega arith))
 
 pub status_bits_spec : {M : Type 1} → statement M
 status_bits_spec =
