@@ -26,7 +26,7 @@ abbrev words : tie.In-Items-2 → List ℕ
 words c = words_from (on_plan (entry (laid c)).args.kinds) (entry (laid c)).args.log.now 0
 
 abbrev row : tie.In-Items-2 → List ℕ
-row c = (laid c).lay.new.1.1.0
+row c = (laid c).lay.new.words
 
 counted : (c : tie.In-Items-2) → Counted (entry (laid c)).args.plan (entry (laid c)).args.kinds (entry (laid c)).args.log.now (count c)
 counted c =

@@ -18,7 +18,7 @@ slice_bounds-row-end : tie.Need-slice_bounds-row-end
 slice_bounds-row-end c = search rules
 
 slice_bounds-compose-end : tie.Need-slice_bounds-compose-end
-slice_bounds-compose-end c = let t = c.times_row-number in sym (length-take-le t.result t.new.1.0 (omega (arith, t.ensures.few, t.ensures.long)))
+slice_bounds-compose-end c = let t = c.times_row-number in sym (length-take-le t.result t.new.row (omega (arith, t.ensures.few, t.ensures.long)))
 
 compose-requires : tie.Need-compose-requires
 compose-requires c κs = search rules
@@ -32,7 +32,7 @@ returns c =
     let a = s.args in
     let t = c.times_row-number in
     let bytes = all_bytes a.log.now (λ i. omega (arith, c.shared_slice_known-1.given i)) in
-    rw (row_composed a.plan a.kinds a.log.now bytes a.times.now t.new.1.0 t.result (length a.out-1.now) t.ensures) c.compose.ensures
+    rw (row_composed a.plan a.kinds a.log.now bytes a.times.now t.new.row t.result (length a.out-1.now) t.ensures) c.compose.ensures
 
 pub compose_bytes_spec : {M : Type 1} → statement M
 compose_bytes_spec = tie.close (tie.spec slice_bounds-times_row-end times_row-number-requires slice_bounds-row-end slice_bounds-compose-end compose-requires shape_of-out returns)

@@ -142,7 +142,7 @@ room c = took_roomy (before-in c).loop-slot.invariant (entry c).requires.1 c.loo
 more : (c : tie.After-item_at-next invariant-loop-slot decreases-loop-slot)
     → Took (entry (turn-item_at c)).args.kinds (entry (turn-item_at c)).args.parity (entry (turn-item_at c)).args.row.now
     (record { slot = (before-in (turn-item_at c)).loop-slot.slot; pen = (before-in (turn-item_at c)).loop-slot.pen-1 }) (before-in (turn-item_at c)).loop-slot.out-1
-    c.item_at-next.result c.item_at-next.new.1.1.1.1.1.1.0
+    c.item_at-next.result c.item_at-next.new.out
 more c =
     rw (parity_back (entry (turn-item_at c)).args.parity (before-openings
     (before_at (before-in (before-top_of (before-opening (before-else1 (before-else4 (before-item_at c)))))))).tops_of-tops.ensures) at

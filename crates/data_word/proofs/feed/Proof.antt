@@ -37,9 +37,9 @@ returns : tie.Need-returns
 returns c =
     c.starts.ensures
     ∙ ⊎_elim
-    (λ w. rw (w.4, w.3.ensures) (no_tag_follows _ _ _ _ (omega arith) (omega arith) _ c.requires.1 w.2.false w.1.false))
-    (λ w. rw w.1 (nothing_held _ _ _ _ (omega arith) (omega arith) _ c.requires.1 w.0.false))
-    c.if-awaits-ne0.branch
+    (λ w. rw (w.width-is, w.base_width-width.ensures) (no_tag_follows _ _ _ _ (omega arith) (omega arith) _ c.requires.1 w.if-awaits-ne7.false w.if-awaits-bus.false))
+    (λ w. rw w.width-is (nothing_held _ _ _ _ (omega arith) (omega arith) _ c.requires.1 w.if-awaits-ne0.false))
+    c.if-awaits-ne0.branch-raw
 
 pub feed_spec : {M : Type 1} → statement M
 feed_spec =

@@ -16,7 +16,7 @@ start-else c = c.before.before.before.before.before.before.before
 
 -- the rows of fill on bus 0 are written there
 blanked : (c : tie.Else-plan-eq0)
-    → let s = start-else c in Written (same_rows 0x01AAAA s.args.rows) s.args.rows s.args.out.now c.fill_rows.new.0
+    → let s = start-else c in Written (same_rows 0x01AAAA s.args.rows) s.args.rows s.args.out.now c.fill_rows.new.out
 blanked c =
     let s = start-else c in
     record { is = c.fill_rows.ensures; count = length_list (λ r. 0x01AAAA) 0 s.args.rows; fits = s.requires.1 }
@@ -27,7 +27,7 @@ filled c = c.before.before
 
 topped : (c : tie.After-top_rows)
     → let f = filled c in
-    let s = start-else f.before in Written (same_rows f.fill-fill.result s.args.rows) s.args.rows s.args.out.now c.top_rows.new.0
+    let s = start-else f.before in Written (same_rows f.fill-fill.result s.args.rows) s.args.rows s.args.out.now c.top_rows.new.out
 topped c =
     let f = filled c in
     let s = start-else f.before in

@@ -80,7 +80,7 @@ last_at : (c : tie.Then-row-rows invariant-loop-row decreases-loop-row) → c.lo
 last_at c = one c.before.before c.if-row-rows.true
 
 first_put : (c : First) → Written (sent_rows (entry (at_first c)).args.plan (entry (at_first c)).args.words.now (entry (at_first c)).args.first ((at_first c).loop-row.row + 1))
-    ((at_first c).loop-row.row + 1) (entry (at_first c)).args.out.now c.put_row-one.new.0
+    ((at_first c).loop-row.row + 1) (entry (at_first c)).args.out.now c.put_row-one.new.out
 first_put c = let a = (entry (at_first c)).args in
     let o = (at_first c).loop-row in
     one_written a.plan a.words.now a.first a.rows a.before a.out-1.now (entry (at_first c)).requires.1 o.row o.s o.sum o.out-1 (put (at_first c))
@@ -163,7 +163,7 @@ add-requires c κs = ((at_last c.before.before).loop-row.invariant.sums.small, c
 -- the last row of an odd number
 last_put : (c : tie.After-add invariant-loop-row decreases-loop-row) → Put (entry (ended c)).args.plan (entry (ended c)).args.words.now (entry (ended c)).args.first
     (entry (ended c)).args.rows (entry (ended c)).args.before (entry (ended c)).args.out.now
-    ((ended c).loop-row.row + 1) ((ended c).loop-row.s + (entry (ended c)).args.plan.tracks) c.add.result (last_of c).put_row-last.new.0
+    ((ended c).loop-row.row + 1) ((ended c).loop-row.s + (entry (ended c)).args.plan.tracks) c.add.result (last_of c).put_row-last.new.out
 last_put c = let l = ended c in
     let a = (entry l).args in
     let o = l.loop-row in
@@ -178,7 +178,7 @@ returns-then-row-rows : tie.Need-returns-then-row-rows invariant-loop-row decrea
 returns-then-row-rows c = let l = ended c in
     let a = (entry l).args in
     let o = l.loop-row in
-    put_all a.plan a.words.now a.first a.rows a.before a.out-1.now (entry l).requires.1 (o.row + 1) (o.s + a.plan.tracks) c.add.result (last_of c).put_row-last.new.0
+    put_all a.plan a.words.now a.first a.rows a.before a.out-1.now (entry l).requires.1 (o.row + 1) (o.s + a.plan.tracks) c.add.result (last_of c).put_row-last.new.out
     (last_put c) (omega arith)
 
 shape_of-out : tie.Need-shape_of-out invariant-loop-row decreases-loop-row

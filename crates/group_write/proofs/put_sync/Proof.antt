@@ -19,7 +19,7 @@ entry c = c.before.before
 abbrev made : tie.After-put_word → Made
 made c = c.before.before
 
-begun : (c : tie.After-put_word) → Written (sync ∷ []) 1 (entry (made c)).args.out.now c.put_word.new.0
+begun : (c : tie.After-put_word) → Written (sync ∷ []) 1 (entry (made c)).args.out.now c.put_word.new.bytes
 begun c = let o = (entry (made c)).args.out.now in
     rw (← (made c).sync-sync.ensures) (written_word 0 (made c).sync-sync.result (written_none o) refl (omega (arith, (entry (made c)).requires)) refl c.put_word.ensures)
 

@@ -32,7 +32,7 @@ dealt c = take (lead (entry c).args.plan) (entry c).args.times.now ++ (entry c).
 abbrev written : Fronted → List ℕ
 written c = front (entry c).args.plan (dealt c) (entry c).args.track (rows (entry c).args.plan)
 
-fronted : (c : Fronted) → Written (written c) (1 + rows (entry c).args.plan) (entry c).args.out.now c.write_front-sum.new.0
+fronted : (c : Fronted) → Written (written c) (1 + rows (entry c).args.plan) (entry c).args.out.now c.write_front-sum.new.out
 fronted c =
     let a = (entry c).args in
     record {

@@ -116,12 +116,12 @@ abbrev fill_put : Counted → List ℕ
 fill_put c = same_rows (sent (entry c).args.plan.parity (fill (entry c).args.plan.fill_bus)) (fill_rows c)
 
 -- the bytes after the sync word, and after each run
-begun : (c : Synced) → Written (sync ∷ []) 1 (entry (at_sync c)).args.out.now c.put_sync-sum.new.0
+begun : (c : Synced) → Written (sync ∷ []) 1 (entry (at_sync c)).args.out.now c.put_sync-sum.new.out
 begun c = record { is = c.put_sync-sum.ensures.1; count = refl; fits = omega (arith, room (at_sync c)) }
 
 abbrev timed_out : Timed → List ℕ
-timed_out c = let o = (synced c).put_sync-sum.new.0 in
-    put_mid 3 (length o - 3) o c.put_rows-sum.new.0
+timed_out c = let o = (synced c).put_sync-sum.new.out in
+    put_mid 3 (length o - 3) o c.put_rows-sum.new.out
 
 timed_written : (c : Timed) → Written ((sync ∷ []) ++ times_put (at_timed c)) (1 + timed (at_timed c)) (entry (at_timed c)).args.out.now (timed_out c)
 timed_written c =
@@ -132,7 +132,7 @@ timed_written c =
 abbrev data_out : Dealt → List ℕ
 data_out c = let o = timed_out (timed_of c) in
     let at = 3 * (1 + timed (at_dealt c)) in
-    put_mid at (length o - at) o c.put_rows-sum-2.new.0
+    put_mid at (length o - at) o c.put_rows-sum-2.new.out
 
 data_written : (c : Dealt)
     → Written (((sync ∷ []) ++ times_put (at_dealt c)) ++ data_put (at_dealt c)) (1 + dealt (at_dealt c)) (entry (at_dealt c)).args.out.now (data_out c)
@@ -144,7 +144,7 @@ data_written c =
 abbrev fill_out : Filled → List ℕ
 fill_out c = let o = data_out (dealt_of c) in
     let at = 3 * (1 + dealt (at_filled c)) in
-    put_mid at (length o - at) o c.put_fill.new.0
+    put_mid at (length o - at) o c.put_fill.new.out
 
 abbrev all_put : Counted → List ℕ
 all_put c = (((sync ∷ []) ++ times_put c) ++ data_put c) ++ fill_put c
@@ -194,7 +194,7 @@ put_rows-sum-requires : tie.Need-put_rows-sum-requires
 put_rows-sum-requires c κs = let y = c.before.before.before.before in
     let k = at_sync y in
     let s = entry k in
-    let o = y.put_sync-sum.new.0 in
+    let o = y.put_sync-sum.new.out in
     let r = rest_room 3 (3 * timed k) o (omega (arith, room k, written_length (begun y))) in
     let run = timed_run s.args.plan s.args.track (lead k) (timed k) (dealt k) (rows k) (times k) (words k) (parts k) (rest 3 o) s.requires.2.0 s.requires.2.1 r in
     (s.requires.0, run, y.put_sync-sum.ensures.0.small)

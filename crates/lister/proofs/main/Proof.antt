@@ -33,7 +33,7 @@ slice_bounds-text-end : tie.Need-slice_bounds-text-end
 slice_bounds-text-end c = let f = c.list-end.ensures in omega (arith, f.fits, adds_long f)
 
 slice_bounds-write_all-end : tie.Need-slice_bounds-write_all-end
-slice_bounds-write_all-end c = let f = c.list-end.ensures in sym (length-take-le c.list-end.result c.list-end.new.0 (omega (arith, f.fits, adds_long f)))
+slice_bounds-write_all-end c = let f = c.list-end.ensures in sym (length-take-le c.list-end.result c.list-end.new.out (omega (arith, f.fits, adds_long f)))
 
 write_all-requires : tie.Need-write_all-requires
 write_all-requires c κs = search rules

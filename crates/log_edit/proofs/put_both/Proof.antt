@@ -71,8 +71,8 @@ whole_of c = c.args.one / 8
 placed_here : (c : tie.After-put_later-last)
     → Front (take (whole_of c) c.args.first.now ++ c.put_later-last.ensures.done)
     c.args.out.now
-    (put_mid (whole_of c) (length c.copy.new.0 - whole_of c) c.copy.new.0
-    c.put_later-last.new.0) (whole_of c + length c.args.second.now)
+    (put_mid (whole_of c) (length c.copy.new.to - whole_of c) c.copy.new.to
+    c.put_later-last.new.out) (whole_of c + length c.args.second.now)
 placed_here c =
     let a = c.args in
     let q = c.requires in

@@ -138,7 +138,7 @@ item_here c = holds _ _ _ c.in-Item.item
 
 moved_here : (c : tie.After-put_data-arg-1 invariant-loop-item decreases-loop-item)
     → Moving c.args.log.now (to_z w64 (of_z w64
-    c.args.by)) c.put_packed-to.new.1.0
+    c.args.by)) c.put_packed-to.new.built
     (c.loop-item.at +
     (c.in-Item.item.first_bits + c.in-Item.item.behind_bits))
     c.put_packed-to.result

@@ -106,7 +106,7 @@ returns-then-ends c =
     let e = ends_good (ahead h) (length (log o) * 8) (length_bytes (log o)) o.loop-kinds.invariant.1 u in (
       sym (o.loop-kinds.invariant.4 ∙ closes (kinds o) (log o) o.loop-kinds.at.at o.loop-kinds.items o.loop-kinds.count o.loop-kinds.invariant.0 o.loop-kinds.invariant.1 e),
       unlaid (d.lay_item-laid.ensures (kinds o) o.loop-kinds.at.at (here h) refl) w
-          ∙ none_left (kinds o) (log o) o.loop-kinds.at.at o.loop-kinds.items o.loop-kinds.count o.loop-kinds.invariant.0 o.loop-kinds.invariant.1 o.loop-kinds.words-1 End (ap found_of e) tt ∙ o.loop-kinds.invariant.5,
+          ∙ none_left (kinds o) (log o) o.loop-kinds.at.at o.loop-kinds.items o.loop-kinds.count o.loop-kinds.invariant.0 o.loop-kinds.invariant.1 o.loop-kinds.words End (ap found_of e) tt ∙ o.loop-kinds.invariant.5,
     )
 
 overflow_cast-result : tie.Need-overflow_cast-result invariant-loop-kinds decreases-loop-kinds

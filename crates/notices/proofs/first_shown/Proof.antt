@@ -85,13 +85,13 @@ loop-i-preserved c =
     let a = u.args in
     let i = u.loop-i-test.true in
     let t = c.on_word-shown in
-    let table : List ℕ = t.new.table.1.1.1.1.0 in
-    let q = word_noted a.kinds a.parity (get_or a.row.now o.i 0) _ _ _ (a.from + o.i) (0, o.table-1) (t.result, table)
+    let table : List ℕ = t.new.table in
+    let q = word_noted a.kinds a.parity (get_or a.row.now o.i 0) _ _ _ (a.from + o.i) (0, o.table) (t.result, table)
     c.bus_of-bus.ensures c.label_of.ensures
     c.information_of.ensures t.ensures in (
       omega (arith, i),
       c.table-1.given ∙ o.invariant.1,
-      o.invariant.2 ∙ watched_next a.kinds a.parity a.row.now a.from o.i i (o.first, o.table-1)
+      o.invariant.2 ∙ watched_next a.kinds a.parity a.row.now a.from o.i i (o.first, o.table)
           ∙ ap (watched_of (roles_in a.kinds a.parity (counted (a.from + (o.i + 1)) (drop (o.i + 1) a.row.now))))
           (ap (λ (s : Notes). (or_first o.first s.0, s.1)) q ∙ ap (λ (n : ℕ). (n, table)) (sym c.or_first-first.ensures)),
     )

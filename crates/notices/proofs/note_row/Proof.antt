@@ -56,11 +56,11 @@ shape_of-table-then-quiet-row c = search rules
 
 returns-then-quiet-row : tie.Need-returns-then-quiet-row
 returns-then-quiet-row c =
-    let l = c.before.before.before.before.before.before.before.before in
+    let l = c.before.before.before.before.before.before.before in
     let s = entry l in
     let o = c.over_row-found in (
       quiet_noted s.args.kinds s.args.parity s.args.from s.args.row.now s.args.table.now l.quiet_words-quiet.result (told l) s.args.noted.found o.result
-          o.new.1.1.1.1.0 (rw (part_rest l.quiet_words-quiet.result s.args.row.now) at o.ensures),
+          o.new.table (rw (part_rest l.quiet_words-quiet.result s.args.row.now) at o.ensures),
       c.is_clear-clear.ensures,
     )
 

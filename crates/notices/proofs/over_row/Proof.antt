@@ -83,7 +83,7 @@ loop-i-preserved c =
       c.table-1.given ∙ o.invariant.1,
       o.invariant.2 ∙ notes_next a.kinds a.parity a.row.now a.from o.i i (o.found, o.table)
           ∙ ap (notes_of (roles_in a.kinds a.parity (counted (a.from + (o.i + 1)) (drop (o.i + 1) a.row.now))))
-          (word_noted a.kinds a.parity (get_or a.row.now o.i 0) _ _ _ (a.from + o.i) (o.found, o.table) (t.result, t.new.table.1.1.1.1.0)
+          (word_noted a.kinds a.parity (get_or a.row.now o.i 0) _ _ _ (a.from + o.i) (o.found, o.table) (t.result, t.new.table)
           c.bus_of-bus.ensures c.label_of.ensures
           c.information_of.ensures t.ensures),
     )

@@ -121,18 +121,18 @@ moved c =
     let s = entry t.before in
     ⊎_elim
     (λ w.
-    let b : tie.After-bus_of invariant-loop-i decreases-loop-i = record { before = record { before = c.before; if1 = w.0 }; bus_of = w.1 } in
-    let k : tie.After-is_arinc invariant-loop-i decreases-loop-i = record { before = record { before = b; is-arinc-arg = w.2 }; is_arinc_lem = w.3 } in
-    rw w.7 (answered (record { before = record { before = record { before = k; if2 = w.4 }; answer_after = w.5 }; if3 = w.6 })))
+    let b : tie.After-bus_of invariant-loop-i decreases-loop-i = record { before = record { before = c.before; if-label_of-eq4 = w.if-label_of-eq4 }; bus_of = w.bus_of } in
+    let k : tie.After-is_arinc invariant-loop-i decreases-loop-i = record { before = record { before = b; is_arinc-arg-1 = w.is_arinc-arg-1 }; is_arinc = w.is_arinc } in
+    rw w.i-is (answered (record { before = record { before = record { before = k; if-is_arinc = w.if-is_arinc }; answer_after-further = w.answer_after-further }; if-further-eq0 = w.if-further-eq0 })))
     (λ w.
     ⊎_elim
     (λ v.
-    let b : tie.After-bus_of invariant-loop-i decreases-loop-i = record { before = record { before = c.before; if1 = v.0 }; bus_of = v.1 } in
-    let k : tie.After-is_arinc invariant-loop-i decreases-loop-i = record { before = record { before = b; is-arinc-arg = v.2 }; is_arinc_lem = v.3 } in
-    rw v.5 (no_notice t (told k ∙ v.4.false)))
-    (λ v. rw v.1 (no_notice t (other_told s.args.kinds s.args.parity (here t.before) c.label_of.result c.label_of.ensures v.0.false)))
+    let b : tie.After-bus_of invariant-loop-i decreases-loop-i = record { before = record { before = c.before; if-label_of-eq4 = v.if-label_of-eq4 }; bus_of = v.bus_of } in
+    let k : tie.After-is_arinc invariant-loop-i decreases-loop-i = record { before = record { before = b; is_arinc-arg-1 = v.is_arinc-arg-1 }; is_arinc = v.is_arinc } in
+    rw v.i-is (no_notice t (told k ∙ v.if-is_arinc.false)))
+    (λ v. rw v.i-is (no_notice t (other_told s.args.kinds s.args.parity (here t.before) c.label_of.result c.label_of.ensures v.if-label_of-eq4.false)))
     w)
-    c.if-label_of-eq4.branch
+    c.if-label_of-eq4.branch-raw
 
 overflow_add-i-in-loop-i : tie.Need-overflow_add-i-in-loop-i invariant-loop-i decreases-loop-i
 overflow_add-i-in-loop-i c = omega (arith, (moved c.before).1, (entry c.before.before.before.before.before).requires.1)

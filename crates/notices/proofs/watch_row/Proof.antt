@@ -22,7 +22,7 @@ quiet_words-quiet-requires : tie.Need-quiet_words-quiet-requires
 quiet_words-quiet-requires c κs = search rules
 
 abbrev entry : tie.After-quiet_words-quiet → tie.Start
-entry c = c.before.before.before.before.before.before
+entry c = c.before.before.before.before.before
 
 here : (c : tie.After-quiet_words-quiet) → c.quiet_words-quiet.result ≤ length (entry c).args.row.now
 here c = omega (arith, c.quiet_words-quiet.ensures, quiet_most (entry c).args.kinds (entry c).args.parity (entry c).args.row.now c.is_clear.result)
@@ -57,7 +57,7 @@ returns-then-arinc c =
     let q = c.quiet_words-quiet in
     let z = ap (quiet_words s.args.kinds s.args.parity s.args.row.now) c.is_clear.ensures in
     let o = c.first_shown in
-    quiet_watched s.args.kinds s.args.parity s.args.from s.args.row.now s.args.table.now q.result (q.ensures ∙ z) o.result o.new.1.1.1.1.0
+    quiet_watched s.args.kinds s.args.parity s.args.from s.args.row.now s.args.table.now q.result (q.ensures ∙ z) o.result o.new.table
     (rw (part_rest q.result s.args.row.now) at o.ensures)
 
 returns : tie.Need-returns

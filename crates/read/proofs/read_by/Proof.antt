@@ -40,7 +40,7 @@ abbrev groups : Read → ℕ
 groups c = length (capture c) / (3 * group_words (plan c))
 
 abbrev built : Read → List ℕ
-built c = c.read_groups-end.new.1.1.1.1.1.0
+built c = c.read_groups-end.new.out
 
 counted : (c : Read) → c.groups_in-n.result ≡ groups c
 counted c = c.groups_in-n.ensures
@@ -201,7 +201,7 @@ returns c =
     (subst
     (λ (n : ℕ).
     Given (roomed (plan r) (capture r) n (length (log r)) (length (times r)) (log_of (logged l).items)) given.give.result (log r)
-    given.give.new.1.1.1.1.1.0 (times r) given.give.new.1.1.1.1.1.1.0)
+    given.give.new.log (times r) given.give.new.times)
     (counted r) (given.give.ensures (log_of (logged l).items) (built_of (logged l))))
 
 pub read_by_spec : {M : Type 1} → statement M

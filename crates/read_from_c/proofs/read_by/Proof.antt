@@ -56,10 +56,10 @@ abbrev lent : Read → Lent
 lent c = c.before.before.before
 
 abbrev log_after : Read → List ℕ
-log_after c = c.read_either-answer.new.1.1.1.1.0
+log_after c = c.read_either-answer.new.log
 
 abbrev part_after : Read → List ℕ
-part_after c = c.read_either-answer.new.1.1.1.1.1.0
+part_after c = c.read_either-answer.new.times
 
 few : (c : Read) → c.read_either-answer.result.times-1 ≤ length (part (lent c))
 few c =
@@ -113,7 +113,7 @@ returns c =
     let r = read p.before in
     let l = lent r in
     let a = (start l).args in
-    rw (same_reading l) (given_bytes r.read_either-answer.result a.log-1.now (log_after r) (part l) (part_after r) a.times-1.now p.put_times.new.1.1.0
+    rw (same_reading l) (given_bytes r.read_either-answer.result a.log-1.now (log_after r) (part l) (part_after r) a.times-1.now p.put_times.new.bytes
     (drop (entries l) (row l)) (reading_in l (length (part l))) r.read_either-answer.ensures p.put_times.ensures)
 
 pub read_by_spec : {M : Type 1} → statement M

@@ -78,7 +78,7 @@ abbrev loop : Dealt → AtLoop
 loop c = (in_loop c).before
 
 abbrev row : Dealt → List ℕ
-row c = c.deal-fault.new.1.1.0
+row c = c.deal-fault.new.row
 
 low : (c : Dealt) → c.deal-fault.result.place < group_words (plan (loop c))
 low c = dealt_low (plan (loop c)) (shape (loop c)) (capture (loop c)) (loop c).loop-g.g c.deal-fault.ensures
@@ -181,7 +181,7 @@ noted c = c.before.before.before.before
 
 noted_next : (c : Noted-row)
     → let e = good_group (noted c) in
-    let l = group e in NotedTo (start l).args.kinds (plan l) (capture l) (start l).args.groups (l.loop-g.g + 1) c.note_row-noted.result.found c.note_row-noted.new.1.1.1.1.1.0
+    let l = group e in NotedTo (start l).args.kinds (plan l) (capture l) (start l).args.groups (l.loop-g.g + 1) c.note_row-noted.result.found c.note_row-noted.new.table
 noted_next c =
     let e = good_group (noted c) in
     let l = group e in

@@ -35,7 +35,7 @@ abbrev pass : Walked → Pass
 pass c = c.walk_groups-walk.result.pass-1
 
 abbrev out : Walked → List ℕ
-out c = c.walk_groups-walk.new.1.1.1.1.1.0
+out c = c.walk_groups-walk.new.out
 
 -- all groups were passed
 abbrev All : Type 0

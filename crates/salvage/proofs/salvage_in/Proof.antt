@@ -52,10 +52,10 @@ denied c k q r e f =
 
 -- the log is in the array
 in_built : (c : Judged) → Enough c.salvage_groups-tally.result (length (start c).args.log.now) (length (start c).args.times.now) (length (start c).args.report.now)
-    → c.salvage_groups-tally.result.bytes + 7 ≤ length c.salvage_groups-tally.new.1.1.1.1.1.0
+    → c.salvage_groups-tally.result.bytes + 7 ≤ length c.salvage_groups-tally.new.out
 in_built c h = go (dec_lt (length (start c).args.built.now) 32776)
   where
-    go : Dec (length (start c).args.built.now < 32776) → c.salvage_groups-tally.result.bytes + 7 ≤ length c.salvage_groups-tally.new.1.1.1.1.1.0
+    go : Dec (length (start c).args.built.now < 32776) → c.salvage_groups-tally.result.bytes + 7 ≤ length c.salvage_groups-tally.new.out
     go (yes l) = omega (arith, h.log-1, (start c).requires.1 l, c.built-1.given)
     go (no l) = omega (arith, h.short, c.built-1.given)
 
@@ -153,10 +153,10 @@ shape_of-report c = search rules
 returns : tie.Need-returns
 returns c =
     let wrote = c.before.before.before.before.before in
-    let times' = wrote.salvage_groups.new.1.1.1.1.1.1.0 in
-    let report' = wrote.salvage_groups.new.1.1.1.1.1.1.1.0 in
+    let times' = wrote.salvage_groups.new.times in
+    let report' = wrote.salvage_groups.new.report in
     let copied = wrote.before.before.before.before.before.before in
-    let log' = copied.copy.new.0 in
+    let log' = copied.copy.new.to in
     let third = copied.before.before.before in
     let second = third.before in
     let first = second.before in

@@ -59,13 +59,13 @@ abbrev lent : Done → Lent
 lent c = c.before.before.before.before
 
 abbrev log' : Done → List ℕ
-log' c = c.salvage-answer.new.1.1.1.0
+log' c = c.salvage-answer.new.log
 
 abbrev part' : Done → List ℕ
-part' c = c.salvage-answer.new.1.1.1.1.0
+part' c = c.salvage-answer.new.times
 
 abbrev report' : Done → List ℕ
-report' c = c.salvage-answer.new.1.1.1.1.1.0
+report' c = c.salvage-answer.new.report
 
 few : (c : Done) → c.salvage-answer.result.times-1 ≤ length (part (lent c))
 few c =
@@ -117,7 +117,7 @@ returns c =
     let e = least_enough a.plan a.kinds a.capture.now (length (log l)) (length (report l)) (length (times l) / 8) (length (row l)) (entries l) (start l).requires l.least-entries.ensures
     ∙ ap (with l) (sym (part_long l)) in
     rw e
-    (saves_bytes d.salvage-answer.result (log l) (log' d) (part l) (part' d) (report l) (report' d) (times l) t.put_times.new.1.1.0 (drop (entries l) (row l)) (given l) d.salvage-answer.ensures
+    (saves_bytes d.salvage-answer.result (log l) (log' d) (part l) (part' d) (report l) (report' d) (times l) t.put_times.new.bytes (drop (entries l) (row l)) (given l) d.salvage-answer.ensures
     t.put_times.ensures)
 
 pub salvage_by_spec : {M : Type 1} → statement M

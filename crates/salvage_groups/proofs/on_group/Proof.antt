@@ -55,7 +55,7 @@ sound : (c : Kept) → group_fault (start c).args.plan (start c).args.capture.no
 sound c = let s = start c in dealt_none s.args.plan (shape s) s.args.capture.now s.args.index c.deal-fault.ensures c.if-fault-ne0.false
 
 abbrev part : Kept → List ℕ
-part c = take (c.lead-first.result + (start c).args.count - c.lead-first.result) (drop c.lead-first.result c.deal-fault.new.1.1.0)
+part c = take (c.lead-first.result + (start c).args.count - c.lead-first.result) (drop c.lead-first.result c.deal-fault.new.row)
 
 part_is : (c : Kept) → part c ≡ words_in (group_slots (start c).args.plan (start c).args.capture.now ((start c).args.index * group_words (start c).args.plan))
 part_is c =
@@ -128,7 +128,7 @@ returns-then-fault-ne0 c =
       reel_dropped a.kinds a.plan a.capture.now a.index a.walk a.out-1.now a.times-1.now a.report-1.now f.number (a.index * group_words a.plan + f.place)
           (dealt-found a.plan (shape s) a.capture.now a.index c.deal-fault.ensures c.if-fault-ne0.true) e,
       record {
-        sound = dropped_sound a.plan (shape s) f.number a.index a.walk.pass c.drop_group-pass.result a.report-1.now c.drop_group-pass.new.1.1.1.1.1.0 s.requires.0.3.sound e;
+        sound = dropped_sound a.plan (shape s) f.number a.index a.walk.pass c.drop_group-pass.result a.report-1.now c.drop_group-pass.new.report s.requires.0.3.sound e;
         few = omega (arith, s.requires.0.3.few);
       },
     )

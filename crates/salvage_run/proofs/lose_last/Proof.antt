@@ -64,7 +64,7 @@ loop-index-preserved c =
     let l = c.before.before.before.before.before.before in
     let s = l.before.before in
     let f : ℕ → ℕ = stored_at s.args.plan in
-    let e : c.put_at.new.0 ≡ put_at l.loop-index.report-1 l.loop-index.entries (f (get_or (numbers_of s.args.last) l.loop-index.index 0)) =
+    let e : c.put_at.new.row ≡ put_at l.loop-index.report-1 l.loop-index.entries (f (get_or (numbers_of s.args.last) l.loop-index.index 0)) =
     c.put_at.ensures ∙ ap (put_at l.loop-index.report-1 l.loop-index.entries) c.stored_place.ensures in (
       omega arith,
       omega (arith, l.loop-index.invariant.1),

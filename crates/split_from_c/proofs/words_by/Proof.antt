@@ -53,10 +53,10 @@ abbrev least : Read → Lent
 least c = c.before.before.before
 
 abbrev words' : Read → List ℕ
-words' c = c.read_words-answer.new.1.1.1.0
+words' c = c.read_words-answer.new.words
 
 abbrev part' : Read → List ℕ
-part' c = c.read_words-answer.new.1.1.1.1.0
+part' c = c.read_words-answer.new.times
 
 few : (c : Read) → c.read_words-answer.result.times-1 ≤ length (part (least c))
 few c =
@@ -103,7 +103,7 @@ returns c =
     let e = least_enough (start l).args.plan (start l).args.kinds (start l).args.capture.now (length (words l)) (length (times l) / 8) (length (row l)) (entries l) (start l).requires l.least-entries.ensures
     ∙ ap (words_read (start l).args.plan (start l).args.kinds (start l).args.capture.now (length (words l))) (sym (part_long l)) in
     rw e
-    (given_bytes r.read_words-answer.result (words l) (words' r) (part l) (part' r) (times l) t.put_times.new.1.1.0 (drop (entries l) (row l)) (given l) r.read_words-answer.ensures
+    (given_bytes r.read_words-answer.result (words l) (words' r) (part l) (part' r) (times l) t.put_times.new.bytes (drop (entries l) (row l)) (given l) r.read_words-answer.ensures
     t.put_times.ensures)
 
 pub words_by_spec : {M : Type 1} → statement M

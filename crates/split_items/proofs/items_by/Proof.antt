@@ -36,7 +36,7 @@ abbrev log : Run-over → List ℕ
 log c = (start c).args.log.now
 
 -- they brought items
-logged : (c : tie.Else-run-ne0) → let k = c.before in Logged (kinds k) (parity k) (words k) (ran k).run_words-run.result (ran k).run_words-run.new.1.1.1.0
+logged : (c : tie.Else-run-ne0) → let k = c.before in Logged (kinds k) (parity k) (words k) (ran k).run_words-run.result (ran k).run_words-run.new.out
 logged c = (ran c.before).run_words-run.ensures.logged c.if-run-ne0.false
 
 -- ---- the needs

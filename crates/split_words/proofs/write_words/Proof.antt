@@ -101,7 +101,7 @@ abbrev loop : Dealt → AtLoop
 loop c = (in_loop c).before
 
 abbrev row : Dealt → List ℕ
-row c = (deal c).deal.new.1.1.0
+row c = (deal c).deal.new.row
 
 abbrev part : Dealt → List ℕ
 part c = let l = loop c in take (first l + count l - first l) (drop (first l) (row c))

@@ -50,7 +50,7 @@ Read = tie.After-notices_at
 abbrev within_limits : Read → Open
 within_limits n = n.before.before.before
 
-says : (n : Read) → let f = found (within_limits n).before in Says (start f).args.state.now f.load-found.result n.notices_at.new.1.0
+says : (n : Read) → let f = found (within_limits n).before in Says (start f).args.state.now f.load-found.result n.notices_at.new.table
 says n = record { is = (found (within_limits n).before).load-found.ensures; table_is = λ e. n.notices_at.ensures }
 
 -- ---- the needs

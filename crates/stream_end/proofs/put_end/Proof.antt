@@ -47,10 +47,10 @@ few e =
     let l = last s in
     omega (arith, size e, last_size s.args.pen l.bits s.args.step l.items l.brings [], l.few)
 
-built : (e : Closed) → e.close-bytes.new.1.0 ≡ closed_in (step_out (replicate 16 0) (from e).args.pen (from e).args.step) (step_pen (from e).args.pen (from e).args.step)
+built : (e : Closed) → e.close-bytes.new.out ≡ closed_in (step_out (replicate 16 0) (from e).args.pen (from e).args.step) (step_pen (from e).args.pen (from e).args.step)
 built e = e.close-bytes.ensures.1 ∙ ap₂ closed_in (put e).put_step-last.ensures.1 (put e).put_step-last.ensures.0
 
-long : (e : Closed) → length e.close-bytes.new.1.0 ≡ 16
+long : (e : Closed) → length e.close-bytes.new.out ≡ 16
 long e =
     let s = from e in
     let l = last s in

@@ -78,7 +78,7 @@ put_times-requires : tie.Need-put_times-requires
 put_times-requires c κs =
     let f = c.before.before.before.before.before.before.before.before in
     let l = lent f in
-    let p : List ℕ = f.feed-answer.new.1.1.1.0 in
+    let p : List ℕ = f.feed-answer.new.times in
     let there : f.feed-answer.result.times-1 ≤ length (p ++ drop (entries l) (row l)) =
     rw (length-append p (drop (entries l) (row l))) (omega (arith, told f, ap (λ (u : List ℕ). length u) f.feed-answer.ensures.times-1 ∙ length-append (outcome l).times-1 _)) in
     (there, omega (arith, few f, (both l).0))
@@ -104,7 +104,7 @@ returns c =
     let e = least_same a.state-1.now a.piece.now (length a.log-1.now) (length a.times-1.now / 8) (length (row l)) (entries l) (start l).requires l.least-entries.ensures
     ∙ ap (feeding a.state-1.now a.piece.now (length a.log-1.now)) (sym (part_long l)) in
     rw e
-    (leaves_bytes (outcome l) (take (entries l) (row l)) f.feed-answer.new.1.1.1.0 (drop (entries l) (row l)) a.times-1.now f.feed-answer.ensures t.put_times.ensures
+    (leaves_bytes (outcome l) (take (entries l) (row l)) f.feed-answer.new.times (drop (entries l) (row l)) a.times-1.now f.feed-answer.ensures t.put_times.ensures
     (told_times a.state-1.now a.piece.now (length a.log-1.now) (length (take (entries l) (row l)))))
 
 pub feed_by_spec : {M : Type 1} → statement M

@@ -45,7 +45,7 @@ group c = dealt c.before.before
 abbrev part : Led → List ℕ
 part c =
     let n = c.lead-first.result in
-    take (n + (start (group c)).args.count - n) (drop n (group c).deal-fault.new.1.1.0)
+    take (n + (start (group c)).args.count - n) (drop n (group c).deal-fault.new.row)
 
 part_is : (c : Led) → let a = (start (group c)).args in part c ≡ words_in (group_slots a.plan a.group.now 0)
 part_is c =

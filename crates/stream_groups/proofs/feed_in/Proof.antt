@@ -41,8 +41,8 @@ sized t = t.before.before.before.before.before.before.before.before.before.befor
 goes : (t : Through) → Goes (start (sized t)).args.stand.plan-1 (kinds_at (start (sized t)).args.state.now)
     (total (start (sized t)).args.state.now (start (sized t)).args.stand (start (sized t)).args.table.now (start (sized t)).args.piece.now (length (start (sized t)).args.log.now)
     (length (start (sized t)).args.times.now) (start (sized t)).args.filled (filled (start (sized t)))) (start_of (start (sized t)).args.stand) t.through-along.result
-    t.through-along.new.1.1.1.1.0 (start (sized t)).args.log.now t.through-along.new.1.1.1.1.1.1.1.1.0 (start (sized t)).args.times.now
-    t.through-along.new.1.1.1.1.1.1.1.1.1.0
+    t.through-along.new.table (start (sized t)).args.log.now t.through-along.new.log (start (sized t)).args.times.now
+    t.through-along.new.times
 goes t = rw t.kinds_at-kinds.ensures at t.through-along.ensures
 
 tail : (t : Through) → take (length (start (sized t)).args.piece.now - ((start (sized t)).args.filled * (3 * (sized t).group_words.result) - (start (sized t)).args.stand.waiting))

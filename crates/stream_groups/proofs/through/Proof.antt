@@ -51,7 +51,7 @@ group k = take (1024 + size k - 1024) (drop 1024 k.complete.last.0)
 group_is : (k : Whole) → group k ≡ take (start k).args.stand.waiting (drop 1024 (start k).args.state.now) ++ take (front k) (start k).args.piece.now
 group_is k =
     let a = (start k).args in
-    first_group a.state-1.now a.piece.now k.complete.new.0 a.stand.waiting (front k) (size k) (fronted k ∙ sym (sized k)) (in_state k) (in_piece k) k.complete.ensures
+    first_group a.state-1.now a.piece.now k.complete.new.state a.stand.waiting (front k) (size k) (fronted k ∙ sym (sized k)) (in_state k) (in_piece k) k.complete.ensures
 
 abbrev flow : Whole → Flow
 flow k = let a = (start k).args in feed_bytes (working (work_of a.stand.plan-1 a.kinds (start_of a.stand) a.table-1.now)) (group k)
@@ -70,8 +70,8 @@ abbrev whole : First → Whole
 whole o = o.before.before.before.before.before.before.before.before.before.before.before.before
 
 goes : (o : First) → Goes (start (whole o)).args.stand.plan-1 (start (whole o)).args.kinds (flow (whole o)) (start_of (start (whole o)).args.stand) o.on_group-first.result
-    o.on_group-first.new.1.1.1.1.1.0 (start (whole o)).args.log.now o.on_group-first.new.1.1.1.1.1.1.1.1.0 (start (whole o)).args.times.now
-    o.on_group-first.new.1.1.1.1.1.1.1.1.1.0
+    o.on_group-first.new.table (start (whole o)).args.log.now o.on_group-first.new.log (start (whole o)).args.times.now
+    o.on_group-first.new.times
 goes o = rw o.start_along-start.ensures at o.on_group-first.ensures
 
 -- and the others

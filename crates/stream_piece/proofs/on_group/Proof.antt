@@ -42,8 +42,8 @@ flows : (s : tie.Start) → flow s ≡ taken (work_of s.args.plan s.args.kinds s
 flows s = let a = s.args in group_flow (work_of a.plan a.kinds a.along a.table-1.now) a.group.now (grants s).shape refl s.requires.0.3
 
 -- it is taken
-went : (c : Taken) → (took c).number ≡ 0 → Went (brought (start c)) (start c).args.along.pen (start c).args.out.now (took c) c.take_group-took.new.1.1.1.1.1.1.1.1.0
-    c.take_group-took.new.1.1.1.1.1.1.1.1.1.1.0
+went : (c : Taken) → (took c).number ≡ 0 → Went (brought (start c)) (start c).args.along.pen (start c).args.out.now (took c) c.take_group-took.new.table
+    c.take_group-took.new.out
 went c z = c.take_group-took.ensures.went z
 
 -- and its log has room
@@ -52,7 +52,7 @@ record Room (s : tie.Start) (k : Took) (out : List ℕ) : Type 0 where
   bytes : s.args.along.bytes + k.pen.bits / 8 ≤ length s.args.log.now
   entries : s.args.along.times-1 + times_needed s.args.plan 1 ≤ length s.args.times.now
 
-room : (c : Taken) → (took c).number ≡ 0 → Room (start c) (took c) c.take_group-took.new.1.1.1.1.1.1.1.1.1.1.0
+room : (c : Taken) → (took c).number ≡ 0 → Room (start c) (took c) c.take_group-took.new.out
 room c z =
     let s = start c in
     let a = s.args in

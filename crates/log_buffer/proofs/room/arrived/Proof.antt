@@ -6,7 +6,7 @@ taken-requires : tie.Need-taken-requires
 taken-requires c κs = search rules
 
 returns-then-stored : tie.Need-returns-then-stored
-returns-then-stored c = rw c.if-stored.true c.true.ensures
+returns-then-stored c = rw c.if-stored.true c.taken.ensures
 
 missed-requires : tie.Need-missed-requires
 missed-requires c κs = search rules

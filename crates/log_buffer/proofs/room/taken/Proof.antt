@@ -1,7 +1,7 @@
 use mathlib.Core.Path.{refl}
 use borrow.Author.Rules.{rules}
-use Rattle.log_buffer.proofs.room.true.Statement.{statement}
-use Rattle.log_buffer.proofs.room.true.Tie as tie
+use Rattle.log_buffer.proofs.room.taken.Statement.{statement}
+use Rattle.log_buffer.proofs.room.taken.Tie as tie
 
 need-requires : tie.Need-need-requires
 need-requires c κs = search rules

@@ -46,7 +46,7 @@ returns-then-fields-eq1 c =
     let f = timed c in
     let log = (entry f).args.log.now in
     λ p g.
-    let q : f.channelled-fields.result.next.at ≡ p + 43 = omega (arith, f.channelled-fields.ensures.3, g.next-1.place) in
+    let q : f.channelled-fields.result.next.at ≡ p + 43 = omega (arith, f.channelled-fields.ensures.3, g.next.place) in
     let t : p + 43 + 46 ≤ length (bytes_bits log) → time_at (bytes_bits log) (p + 43) ≡ c.time_at.result =
     λ l. sym (rw q at (c.time_at.ensures (omega (arith, l, length_bytes log, q)))) in
     rw (arinc_tagged g (rw f.channelled-fields.ensures.0 at c.if-fields-eq1.true) _ t, ← f.channelled-fields.ensures.0, ← q) (c.if_there.ensures (bytes_bits log) (length_bytes log))

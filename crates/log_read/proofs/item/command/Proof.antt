@@ -46,7 +46,7 @@ returns-then-fields-eq1 c =
     let f = timed c in
     let log = (entry f).args.log.now in
     λ p g.
-    let q : f.marked-fields.result.next.at ≡ p + 26 = omega (arith, f.marked-fields.ensures.4, g.next-1.place) in
+    let q : f.marked-fields.result.next.at ≡ p + 26 = omega (arith, f.marked-fields.ensures.4, g.next.place) in
     let t : p + 26 + 46 ≤ length (bytes_bits log) → time_at (bytes_bits log) (p + 26) ≡ c.time_at.result =
     λ l. sym (rw q at (c.time_at.ensures (omega (arith, l, length_bytes log, q)))) in
     rw (command-tagged g (rw f.marked-fields.ensures.0 at c.if-fields-eq1.true) _ t, ← f.marked-fields.ensures.0, ← q) (c.if_there.ensures (bytes_bits log) (length_bytes log))

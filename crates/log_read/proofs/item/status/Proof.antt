@@ -36,7 +36,7 @@ returns-then-fields-eq1 c =
     let f = timed c in
     let r = c.take-after in
     λ s e p g.
-    let q : r.result.next.at ≡ p + 26 + 14 = omega (arith, f.marked-fields.ensures.4, r.ensures.2, g.next-1.place) in
+    let q : r.result.next.at ≡ p + 26 + 14 = omega (arith, f.marked-fields.ensures.4, r.ensures.2, g.next.place) in
     rw (status-timed g (rw f.marked-fields.ensures.0 at c.if-fields-eq1.true), ← f.marked-fields.ensures.0, ← r.ensures.0, ← q)
     (c.if_there.ensures s e)
 

@@ -34,8 +34,8 @@ returns-then-number-ne0 : tie.Need-returns-then-number-ne0 invariant-loop-item d
 returns-then-number-ne0 c =
     let a = c.args in
     let o = c.loop-item in
-    let i = c.item, .loop-item.given in
-    let f = follows a.log.now o.at.at c.item.result i.0.0 i.0.1.0 c.item.ensures i.1 in
+    let i = c.in-Has in
+    let f = follows a.log.now o.at.at c.item.result i.item i.next c.item.ensures i.is in
     let e = c.fault_of-number.ensures in
     rw e (sym (o.invariant.4 ∙ tally-fault on_no_plan a.log.now o.at.at o.items o.words o.invariant.0 o.invariant.1 _ _ f (λ z. c.if-number-ne0.true (e ∙ z))))
 
@@ -52,21 +52,21 @@ loop-item-smaller : tie.Need-loop-item-smaller invariant-loop-item decreases-loo
 loop-item-smaller c =
     let a = c.args in
     let o = c.loop-item in
-    let i = c.item, .loop-item.given in
-    let f = follows a.log.now o.at.at c.item.result i.0.0 i.0.1.0 c.item.ensures i.1 in
+    let i = c.in-Has in
+    let f = follows a.log.now o.at.at c.item.result i.item i.next c.item.ensures i.is in
     omega (arith, f.far, f.fits)
 
 loop-item-preserved : tie.Need-loop-item-preserved invariant-loop-item decreases-loop-item
 loop-item-preserved c =
     let a = c.args in
     let o = c.loop-item in
-    let i = c.item, .loop-item.given in
-    let f = follows a.log.now o.at.at c.item.result i.0.0 i.0.1.0 c.item.ensures i.1 in (
+    let i = c.in-Has in
+    let f = follows a.log.now o.at.at c.item.result i.item i.next c.item.ensures i.is in (
       omega (arith, f.far),
       f.fits,
-      omega (arith, words_few i.0.0, c.words_of-words.ensures),
+      omega (arith, words_few i.item, c.words_of-words.ensures),
       o.invariant.3,
-      rw c.words_of-words.ensures (o.invariant.4 ∙ tally-more on_no_plan a.log.now o.at.at o.items o.words o.invariant.0 o.invariant.1 i.0.0 _ f (sym c.fault_of-number.ensures ∙ c.if-number-ne0.false)),
+      rw c.words_of-words.ensures (o.invariant.4 ∙ tally-more on_no_plan a.log.now o.at.at o.items o.words o.invariant.0 o.invariant.1 i.item _ f (sym c.fault_of-number.ensures ∙ c.if-number-ne0.false)),
     )
 
 enum_told-1 : tie.Need-enum_told-1 invariant-loop-item decreases-loop-item

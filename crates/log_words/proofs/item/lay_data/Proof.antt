@@ -41,7 +41,7 @@ returns c =
     let j = made l in
     let f = read j in
     λ s e ks p g b.
-    let q : f.sided-fields.result.next-1.at ≡ p + 25 = omega (arith, f.sided-fields.ensures.3, g.next-1.place) in
+    let q : f.sided-fields.result.next.at ≡ p + 25 = omega (arith, f.sided-fields.ensures.3, g.next.place) in
     read_lays (data_read g) ks _ b e (omega arith) l.is_1553.ensures refl
     (data_word f.args.head.bus f.sided-fields.ensures.0 f.sided-fields.ensures.1 j.join-word.ensures)
     q l.lay_one.ensures

@@ -55,7 +55,7 @@ returns c =
     let hi = j.high_label in
     let lo = j.low_label in
     λ s e ks p g b.
-    let q : f.noticed-fields.result.next-1.at ≡ p + 18 = omega (arith, f.noticed-fields.ensures.3, g.next-1.place) in
+    let q : f.noticed-fields.result.next.at ≡ p + 18 = omega (arith, f.noticed-fields.ensures.3, g.next.place) in
     read_lays (notice_read g) ks _ b e (omega arith) l.is_arinc.ensures refl
     (notice_word f.args.head.bus hi.result lo.result f.noticed-fields.ensures.0 hi.ensures lo.ensures j.join-word.ensures)
     q l.lay_one.ensures

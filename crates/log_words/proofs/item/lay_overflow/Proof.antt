@@ -34,7 +34,7 @@ returns c =
     let j = made l in
     let f = read j in
     λ s e ks p g b.
-    let q : f.take-took.result.next-1.at ≡ p + 24 = omega (arith, f.take-took.ensures.2, g.next-1.place) in
+    let q : f.take-took.result.next.at ≡ p + 24 = omega (arith, f.take-took.ensures.2, g.next.place) in
     read_lays (overflow_read g) ks _ b e (omega arith) l.is_used.ensures refl
     (rw (j.join-word.ensures, ← f.take-took.ensures.0))
     q l.lay_one.ensures

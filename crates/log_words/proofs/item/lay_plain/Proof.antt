@@ -39,9 +39,9 @@ returns c =
     let f = read j in
     let a = f.before.before.before in
     λ s e ks p g b.
-    let q : f.sided-fields.result.next-1.at ≡ p + 25 = omega (arith, f.sided-fields.ensures.3, g.next-1.place) in
+    let q : f.sided-fields.result.next.at ≡ p + 25 = omega (arith, f.sided-fields.ensures.3, g.next.place) in
     read_lays (plain_read g a.args.head.kind a.requires.3) ks _ b e (omega arith) l.plain_stands.ensures refl
-    (plain_word a.args.head.bus a.args.head.kind j.Plain-Label.result f.sided-fields.ensures.0 j.Plain-Label.ensures.0 j.join-word.ensures)
+    (plain_word a.args.head.bus a.args.head.kind j.plain_label-label.result f.sided-fields.ensures.0 j.plain_label-label.ensures.0 j.join-word.ensures)
     q l.lay_one.ensures
 
 pub lay_plain_spec : {M : Type 1} → statement M
