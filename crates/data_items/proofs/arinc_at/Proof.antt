@@ -157,7 +157,7 @@ tag_of-requires : tie.Need-tag_of-requires
 tag_of-requires c κs = omega (arith, (start-put_in c.before.before.before).requires.0.five)
 
 put_in-tagged-requires : tie.Need-put_in-tagged-requires
-put_in-tagged-requires c κs = let r = room_behind (start-tag_of c).args.from.pen-1 (start-tag_of c).args.out.now (omega arith)
+put_in-tagged-requires c κs = let r = room_behind (start-tag_of c).args.from.pen (start-tag_of c).args.out.now (omega arith)
     (arinc-marked (start-tag_of c).requires.0 (start-tag_of c).requires.1 (start-tag_of c).requires.2
     (before-top_of2 (before-then2 (before-is_tag (before-then3 (before-put_in (before-tag_of c)))))).syllable-high.ensures refl) (before-tag_of c).put_in-marked.ensures
     (start-tag_of c).requires.0.few (start-tag_of c).requires.0.room in (r.0, omega arith, rw c.tag_of.ensures (tag_fits _ _ _), r.1)

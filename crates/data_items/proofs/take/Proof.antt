@@ -134,14 +134,14 @@ spot_then c = record {
 
 -- there is room for what the words from it on bring
 room : (c : tie.In-loop-slot invariant-loop-slot decreases-loop-slot)
-    → ((before-in c).loop-slot.pen-1.bits < 2 ^ 60) × ((before-in c).loop-slot.pen-1.bits + 32 * (length (entry c).args.row.now - (before-in c).loop-slot.slot) + 64 ≤ 8 *
-    length (before-in c).loop-slot.out-1)
+    → ((before-in c).loop-slot.pen.bits < 2 ^ 60) × ((before-in c).loop-slot.pen.bits + 32 * (length (entry c).args.row.now - (before-in c).loop-slot.slot) + 64 ≤ 8 *
+    length (before-in c).loop-slot.out)
 room c = took_roomy (before-in c).loop-slot.invariant (entry c).requires.1 c.loop-slot-test.true
 
 -- what was taken at once
 more : (c : tie.After-item_at-next invariant-loop-slot decreases-loop-slot)
     → Took (entry (turn-item_at c)).args.kinds (entry (turn-item_at c)).args.parity (entry (turn-item_at c)).args.row.now
-    (record { slot = (before-in (turn-item_at c)).loop-slot.slot; pen = (before-in (turn-item_at c)).loop-slot.pen-1 }) (before-in (turn-item_at c)).loop-slot.out-1
+    (record { slot = (before-in (turn-item_at c)).loop-slot.slot; pen = (before-in (turn-item_at c)).loop-slot.pen }) (before-in (turn-item_at c)).loop-slot.out
     c.item_at-next.result c.item_at-next.new.out
 more c =
     rw (parity_back (entry (turn-item_at c)).args.parity (before-openings

@@ -61,7 +61,7 @@ number_returns : (t : ℕ) → number-lts.Need-returns (
   number_below t,
   number.Post,
 ) (number_at t) number.Post
-number_returns t c = adds_same c.before.before.put.ensures (sym (decimal_one c.before.before.before.before.before.before.args.n (omega arith)))
+number_returns t c = adds_same c.before.before.put-2.ensures (sym (decimal_one c.before.before.before.before.before.before.args.n (omega arith)))
 
 number_number_requires : (t : ℕ) → number-lts.Need-number-requires (
   put_reads.Asked,
@@ -95,7 +95,7 @@ number_put_requires_2 : (t : ℕ) → number-lts.Need-put-requires-2 (
 ) (number_at t) number.Post
 number_put_requires_2 t c κs =
     let tens = c.before.before.before in
-    omega (arith, adds_room tens.number.ensures 1 (omega (arith, decimal_long tens.before.before.before.before.args.n (omega arith) (omega arith))))
+    omega (arith, adds_room tens.number-next.ensures 1 (omega (arith, decimal_long tens.before.before.before.before.args.n (omega arith) (omega arith))))
 
 number_same_length_2 : (t : ℕ) → number-lts.Need-same_length-2 (
   put_reads.Asked,
@@ -105,7 +105,7 @@ number_same_length_2 : (t : ℕ) → number-lts.Need-same_length-2 (
 ) (number_at t) number.Post
 number_same_length_2 t c = search rules
 
-number_returns_2 : (t : ℕ) → number-lts.Need-returns-2 (
+number_returns_2 : (t : ℕ) → number-lts.Need-returns (
   put_reads.Asked,
   put_reads.Learnt,
   number_below t,
@@ -114,7 +114,7 @@ number_returns_2 : (t : ℕ) → number-lts.Need-returns-2 (
 number_returns_2 t c =
     let last = c.before.before in
     let tens = last.before.before.before.before in
-    adds_same (adds_then tens.number.ensures last.put2.ensures)
+    adds_same (adds_then tens.number-next.ensures last.put2.ensures)
     (sym (decimal_more tens.before.before.before.before.args.n (omega arith) (omega arith)))
 
 pub +number_spec : {M : Type 1} → statement M

@@ -22,16 +22,16 @@ second c = c.before.before.before.before
 -- ---- the text so far, behind each call
 
 so_far_1 : (c : tie.After-channelled-n1) → let a = (start c).args in
-    Short (channelled 97 114 110 a.bus a.channel) a.out-1.now a.at c.channelled-n1.new.out c.channelled-n1.result 46
+    Short (channelled 97 114 110 a.bus a.channel) a.out.now a.at c.channelled-n1.new.out c.channelled-n1.result 46
 so_far_1 c = let a = (start c).args in channelled_short 97 114 110 a.bus a.channel c.channelled-n1.ensures
 
 so_far_2 : (c : tie.After-hex8-n2) → let a = (start (first c)).args in
-    Short (channelled 97 114 110 a.bus a.channel ++ hex 8 a.word) a.out-1.now a.at c.hex8-n2.new.out c.hex8-n2.result 54
+    Short (channelled 97 114 110 a.bus a.channel ++ hex 8 a.word) a.out.now a.at c.hex8-n2.new.out c.hex8-n2.result 54
 so_far_2 c = short_then 8 (so_far_1 (first c)) c.hex8-n2.ensures (omega (arith, hex_long 8 (start (first c)).args.word))
 
 so_far_3 : (c : tie.After-tag_text-n3) → let a = (start (first (second c))).args in
     Short ((channelled 97 114 110 a.bus a.channel ++ hex 8 a.word) ++ tag_text a.tag)
-    a.out-1.now a.at c.tag_text-n3.new.out c.tag_text-n3.result 78
+    a.out.now a.at c.tag_text-n3.new.out c.tag_text-n3.result 78
 so_far_3 c = short_then 24 (so_far_2 (second c)) c.tag_text-n3.ensures (tag_few (start (first (second c))).args.tag)
 
 -- ---- the needs

@@ -18,11 +18,11 @@ first c = c.before.before.before.before
 -- ---- the text so far, behind each call
 
 so_far_1 : (c : tie.After-sided-n1) → let a = (start c).args in
-    Short (sided 99 109 100 a.bus a.b a.word) a.out-1.now a.at c.sided-n1.new.out c.sided-n1.result 31
+    Short (sided 99 109 100 a.bus a.b a.word) a.out.now a.at c.sided-n1.new.out c.sided-n1.result 31
 so_far_1 c = let a = (start c).args in sided_short 99 109 100 a.bus a.b a.word c.sided-n1.ensures
 
 so_far_2 : (c : tie.After-tag_text-n2) → let a = (start (first c)).args in
-    Short (sided 99 109 100 a.bus a.b a.word ++ tag_text a.tag) a.out-1.now a.at c.tag_text-n2.new.out c.tag_text-n2.result 55
+    Short (sided 99 109 100 a.bus a.b a.word ++ tag_text a.tag) a.out.now a.at c.tag_text-n2.new.out c.tag_text-n2.result 55
 so_far_2 c = short_then 24 (so_far_1 (first c)) c.tag_text-n2.ensures (tag_few (start (first c)).args.tag)
 
 -- ---- the needs

@@ -10,7 +10,7 @@ start c = c.before.before.before
 
 -- the text so far
 so_far : (c : tie.After-sided-n1) → let a = (start c).args in
-    Short (sided 100 97 116 a.bus a.b a.word) a.out-1.now a.at c.sided-n1.new.out c.sided-n1.result 31
+    Short (sided 100 97 116 a.bus a.b a.word) a.out.now a.at c.sided-n1.new.out c.sided-n1.result 31
 so_far c = let a = (start c).args in sided_short 100 97 116 a.bus a.b a.word c.sided-n1.ensures
 
 sided-n1-requires : tie.Need-sided-n1-requires

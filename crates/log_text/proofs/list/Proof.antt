@@ -83,7 +83,7 @@ returns-in-Fault c =
     let e = c.before.before in
     let t = e.before.before in
     let p = t.before in
-    let g = t.tally-in-Fault-1.given in
+    let g = t.in-Fault, .parse-tally.given in
     adds_same e.refused_line.ensures (listing_refused (log p) _ _ (refused (log p) p.parse-tally.result g.0.0 g.0.1.0 p.parse-tally.ensures g.1))
 
 pub list_spec : {M : Type 1} → statement M

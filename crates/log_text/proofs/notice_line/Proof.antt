@@ -19,11 +19,11 @@ first c = c.before.before.before.before
 -- ---- the text so far, behind each call
 
 so_far_1 : (c : tie.After-channelled-n1) → let a = (start c).args in
-    Short (channelled 97 114 101 a.bus a.channel) a.out-1.now a.at c.channelled-n1.new.out c.channelled-n1.result 46
+    Short (channelled 97 114 101 a.bus a.channel) a.out.now a.at c.channelled-n1.new.out c.channelled-n1.result 46
 so_far_1 c = let a = (start c).args in channelled_short 97 114 101 a.bus a.channel c.channelled-n1.ensures
 
 so_far_2 : (c : tie.After-hex2-n2) → let a = (start (first c)).args in
-    Short (channelled 97 114 101 a.bus a.channel ++ hex 2 a.diagnostics) a.out-1.now a.at c.hex2-n2.new.out c.hex2-n2.result 48
+    Short (channelled 97 114 101 a.bus a.channel ++ hex 2 a.diagnostics) a.out.now a.at c.hex2-n2.new.out c.hex2-n2.result 48
 so_far_2 c = short_then 2 (so_far_1 (first c)) c.hex2-n2.ensures (omega (arith, hex_long 2 (start (first c)).args.diagnostics))
 
 -- ---- the needs

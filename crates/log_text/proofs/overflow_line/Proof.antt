@@ -20,11 +20,11 @@ first c = c.before.before.before.before
 -- ---- the text so far, behind each call
 
 so_far_1 : (c : tie.After-start-n1) → let a = (start c).args in
-    Short (named 111 118 102 a.bus) a.out-1.now a.at c.start-n1.new.out c.start-n1.result 25
+    Short (named 111 118 102 a.bus) a.out.now a.at c.start-n1.new.out c.start-n1.result 25
 so_far_1 c = let a = (start c).args in named_short 111 118 102 a.bus c.start-n1.ensures
 
 so_far_2 : (c : tie.After-hex4-n2) → let a = (start (first c)).args in
-    Short (named 111 118 102 a.bus ++ hex 4 a.word) a.out-1.now a.at c.hex4-n2.new.out c.hex4-n2.result 29
+    Short (named 111 118 102 a.bus ++ hex 4 a.word) a.out.now a.at c.hex4-n2.new.out c.hex4-n2.result 29
 so_far_2 c = short_then 4 (so_far_1 (first c)) c.hex4-n2.ensures (omega (arith, hex_long 4 (start (first c)).args.word))
 
 -- ---- the needs

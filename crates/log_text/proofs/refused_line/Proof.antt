@@ -28,26 +28,26 @@ fourth c = c.before.before.before.before
 
 -- ---- the text so far, behind each call
 
-so_far_1 : (c : tie.After-four-n1) → let a = (start c).args in Short (text "refu") a.out-1.now a.at c.four-n1.new.out c.four-n1.result 4
+so_far_1 : (c : tie.After-four-n1) → let a = (start c).args in Short (text "refu") a.out.now a.at c.four-n1.new.out c.four-n1.result 4
 unfolding text list
 so_far_1 c = short 4 c.four-n1.ensures (omega arith)
 
 so_far_2 : (c : tie.After-four-n2) → let a = (start (first c)).args in
-    Short (text "refused ") a.out-1.now a.at c.four-n2.new.out c.four-n2.result 8
+    Short (text "refused ") a.out.now a.at c.four-n2.new.out c.four-n2.result 8
 unfolding text list
 so_far_2 c = short_then 4 (so_far_1 (first c)) c.four-n2.ensures (omega arith)
 
 so_far_3 : (c : tie.After-number-n3) → let a = (start (first (second c))).args in
-    Short (text "refused " ++ decimal a.refusal) a.out-1.now a.at c.number-n3.new.out c.number-n3.result 28
+    Short (text "refused " ++ decimal a.refusal) a.out.now a.at c.number-n3.new.out c.number-n3.result 28
 so_far_3 c = short_then 20 (so_far_2 (second c)) c.number-n3.ensures (decimal_few (start (first (second c))).args.refusal)
 
 so_far_4 : (c : tie.After-four-n4) → let a = (start (first (second (third c)))).args in
-    Short ((text "refused " ++ decimal a.refusal) ++ text " at ") a.out-1.now a.at c.four-n4.new.out c.four-n4.result 32
+    Short ((text "refused " ++ decimal a.refusal) ++ text " at ") a.out.now a.at c.four-n4.new.out c.four-n4.result 32
 unfolding text list
 so_far_4 c = short_then 4 (so_far_3 (third c)) c.four-n4.ensures (omega arith)
 
 so_far_5 : (c : tie.After-number-n5) → let a = (start (first (second (third (fourth c))))).args in
-    Short (((text "refused " ++ decimal a.refusal) ++ text " at ") ++ decimal a.place) a.out-1.now a.at c.number-n5.new.out c.number-n5.result 52
+    Short (((text "refused " ++ decimal a.refusal) ++ text " at ") ++ decimal a.place) a.out.now a.at c.number-n5.new.out c.number-n5.result 52
 so_far_5 c = short_then 20 (so_far_4 (fourth c)) c.number-n5.ensures (decimal_few (start (first (second (third (fourth c))))).args.place)
 
 -- ---- the needs

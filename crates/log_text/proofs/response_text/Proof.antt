@@ -56,7 +56,7 @@ number-requires c κs =
 returns-in-Untimed : tie.Need-returns-in-Untimed
 returns-in-Untimed c =
     let a = c.args in
-    rw c.in-Untimed.is (adds_none a.out-1.now a.at (omega arith))
+    rw c.in-Untimed.is (adds_none a.out.now a.at (omega arith))
 
 shape_of-out : tie.Need-shape_of-out
 shape_of-out c = search rules

@@ -19,11 +19,11 @@ first c = c.before.before.before.before.before
 -- ---- the text so far, behind each call
 
 so_far_1 : (c : tie.After-start-n1) → let a = (start c).args in
-    Short (named a.a a.b a.c a.bus) a.out-1.now a.at c.start-n1.new.out c.start-n1.result 25
+    Short (named a.a a.b a.c a.bus) a.out.now a.at c.start-n1.new.out c.start-n1.result 25
 so_far_1 c = let a = (start c).args in named_short a.a a.b a.c a.bus c.start-n1.ensures
 
 so_far_2 : (c : tie.After-two-n2) → let a = (start (first c)).args in
-    Short (named a.a a.b a.c a.bus ++ (c.side_letter.result ∷ 32 ∷ [])) a.out-1.now a.at c.two-n2.new.out c.two-n2.result 27
+    Short (named a.a a.b a.c a.bus ++ (c.side_letter.result ∷ 32 ∷ [])) a.out.now a.at c.two-n2.new.out c.two-n2.result 27
 so_far_2 c = short_then 2 (so_far_1 (first c)) c.two-n2.ensures (omega arith)
 
 -- ---- the needs

@@ -18,11 +18,11 @@ first c = c.before.before.before.before
 
 -- ---- the text so far, behind each call
 
-so_far_1 : (c : tie.After-four-n1) → let a = (start c).args in Short (a.a ∷ a.b ∷ a.c ∷ 32 ∷ []) a.out-1.now a.at c.four-n1.new.out c.four-n1.result 4
+so_far_1 : (c : tie.After-four-n1) → let a = (start c).args in Short (a.a ∷ a.b ∷ a.c ∷ 32 ∷ []) a.out.now a.at c.four-n1.new.out c.four-n1.result 4
 so_far_1 c = short 4 c.four-n1.ensures (omega arith)
 
 so_far_2 : (c : tie.After-number-n2) → let a = (start (first c)).args in
-    Short ((a.a ∷ a.b ∷ a.c ∷ 32 ∷ []) ++ decimal a.bus) a.out-1.now a.at c.number-n2.new.out c.number-n2.result 24
+    Short ((a.a ∷ a.b ∷ a.c ∷ 32 ∷ []) ++ decimal a.bus) a.out.now a.at c.number-n2.new.out c.number-n2.result 24
 so_far_2 c = short_then 20 (so_far_1 (first c)) c.number-n2.ensures (decimal_few (start (first c)).args.bus)
 
 -- ---- the needs

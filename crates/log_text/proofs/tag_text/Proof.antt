@@ -28,7 +28,7 @@ number-requires c κs =
 returns-in-Untagged : tie.Need-returns-in-Untagged
 returns-in-Untagged c =
     let a = c.args in
-    rw c.in-Untagged.is (adds_none a.out-1.now a.at (omega arith))
+    rw c.in-Untagged.is (adds_none a.out.now a.at (omega arith))
 
 shape_of-out : tie.Need-shape_of-out
 shape_of-out c = search rules

@@ -23,16 +23,16 @@ second c = c.before.before.before.before
 -- ---- the text so far, behind each call
 
 so_far_1 : (c : tie.After-start-n1) → let a = (start c).args in
-    Short (named 117 115 114 a.bus) a.out-1.now a.at c.start-n1.new.out c.start-n1.result 25
+    Short (named 117 115 114 a.bus) a.out.now a.at c.start-n1.new.out c.start-n1.result 25
 so_far_1 c = named_short 117 115 114 (start c).args.bus c.start-n1.ensures
 
 so_far_2 : (c : tie.After-two-n2) → let a = (start (first c)).args in
-    Short (named 117 115 114 a.bus ++ (c.user_label.result ∷ 32 ∷ [])) a.out-1.now a.at c.two-n2.new.out c.two-n2.result 27
+    Short (named 117 115 114 a.bus ++ (c.user_label.result ∷ 32 ∷ [])) a.out.now a.at c.two-n2.new.out c.two-n2.result 27
 so_far_2 c = short_then 2 (so_far_1 (first c)) c.two-n2.ensures (omega arith)
 
 so_far_3 : (c : tie.After-hex4-n3) → let a = (start (first (second c))).args in
     Short ((named 117 115 114 a.bus ++ ((second c).user_label.result ∷ 32 ∷ [])) ++ hex 4 a.word)
-    a.out-1.now a.at c.hex4-n3.new.out c.hex4-n3.result 31
+    a.out.now a.at c.hex4-n3.new.out c.hex4-n3.result 31
 so_far_3 c = short_then 4 (so_far_2 (second c)) c.hex4-n3.ensures (omega (arith, hex_long 4 (start (first (second c))).args.word))
 
 -- ---- the needs
