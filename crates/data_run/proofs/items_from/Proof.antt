@@ -24,7 +24,7 @@ abbrev start-least : tie.After-least-end → tie.Start
 start-least c = c.before.before.before.before.before.before.before.before
 
 abbrev start-take : tie.After-take → tie.Start
-start-take c = c.before.before.before.before.before.before.before.before.before.before.before
+start-take c = c.before.before.before.before.before.before.before.before.before.before
 
 words_in-requires : tie.Need-words_in-requires
 words_in-requires c κs = search rules

@@ -175,15 +175,15 @@ over c =
     let n = rows_are (last_of c) in
     ⊎_elim
     (λ w.
-    let here : AtOne = record { before = c.before; if4 = w.0 } in
+    let here : AtOne = record { before = c.before; if-position-rows = w.if-position-rows } in
     let k : l.position ≤ rows p = omega (arith, in_rows here) in
     over_at p g (old s) (omega (arith, in_rows here))
-    (inside_one p g (shape s) l.invariant.0 w.1.result k w.1.ensures.0 w.2.ensures w.3.false w.4.ensures)
-    (deal_more p g (old s) l.row s.scan.track l.position l.slot w.1.result (dealing (last_of c)) l.invariant.0.track l.invariant.0.past k
-    (start s).requires.2 l.invariant.0.slot_is w.1.ensures.0)
-    w.5 w.6)
-    (λ w. over_at p g (old s) (omega (arith, w.0.false, l.invariant.0.within, n)) l.invariant.0 (dealing (last_of c)) w.1 w.2)
-    c.if-position-rows.branch
+    (inside_one p g (shape s) l.invariant.0 w.stored_word-word.result k w.stored_word-word.ensures.0 w.parity_number-number.ensures w.if-number-ne0.false w.with_one-sum-then-position-rows.ensures)
+    (deal_more p g (old s) l.row s.scan.track l.position l.slot w.stored_word-word.result (dealing (last_of c)) l.invariant.0.track l.invariant.0.past k
+    (start s).requires.2 l.invariant.0.slot_is w.stored_word-word.ensures.0)
+    w.row-is w.sum-is)
+    (λ w. over_at p g (old s) (omega (arith, w.if-position-rows.false, l.invariant.0.within, n)) l.invariant.0 (dealing (last_of c)) w.row-is w.sum-is)
+    c.if-position-rows.branch-raw
 
 last_in : (c : AtLast) → 3 * ((scan (last_of c)).scan.track * (plan (scan (last_of c))).words + ((plan (scan (last_of c))).words - 1) + 1) ≤ length (group (scan (last_of c)))
 last_in c = let s = scan (last_of c) in room (in_track (last_of c)) ((plan s).words - 1) (omega (arith, some_words s))
@@ -283,7 +283,7 @@ loop-position-preserved c =
     let s = scan at in
     let e = w.stored_word-one.ensures.0 in
     let f = w.stored_word-two.ensures.0 in
-    let o = sym c.are_odd.ensures ∙ not_left c.are_odd.result c.if-not-are_odd.false in
+    let o = sym c.are_odd.ensures ∙ c.if-not-are_odd.false in
     let a = l.invariant.0 in (
       inside-two (plan s) (group s) (shape s) a (one w) (two w) (two_rows (two_of c)) e f o c.with_two-sum.ensures,
       length-set (set l.row l.slot (one w)) (l.slot + (plan s).tracks) (two w) ∙ length-set l.row l.slot (one w) ∙ l.invariant.1,
@@ -380,7 +380,7 @@ returns-then-not-are_odd c =
     let at = (in_loop w).before in
     let s = scan at in
     let l = at.loop-position in
-    let o = sym c.are_odd.ensures ∙ not_taken c.are_odd.result c.if-not-are_odd.true in
+    let o = sym c.are_odd.ensures ∙ c.if-not-are_odd.true in
     record {
       fault = sym
           (ap fault_of

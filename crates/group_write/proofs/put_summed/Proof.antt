@@ -55,16 +55,16 @@ ended c = at_last (last_of c)
 
 -- what was put before a turn, by the laws of a run
 put : (c : Loop) → Put (entry c).args.plan (entry c).args.words.now (entry c).args.first (entry c).args.rows (entry c).args.before (entry c).args.out.now
-    c.loop-row.row c.loop-row.s c.loop-row.sum c.loop-row.out-1
+    c.loop-row.row c.loop-row.s c.loop-row.sum c.loop-row.out
 put c = c.loop-row.invariant
 
 one : (c : Loop) → c.loop-row.row < (entry c).args.rows → c.loop-row.s < length (entry c).args.words.now
 one c = one_in (entry c).args.plan (entry c).args.words.now (entry c).args.first (entry c).args.rows (entry c).args.before (entry c).args.out.now (entry c).requires.1
-    c.loop-row.row c.loop-row.s c.loop-row.sum c.loop-row.out-1 (put c)
+    c.loop-row.row c.loop-row.s c.loop-row.sum c.loop-row.out (put c)
 
 two : (c : Loop) → c.loop-row.row + 1 < (entry c).args.rows → c.loop-row.s + (entry c).args.plan.tracks < length (entry c).args.words.now
 two c = two_in (entry c).args.plan (entry c).args.words.now (entry c).args.first (entry c).args.rows (entry c).args.before (entry c).args.out.now (entry c).requires.1
-    c.loop-row.row c.loop-row.s c.loop-row.sum c.loop-row.out-1 (put c)
+    c.loop-row.row c.loop-row.s c.loop-row.sum c.loop-row.out (put c)
 
 low : (c : Loop) (s : ℕ) → get_or (entry c).args.words.now s 0 < buses (entry c).args.plan.parity * 2 ^ 20
 low c s = run_low (entry c).args.plan (entry c).args.words.now (entry c).args.first s (entry c).requires.1.unsent
@@ -83,12 +83,12 @@ first_put : (c : First) → Written (sent_rows (entry (at_first c)).args.plan (e
     ((at_first c).loop-row.row + 1) (entry (at_first c)).args.out.now c.put_row-one.new.out
 first_put c = let a = (entry (at_first c)).args in
     let o = (at_first c).loop-row in
-    one_written a.plan a.words.now a.first a.rows a.before a.out-1.now (entry (at_first c)).requires.1 o.row o.s o.sum o.out-1 (put (at_first c))
+    one_written a.plan a.words.now a.first a.rows a.before a.out.now (entry (at_first c)).requires.1 o.row o.s o.sum o.out (put (at_first c))
     c.put_row-one.result (omega arith) c.put_row-one.ensures.0 c.put_row-one.ensures.2
 
 loop-row-init : tie.Need-loop-row-init invariant-loop-row decreases-loop-row
 loop-row-init c = let a = c.args in
-    put_none a.plan a.words.now a.first a.rows a.before a.out-1.now c.requires.1 c.requires.2
+    put_none a.plan a.words.now a.first a.rows a.before a.out.now c.requires.1 c.requires.2
 
 overflow_add-row : tie.Need-overflow_add-row invariant-loop-row decreases-loop-row
 overflow_add-row c = omega (arith, c.loop-row.invariant.within, (entry c).requires.1.short)
@@ -143,7 +143,7 @@ loop-row-preserved c = let l = at_first (first_of (turned c)) in
     let o = l.loop-row in
     let u = (first_of (turned c)).put_row-one in
     let w = (turned c).put_row-two in
-    put_two a.plan a.words.now a.first a.rows a.before a.out-1.now (entry l).requires.1 o.row o.s o.sum o.out-1 (put l)
+    put_two a.plan a.words.now a.first a.rows a.before a.out.now (entry l).requires.1 o.row o.s o.sum o.out (put l)
     u.result w.result (turn_of (first_of (turned c))).loop-row-test.true u.ensures.0 w.ensures.0 u.ensures.2 w.ensures.2 c.add_two-sum.ensures
 
 offset_bounds-words-s-then-row-rows : tie.Need-offset_bounds-words-s-then-row-rows invariant-loop-row decreases-loop-row
@@ -168,7 +168,7 @@ last_put c = let l = ended c in
     let a = (entry l).args in
     let o = l.loop-row in
     let v = (last_of c).put_row-last in
-    put_one a.plan a.words.now a.first a.rows a.before a.out-1.now (entry l).requires.1 o.row o.s o.sum o.out-1 (put l)
+    put_one a.plan a.words.now a.first a.rows a.before a.out.now (entry l).requires.1 o.row o.s o.sum o.out (put l)
     v.result c.if-row-rows.true v.ensures.0 v.ensures.2 c.add.ensures
 
 shape_of-out-then-row-rows : tie.Need-shape_of-out-then-row-rows invariant-loop-row decreases-loop-row
@@ -178,7 +178,7 @@ returns-then-row-rows : tie.Need-returns-then-row-rows invariant-loop-row decrea
 returns-then-row-rows c = let l = ended c in
     let a = (entry l).args in
     let o = l.loop-row in
-    put_all a.plan a.words.now a.first a.rows a.before a.out-1.now (entry l).requires.1 (o.row + 1) (o.s + a.plan.tracks) c.add.result (last_of c).put_row-last.new.out
+    put_all a.plan a.words.now a.first a.rows a.before a.out.now (entry l).requires.1 (o.row + 1) (o.s + a.plan.tracks) c.add.result (last_of c).put_row-last.new.out
     (last_put c) (omega arith)
 
 shape_of-out : tie.Need-shape_of-out invariant-loop-row decreases-loop-row
@@ -188,7 +188,7 @@ returns : tie.Need-returns invariant-loop-row decreases-loop-row
 returns c = let l = c.before.before in
     let a = (entry l).args in
     let o = l.loop-row in
-    put_all a.plan a.words.now a.first a.rows a.before a.out-1.now (entry l).requires.1 o.row o.s o.sum o.out-1 (put l) (omega (arith, o.invariant.within))
+    put_all a.plan a.words.now a.first a.rows a.before a.out.now (entry l).requires.1 o.row o.s o.sum o.out (put l) (omega (arith, o.invariant.within))
 
 pub put_summed_spec : {M : Type 1} → statement M
 put_summed_spec =

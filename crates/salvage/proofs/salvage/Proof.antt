@@ -27,14 +27,14 @@ start c = c.before.before.before.before.before
 
 -- the plan is legal
 is_legal : (c : tie.Else-not-legal) → legal (start c.before).args.plan (start c.before).args.kinds ≡ true
-is_legal c = sym c.legal.ensures ∙ not-false _ c.if-not-legal.false
+is_legal c = sym c.legal.ensures ∙ c.if-not-legal.false
 
 shape : (c : tie.Else-not-legal) → Shape (start c.before).args.plan
 shape c = shape_of _ _ (is_legal c)
 
 -- and the capture has whole groups
 whole : (c : tie.Else-not-is_whole) → let a = (start c.before.before.before.before).args in eqb (length a.capture.now % (3 * group_words a.plan)) 0 ≡ true
-whole c = sym c.is_whole.ensures ∙ not-false _ c.if-not-is_whole.false
+whole c = sym c.is_whole.ensures ∙ c.if-not-is_whole.false
 
 abbrev sound : tie.After-salvage_sized-arg-3-1 → tie.Else-not-is_whole
 sound c = c.before.before.before
@@ -49,7 +49,7 @@ returns-then-not-legal : tie.Need-returns-then-not-legal
 returns-then-not-legal c =
     let j = c.before.before in
     let a = (start j).args in
-    let e = sym j.legal.ensures ∙ not-true _ c.if-not-legal.true in
+    let e = sym j.legal.ensures ∙ c.if-not-legal.true in
     denies_by _ 1 0 _ a.log-1.now a.times-1.now a.report-1.now (not_legal a.plan a.kinds a.capture.now _ _ _ e) c.forgo.ensures
 
 forgo-requires-then-length-gt1048576 : tie.Need-forgo-requires-then-length-gt1048576
@@ -74,7 +74,7 @@ returns-then-not-is_whole c =
     let f = t.before.before in
     let l = f.before in
     let a = (start l.before).args in
-    let e = sym t.is_whole.ensures ∙ not-true _ t.if-not-is_whole.true in
+    let e = sym t.is_whole.ensures ∙ t.if-not-is_whole.true in
     denies_by _ 8 (length a.capture.now) _ a.log-1.now a.times-1.now a.report-1.now
     (not_whole a.plan a.kinds a.capture.now _ _ _ (is_legal l) f.if-length-gt1048576.false e) c.forgo-then-not-is_whole.ensures
 

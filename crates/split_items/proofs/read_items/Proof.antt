@@ -17,7 +17,7 @@ abbrev start : tie.After-legal → tie.Start
 start c = c.before.before.before
 
 is_legal : (c : tie.Else-not-legal) → legal (start c.before).args.plan (start c.before).args.kinds ≡ true
-is_legal c = sym c.legal.ensures ∙ not-false _ c.if-not-legal.false
+is_legal c = sym c.legal.ensures ∙ c.if-not-legal.false
 
 -- ---- the needs
 
@@ -31,7 +31,7 @@ returns-then-not-legal : tie.Need-returns-then-not-legal
 returns-then-not-legal c =
     let j = c.before.before in
     let s = start j in
-    log_refused s.args.log.now (illegal_refused s.args.plan s.args.kinds s.args.words.now _ (sym j.legal.ensures ∙ not-true _ c.if-not-legal.true)) c.refusal.ensures
+    log_refused s.args.log.now (illegal_refused s.args.plan s.args.kinds s.args.words.now _ (sym j.legal.ensures ∙ c.if-not-legal.true)) c.refusal.ensures
 
 refusal-requires-then-count-gt349525 : tie.Need-refusal-requires-then-count-gt349525
 refusal-requires-then-count-gt349525 c κs = search rules

@@ -31,7 +31,7 @@ abbrev Legal : Type 0
 Legal = tie.Else-not-legal
 
 is_legal : (c : Legal) → legal (start c.before).args.plan (start c.before).args.kinds ≡ true
-is_legal c = sym c.legal.ensures ∙ not-false _ c.if-not-legal.false
+is_legal c = sym c.legal.ensures ∙ c.if-not-legal.false
 
 shape : (c : Legal) → Shape (start c.before).args.plan
 shape c = shape_of _ _ (is_legal c)
@@ -44,7 +44,7 @@ abbrev of_legal : Whole → Legal
 of_legal c = c.before.before.before
 
 whole : (c : Whole) → let j = (of_legal c).before in length (capture j) % (3 * group_words (start j).args.plan) ≡ 0
-whole c = eqb-true _ _ (sym c.is_whole.ensures ∙ not-false _ c.if-not-is_whole.false)
+whole c = eqb-true _ _ (sym c.is_whole.ensures ∙ c.if-not-is_whole.false)
 
 -- ---- the needs
 
@@ -59,7 +59,7 @@ returns-then-not-legal c =
     let j = c.before.before in
     let s = start j in
     given_refused s.args.words.now s.args.times.now
-    (illegal_refused s.args.plan s.args.kinds (capture j) _ _ (sym j.legal.ensures ∙ not-true _ c.if-not-legal.true)) c.refusal.ensures
+    (illegal_refused s.args.plan s.args.kinds (capture j) _ _ (sym j.legal.ensures ∙ c.if-not-legal.true)) c.refusal.ensures
 
 refusal-requires-then-length-gt1048576 : tie.Need-refusal-requires-then-length-gt1048576
 refusal-requires-then-length-gt1048576 c κs = search rules
@@ -84,7 +84,7 @@ returns-then-not-is_whole c =
     let s = start l.before in
     given_refused s.args.words.now s.args.times.now
     (ragged_refused s.args.plan s.args.kinds (capture l.before) _ _ (is_legal l) w.if-length-gt1048576.false
-    (sym w.is_whole.ensures ∙ not-true _ c.if-not-is_whole.true))
+    (sym w.is_whole.ensures ∙ c.if-not-is_whole.true))
     c.refusal-then-not-is_whole.ensures
 
 words_of-requires : tie.Need-words_of-requires

@@ -55,7 +55,7 @@ returns-then-not-within c =
     let j = c.before.before in
     let a = (start (found j)).args in
     unread_leaves a.state-1.now a.log-1.now a.times-1.now
-    (not_within a.state-1.now a.piece.now (length a.log-1.now) (length a.times-1.now) (sym (judged j) ∙ not-true _ c.if-not-within.true)) c.refusal.ensures
+    (not_within a.state-1.now a.piece.now (length a.log-1.now) (length a.times-1.now) (sym (judged j) ∙ c.if-not-within.true)) c.refusal.ensures
 
 refusal-requires-then-found-eq2 : tie.Need-refusal-requires-then-found-eq2
 refusal-requires-then-found-eq2 c κs = search rules
@@ -68,7 +68,7 @@ returns-then-found-eq2 c =
     let j = c.before.before.before.before in
     let f = found j in
     let a = (start f).args in
-    let k = limits (loaded_of a.state-1.now).stage (length a.piece.now) (length a.log-1.now) (sym (judged j) ∙ not-false _ c.if-not-within.false) in
+    let k = limits (loaded_of a.state-1.now).stage (length a.piece.now) (length a.log-1.now) (sym (judged j) ∙ c.if-not-within.false) in
     let e = f.load-found.ensures in
     unread_leaves a.state-1.now a.log-1.now a.times-1.now
     (repeated a.state-1.now a.piece.now (length a.log-1.now) (length a.times-1.now) (sym (staged f) ∙ c.if-found-eq2.true) k.short k.roomy)
@@ -80,7 +80,7 @@ feed_working-requires c κs =
     let f = found j in
     let a = (start f).args in
     let k = limits (loaded_of a.state-1.now).stage (length a.piece.now) (length a.log-1.now)
-    (sym (judged j) ∙ not-false _ c.if-not-within.false) in
+    (sym (judged j) ∙ c.if-not-within.false) in
     let one = k.open_stage (λ z. c.if-found-eq2.false (staged f ∙ z)) in
     let w = loaded_work a.state-1.now one in
     record {

@@ -27,12 +27,12 @@ shape_of-state-then-not-legal c = search rules
 returns-then-not-legal : tie.Need-returns-then-not-legal
 returns-then-not-legal c = let a = c.args in opens_closed a.plan a.kinds a.state-1.now
     c.if-state-ne7168.false
-    (sym c.legal.ensures ∙ not-true _ c.if-not-legal.true) c.refusal-then-not-legal.ensures
+    (sym c.legal.ensures ∙ c.if-not-legal.true) c.refusal-then-not-legal.ensures
     c.store_closed.ensures
 
 store_open-requires : tie.Need-store_open-requires
 store_open-requires c κs = let sixteen : length c.args.kinds ≡ 16 = search rules in
-    (c.if-state-ne7168.false, sym c.legal.ensures ∙ not-false _ c.if-not-legal.false, sixteen)
+    (c.if-state-ne7168.false, sym c.legal.ensures ∙ c.if-not-legal.false, sixteen)
 
 refusal-requires-2 : tie.Need-refusal-requires-2
 refusal-requires-2 c κs = search rules
@@ -43,7 +43,7 @@ shape_of-state c = search rules
 returns : tie.Need-returns
 returns c = let a = c.args in opens_work a.plan a.kinds a.state-1.now
     c.if-state-ne7168.false
-    (sym c.legal.ensures ∙ not-false _ c.if-not-legal.false) c.refusal-2.ensures
+    (sym c.legal.ensures ∙ c.if-not-legal.false) c.refusal-2.ensures
     c.store_open.ensures
 
 pub open_spec : {M : Type 1} → statement M

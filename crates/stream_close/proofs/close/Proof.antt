@@ -38,7 +38,7 @@ abbrev Open : Type 0
 Open = tie.Else-not-within
 
 within_them : (c : Open) → Limits (found c.before).load-found.result.stage 0 (length (start (found c.before)).args.log.now)
-within_them c = limits (found c.before).load-found.result.stage 0 (length (start (found c.before)).args.log.now) (sym (judged c.before) ∙ not-false _ c.if-not-within.false)
+within_them c = limits (found c.before).load-found.result.stage 0 (length (start (found c.before)).args.log.now) (sym (judged c.before) ∙ c.if-not-within.false)
 
 long : (o : Open) → length (start (found o.before)).args.state.now ≡ 7168
 long o = let f = found o.before in open_long (start f).args.state.now f.load-found.result.stage (sym (staged f)) (within_them o).open_stage
@@ -72,7 +72,7 @@ returns-then-not-within c =
     let j = c.before.before in
     let a = (start (found j)).args in
     let e = not_closable a.state-1.now (length a.log-1.now)
-    (ap (λ (n : ℕ). within n 0 (length a.log-1.now)) (sym (staged (found j))) ∙ sym (judged j) ∙ not-true _ c.if-not-within.true) in
+    (ap (λ (n : ℕ). within n 0 (length a.log-1.now)) (sym (staged (found j))) ∙ sym (judged j) ∙ c.if-not-within.true) in
     rw e (c.refusal.ensures, refl, refl)
 
 slice_bounds-notices_at-end : tie.Need-slice_bounds-notices_at-end

@@ -89,7 +89,7 @@ lost-requires-then-not-numbers_zero c κs = search rules
 
 returns-then-not-numbers_zero : tie.Need-returns-then-not-numbers_zero
 returns-then-not-numbers_zero c = let r = c.before.before.before.before in
-    let e = sym c.numbers_zero.ensures ∙ not-true _ c.if-not-numbers_zero.true in
+    let e = sym c.numbers_zero.ensures ∙ c.if-not-numbers_zero.true in
     let b = (start r).args.state.now in
     c.lost-then-not-numbers_zero.ensures ∙ not_zero (kinds_at b) (sixteen b) (at r) (omega (arith, count_is r, c.if-count-gt4.false)) (rw (count_is r) at e)
 
@@ -103,7 +103,7 @@ returns : tie.Need-returns
 returns c = let k = c.before in
     let r = k.before.before.before.before in
     let b = (start r).args.state.now in
-    let z : are_zeros (list (at r) (16 + at r 15) (20 - (16 + at r 15))) ≡ true = rw (count_is r) at (sym k.numbers_zero.ensures ∙ not-false _ k.if-not-numbers_zero.false) in
+    let z : are_zeros (list (at r) (16 + at r 15) (20 - (16 + at r 15))) ≡ true = rw (count_is r) at (sym k.numbers_zero.ensures ∙ k.if-not-numbers_zero.false) in
     c.refeed.ensures
     ∙ ap₂ (λ (ks : List Kind) (n : ℕ). again_from (again ks Nothing (list (at r) 16 n))) k.kinds_at-kinds.ensures (count_is r)
     ∙ fed_again (kinds_at b) (sixteen b) (at r) (omega (arith, count_is r, k.if-count-gt4.false)) z

@@ -58,7 +58,7 @@ returns c = let s = c.before.before.before.before.before.before.before.before.be
     let first = 1024 + a.waiting in
     let end = first + length a.piece.now in
     let copied = c.copy.ensures in
-    piece_kept a.state-1.now a.waiting a.piece.now s.requires first (end - first) (end - 1024) _ _ refl (omega arith) (omega arith) copied c.put_count.ensures
+    piece_kept a.state.now a.waiting a.piece.now s.requires first (end - first) (end - 1024) _ _ refl (omega arith) (omega arith) copied c.put_count.ensures
 
 pub keep_spec : {M : Type 1} → statement M
 keep_spec =

@@ -37,7 +37,7 @@ returns-then-not-numbers_zero : tie.Need-returns-then-not-numbers_zero
 returns-then-not-numbers_zero c = let s = c.before.before.before.before in
     c.ended.ensures
     ∙ sym (misfits s.args.state.now (are_zeros (list (number_at s.args.state.now) 0 101)) (λ e. (bare s e).front)
-    (sym c.numbers_zero.ensures ∙ not-true _ c.if-not-numbers_zero.true))
+    (sym c.numbers_zero.ensures ∙ c.if-not-numbers_zero.true))
 
 slice_bounds-bytes_zero-count : tie.Need-slice_bounds-bytes_zero-count
 slice_bounds-bytes_zero-count c = search rules
@@ -57,7 +57,7 @@ ended-requires-then-not-bytes_zero c κs = search rules
 returns-then-not-bytes_zero : tie.Need-returns-then-not-bytes_zero
 returns-then-not-bytes_zero c = let s = c.before.before.before.before.before.before.before in let b = s.args.state.now in
     c.ended-then-not-bytes_zero.ensures
-    ∙ sym (misfits b (are_zeros (drop 808 b)) (λ e. (bare s e).rest) (ap are_zeros (sym (part_rest 808 b)) ∙ sym c.bytes_zero.ensures ∙ not-true _ c.if-not-bytes_zero.true))
+    ∙ sym (misfits b (are_zeros (drop 808 b)) (λ e. (bare s e).rest) (ap are_zeros (sym (part_rest 808 b)) ∙ sym c.bytes_zero.ensures ∙ c.if-not-bytes_zero.true))
 
 ended-requires-2 : tie.Need-ended-requires-2
 ended-requires-2 c κs = search rules
@@ -67,8 +67,8 @@ returns c = let s = c.before.before.before.before.before.before.before in let b 
     c.ended-2.ensures
     ∙ sym (loads b closed
     (bare_is b (all_bytes b (λ i. omega (arith, c.shared_slice_known-1.given i))) s.requires.0 s.requires.1 s.requires.2 (record {
-      front = sym c.numbers_zero.ensures ∙ not-false _ c.if-not-numbers_zero.false;
-      rest = ap are_zeros (sym (part_rest 808 b)) ∙ sym c.bytes_zero.ensures ∙ not-false _ c.if-not-bytes_zero.false;
+      front = sym c.numbers_zero.ensures ∙ c.if-not-numbers_zero.false;
+      rest = ap are_zeros (sym (part_rest 808 b)) ∙ sym c.bytes_zero.ensures ∙ c.if-not-bytes_zero.false;
     })) (state_closed b s.requires.1 s.requires.2))
 
 pub load_closed_spec : {M : Type 1} → statement M

@@ -56,7 +56,7 @@ ended-requires c κs = search rules
 
 returns-then-not-fault_fits : tie.Need-returns-then-not-fault_fits
 returns-then-not-fault_fits c = let s = c.before.before.before.before.before.before.before in let b = s.args.state.now in
-    c.ended.ensures ∙ sym (misfits b (fits (said b)) (λ e. (faulty s e).fit) (sym (tested c.before.before) ∙ not-true _ c.if-not-fault_fits.true))
+    c.ended.ensures ∙ sym (misfits b (fits (said b)) (λ e. (faulty s e).fit) (sym (tested c.before.before) ∙ c.if-not-fault_fits.true))
 
 numbers_zero-requires : tie.Need-numbers_zero-requires
 numbers_zero-requires c κs = search rules
@@ -66,7 +66,7 @@ ended-requires-then-not-numbers_zero c κs = search rules
 
 returns-then-not-numbers_zero : tie.Need-returns-then-not-numbers_zero
 returns-then-not-numbers_zero c = let s = c.before.before.before.before.before.before.before.before.before in let b = s.args.state.now in
-    c.ended-then-not-numbers_zero.ensures ∙ sym (misfits b (are_zeros (list (number_at b) 1 11)) (λ e. (faulty s e).before) (sym c.numbers_zero.ensures ∙ not-true _ c.if-not-numbers_zero.true))
+    c.ended-then-not-numbers_zero.ensures ∙ sym (misfits b (are_zeros (list (number_at b) 1 11)) (λ e. (faulty s e).before) (sym c.numbers_zero.ensures ∙ c.if-not-numbers_zero.true))
 
 numbers_zero-requires-2 : tie.Need-numbers_zero-requires-2
 numbers_zero-requires-2 c κs = search rules
@@ -76,7 +76,7 @@ ended-requires-then-not-numbers_zero-2 c κs = search rules
 
 returns-then-not-numbers_zero-2 : tie.Need-returns-then-not-numbers_zero-2
 returns-then-not-numbers_zero-2 c = let s = c.before.before.before.before.before.before.before.before.before.before.before in let b = s.args.state.now in
-    c.ended-then-not-numbers_zero-2.ensures ∙ sym (misfits b (are_zeros (list (number_at b) 15 86)) (λ e. (faulty s e).after) (sym c.numbers_zero-2.ensures ∙ not-true _ c.if-not-numbers_zero-2.true))
+    c.ended-then-not-numbers_zero-2.ensures ∙ sym (misfits b (are_zeros (list (number_at b) 15 86)) (λ e. (faulty s e).after) (sym c.numbers_zero-2.ensures ∙ c.if-not-numbers_zero-2.true))
 
 slice_bounds-bytes_zero-count : tie.Need-slice_bounds-bytes_zero-count
 slice_bounds-bytes_zero-count c = search rules
@@ -96,12 +96,12 @@ ended-requires-then-not-bytes_zero c κs = search rules
 returns-then-not-bytes_zero : tie.Need-returns-then-not-bytes_zero
 returns-then-not-bytes_zero c = let s = c.before.before.before.before.before.before.before.before.before.before.before.before.before.before in let b = s.args.state.now in
     c.ended-then-not-bytes_zero.ensures
-    ∙ sym (misfits b (are_zeros (drop 808 b)) (λ e. (faulty s e).rest) (ap are_zeros (sym (part_rest 808 b)) ∙ sym c.bytes_zero.ensures ∙ not-true _ c.if-not-bytes_zero.true))
+    ∙ sym (misfits b (are_zeros (drop 808 b)) (λ e. (faulty s e).rest) (ap are_zeros (sym (part_rest 808 b)) ∙ sym c.bytes_zero.ensures ∙ c.if-not-bytes_zero.true))
 
 overflow_cast-number : tie.Need-overflow_cast-number
 overflow_cast-number c = let t = c.before.before.before.before.before.before.before in
     let b = (entry t.before).args.state.now in
-    let f : fits (said b) ≡ true = sym (tested t.before) ∙ not-false _ t.if-not-fault_fits.false in
+    let f : fits (said b) ≡ true = sym (tested t.before) ∙ t.if-not-fault_fits.false in
     omega (arith, t.time_at-number.ensures, (failed_small (number_at b 12) (number_at b 13) (number_at b 14) f).0)
 
 ended-requires-2 : tie.Need-ended-requires-2
@@ -118,10 +118,10 @@ returns c = let third = c.before.before.before.before in
     c.ended-2.ensures ∙ same_stopped t.time_at-number.ensures t.time_at-place.ensures t.time_at-second.ensures
     ∙ sym (loads b (said b)
     (faulty_is b bytes s.requires.0 s.requires.1 (record {
-      fit = sym (tested t) ∙ not-false _ first.if-not-fault_fits.false;
-      before = sym second.numbers_zero.ensures ∙ not-false _ second.if-not-numbers_zero.false;
-      after = sym third.numbers_zero-2.ensures ∙ not-false _ third.if-not-numbers_zero-2.false;
-      rest = ap are_zeros (sym (part_rest 808 b)) ∙ sym c.bytes_zero.ensures ∙ not-false _ c.if-not-bytes_zero.false;
+      fit = sym (tested t) ∙ first.if-not-fault_fits.false;
+      before = sym second.numbers_zero.ensures ∙ second.if-not-numbers_zero.false;
+      after = sym third.numbers_zero-2.ensures ∙ third.if-not-numbers_zero-2.false;
+      rest = ap are_zeros (sym (part_rest 808 b)) ∙ sym c.bytes_zero.ensures ∙ c.if-not-bytes_zero.false;
     })) (state_failed b s.requires.1))
 
 pub load_failed_spec : {M : Type 1} → statement M

@@ -29,7 +29,7 @@ tested c = let s = start c in
 
 -- and is legal
 is_legal : (c : tie.Else-not-buses_fit) → legal (start c.before).args.plan (kinds_at (start c.before).args.state.now) ≡ true
-is_legal c = sym (tested c.before) ∙ not-false _ c.if-not-buses_fit.false
+is_legal c = sym (tested c.before) ∙ c.if-not-buses_fit.false
 
 -- ---- the needs
 
@@ -42,7 +42,7 @@ ended-requires c κs = search rules
 returns-then-not-buses_fit : tie.Need-returns-then-not-buses_fit
 returns-then-not-buses_fit c = let t = c.before.before in
     let s = start t in
-    c.ended.ensures ∙ unlawful s.args.state.now s.args.plan s.requires.0 (kinds_at s.args.state.now) refl (sym (tested t) ∙ not-true _ c.if-not-buses_fit.true)
+    c.ended.ensures ∙ unlawful s.args.state.now s.args.plan s.requires.0 (kinds_at s.args.state.now) refl (sym (tested t) ∙ c.if-not-buses_fit.true)
 
 time_at-groups-requires : tie.Need-time_at-groups-requires
 time_at-groups-requires c κs = search rules
@@ -62,7 +62,7 @@ returns-then-not-size_fits : tie.Need-returns-then-not-size_fits
 returns-then-not-size_fits c = let s = start c.before.before.before.before.before.before in
     let g = c.time_at-groups in
     let n = c.time_at-waiting in
-    let e = sym c.size_fits.ensures ∙ not-true _ c.if-not-size_fits.true in
+    let e = sym c.size_fits.ensures ∙ c.if-not-size_fits.true in
     c.ended-then-not-size_fits.ensures ∙ oversized s.args.state.now s.args.plan s.requires.0 g.result n.result g.ensures n.ensures e
 
 load_sized-requires : tie.Need-load_sized-requires
@@ -73,7 +73,7 @@ load_sized-requires c κs = let l = c.before.before.before.before in
       groups_are = c.time_at-groups.ensures;
       waiting_is = c.time_at-waiting.ensures;
       lawful = is_legal l;
-      size = sym c.size_fits.ensures ∙ not-false _ c.if-not-size_fits.false;
+      size = sym c.size_fits.ensures ∙ c.if-not-size_fits.false;
     }
 
 returns : tie.Need-returns

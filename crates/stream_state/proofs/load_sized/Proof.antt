@@ -81,19 +81,19 @@ eighth c = seventh c.before.before.before
 
 -- what each says
 bits_good : (c : tie.Else-not-bits_fit) → bits_fit (left (one c)) (last (one c)) ≡ true
-bits_good c = sym c.bits_fit.ensures ∙ not-false _ c.if-not-bits_fit.false
+bits_good c = sym c.bits_fit.ensures ∙ c.if-not-bits_fit.false
 
 since_good : (c : tie.Else-not-place_fits) → place_fits (start (two c)).args.plan (start (two c)).args.groups (two c).time_at-since.result ≡ true
-since_good c = sym c.place_fits.ensures ∙ not-false _ c.if-not-place_fits.false
+since_good c = sym c.place_fits.ensures ∙ c.if-not-place_fits.false
 
 faultless : (c : tie.Else-not-numbers_zero) → are_zeros (list (number_at (start (three c)).args.state.now) 12 3) ≡ true
-faultless c = sym c.numbers_zero.ensures ∙ not-false _ c.if-not-numbers_zero.false
+faultless c = sym c.numbers_zero.ensures ∙ c.if-not-numbers_zero.false
 
 waits_good : (c : tie.Else-not-waits_fit) → let a = (start (five c)).args in waits_fit a.plan (kinds_at a.state.now) a.groups 0 (list (number_at a.state.now) 36 64) ≡ true
-waits_good c = sym c.waits_fit.ensures ∙ not-false _ c.if-not-waits_fit.false
+waits_good c = sym c.waits_fit.ensures ∙ c.if-not-waits_fit.false
 
 gap_good : (c : tie.Else-not-bytes_zero) → are_zeros (take 216 (drop 808 (start (six c)).args.state.now)) ≡ true
-gap_good c = sym c.bytes_zero.ensures ∙ not-false _ c.if-not-bytes_zero.false
+gap_good c = sym c.bytes_zero.ensures ∙ c.if-not-bytes_zero.false
 
 -- the bytes from there on, as they were lent
 tail_is : (c : tie.After-bytes_zero-2) → let a = (start (seventh c.before.before)).args in c.bytes_zero-2.result ≡ are_zeros (drop (1024 + a.waiting) a.state.now)
@@ -117,7 +117,7 @@ ended-requires c κs = search rules
 
 returns-then-not-bits_fit : tie.Need-returns-then-not-bits_fit
 returns-then-not-bits_fit c = let t = c.before.before.before in
-    let e = sym c.bits_fit.ensures ∙ not-true _ c.if-not-bits_fit.true in
+    let e = sym c.bits_fit.ensures ∙ c.if-not-bits_fit.true in
     c.ended.ensures ∙ bad_bits (start t).requires t.time_at-left.ensures t.time_at-last.ensures e
 
 place_fits-requires : tie.Need-place_fits-requires
@@ -128,7 +128,7 @@ ended-requires-then-not-place_fits c κs = search rules
 
 returns-then-not-place_fits : tie.Need-returns-then-not-place_fits
 returns-then-not-place_fits c = let t = one c.before.before.before in
-    let e = sym c.place_fits.ensures ∙ not-true _ c.if-not-place_fits.true in
+    let e = sym c.place_fits.ensures ∙ c.if-not-place_fits.true in
     c.ended-then-not-place_fits.ensures ∙ bad_since (start t).requires t.time_at-since.ensures e
 
 numbers_zero-requires : tie.Need-numbers_zero-requires
@@ -139,7 +139,7 @@ ended-requires-then-not-numbers_zero c κs = search rules
 
 returns-then-not-numbers_zero : tie.Need-returns-then-not-numbers_zero
 returns-then-not-numbers_zero c = let t = two c.before.before.before in
-    c.ended-then-not-numbers_zero.ensures ∙ bad_fault (start t).requires (sym c.numbers_zero.ensures ∙ not-true _ c.if-not-numbers_zero.true)
+    c.ended-then-not-numbers_zero.ensures ∙ bad_fault (start t).requires (sym c.numbers_zero.ensures ∙ c.if-not-numbers_zero.true)
 
 held_at-again-requires : tie.Need-held_at-again-requires
 held_at-again-requires c κs = long (start (three c))
@@ -158,7 +158,7 @@ ended-requires-then-not-waits_fit c κs = search rules
 
 returns-then-not-waits_fit : tie.Need-returns-then-not-waits_fit
 returns-then-not-waits_fit c = let t = four c.before.before.before in
-    let e = sym c.waits_fit.ensures ∙ not-true _ c.if-not-waits_fit.true in
+    let e = sym c.waits_fit.ensures ∙ c.if-not-waits_fit.true in
     c.ended-then-not-waits_fit.ensures ∙ bad_waits (start t).requires refl e
 
 slice_bounds-bytes_zero-count : tie.Need-slice_bounds-bytes_zero-count
@@ -178,7 +178,7 @@ ended-requires-then-not-bytes_zero c κs = search rules
 
 returns-then-not-bytes_zero : tie.Need-returns-then-not-bytes_zero
 returns-then-not-bytes_zero c = let t = five c.before.before.before.before in
-    c.ended-then-not-bytes_zero.ensures ∙ bad_gap (start t).requires (sym c.bytes_zero.ensures ∙ not-true _ c.if-not-bytes_zero.true)
+    c.ended-then-not-bytes_zero.ensures ∙ bad_gap (start t).requires (sym c.bytes_zero.ensures ∙ c.if-not-bytes_zero.true)
 
 overflow_add-end : tie.Need-overflow_add-end
 overflow_add-end c = omega (arith, (few (start (seventh c))).1)
@@ -200,7 +200,7 @@ ended-requires-then-not-bytes_zero-2 c κs = search rules
 
 returns-then-not-bytes_zero-2 : tie.Need-returns-then-not-bytes_zero-2
 returns-then-not-bytes_zero-2 c = let t = seventh c.before.before.before.before in
-    c.ended-then-not-bytes_zero-2.ensures ∙ bad_tail (start t).requires (sym (tail_is c.before.before) ∙ not-true _ c.if-not-bytes_zero-2.true)
+    c.ended-then-not-bytes_zero-2.ensures ∙ bad_tail (start t).requires (sym (tail_is c.before.before) ∙ c.if-not-bytes_zero-2.true)
 
 overflow_cast-result : tie.Need-overflow_cast-result
 overflow_cast-result c = let t = eighth c in
@@ -221,7 +221,7 @@ returns c = let t = eighth c in
     let three = four.before.before in
     let two = three.before.before in
     let bytes = all_bytes s.args.state.now (λ i. omega (arith, t.shared_slice_known-1.given i)) in
-    let tail = sym (tail_is c.before) ∙ not-false _ c.if-not-bytes_zero-2.false in
+    let tail = sym (tail_is c.before) ∙ c.if-not-bytes_zero-2.false in
     all_good s.requires bytes t.time_at-left.ensures t.time_at-last.ensures t.time_at-since.ensures four.held_at-again.ensures refl
     (bits_good two.before.before) (since_good two) (faultless three) four.if-again.false (waits_good five) (gap_good six) tail
 

@@ -76,7 +76,7 @@ Good = tie.Else-not-plan_named
 in_ranges : (c : Good) → let t = c.before in
     (words t ≤ 512) × (tracks t ≤ 4) × (is_choice (time t) ≡ true) × (is_choice (crc t) ≡ true) × (is_choice (parity t) ≡ true) × (label t ≤ 7) × (code t ≤ 15)
 in_ranges c = let t = c.before in
-    ranges (words t) (tracks t) (time t) (crc t) (parity t) (label t) (code t) (sym t.plan_named.ensures ∙ not-false _ c.if-not-plan_named.false)
+    ranges (words t) (tracks t) (time t) (crc t) (parity t) (label t) (code t) (sym t.plan_named.ensures ∙ c.if-not-plan_named.false)
 
 -- the kinds were looked at
 abbrev Kinds : Type 0
@@ -129,7 +129,7 @@ ended-requires c κs = search rules
 
 returns-then-not-plan_named : tie.Need-returns-then-not-plan_named
 returns-then-not-plan_named c = let t = c.before.before in
-    c.ended.ensures ∙ unnamed (seven t) (start t).requires.1 (sym t.plan_named.ensures ∙ not-true _ c.if-not-plan_named.true)
+    c.ended.ensures ∙ unnamed (seven t) (start t).requires.1 (sym t.plan_named.ensures ∙ c.if-not-plan_named.true)
 
 eight_buses-low-requires : tie.Need-eight_buses-low-requires
 eight_buses-low-requires c κs = search rules
@@ -146,7 +146,7 @@ ended-requires-then-not-both c κs = search rules
 returns-then-not-both : tie.Need-returns-then-not-both
 returns-then-not-both c = let k = c.before.before in
     let t = tested k in
-    c.ended-then-not-both.ensures ∙ unkind (bytes t) (start t).requires.1 (sym (kinds_tested k) ∙ not-true _ c.if-not-both.true)
+    c.ended-then-not-both.ensures ∙ unkind (bytes t) (start t).requires.1 (sym (kinds_tested k) ∙ c.if-not-both.true)
 
 overflow_cast-words : tie.Need-overflow_cast-words
 overflow_cast-words c = omega (arith, (in_ranges (good c.before)).0)
@@ -181,8 +181,8 @@ load_planned-requires : tie.Need-load_planned-requires
 load_planned-requires c κs = let f = c.before.before in
     let k = f.before.before in
     let t = tested k in
-    let named = sym t.plan_named.ensures ∙ not-false _ (good k).if-not-plan_named.false in
-    let kinds = sym (kinds_tested k) ∙ not-false _ f.if-not-both.false in (
+    let named = sym t.plan_named.ensures ∙ (good k).if-not-plan_named.false in
+    let kinds = sym (kinds_tested k) ∙ f.if-not-both.false in (
       rw f.plan_from-plan.ensures (planned (seven t) (start t).requires.0 (start t).requires.1 named kinds),
       ap₂ (λ (n m : ℕ). n + m) (low_used k) (high_used k) ∙ used_both (number_at (bytes t)),
       high_used k,

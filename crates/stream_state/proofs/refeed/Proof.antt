@@ -53,7 +53,7 @@ abbrev index : Read → ℕ
 index c = c.loop-index.index
 
 abbrev holding : Read → Held
-holding c = held_of c.loop-index.held-1
+holding c = held_of c.loop-index.held
 
 less : (c : Read) → index c < (start c).args.count
 less c = c.loop-index-test.true
@@ -80,10 +80,10 @@ unfolding bus_of label_of info_of
 means c =
     let w = (read c).time_at-word.result in
     let l : w < 2 ^ 24 = omega (arith, c.if-word-ge16777216.false) in
-    let s : Sane (read c).loop-index.held-1 = (read c).loop-index.invariant.3 in
+    let s : Sane (read c).loop-index.held = (read c).loop-index.invariant.3 in
     subst (λ (v : ℕ). Means (feeding c v) c.feed-step.result) (sym (word_is (read c)))
     (subst (λ (r : Step). Means (feeding c w) r) (sym c.feed-step.ensures)
-    (feed_means (start (read c)).args.kinds (read c).loop-index.held-1 (w / 2 ^ 20) (w / 2 ^ 16 % 16) (w % 2 ^ 16) s (omega arith) (omega arith) (omega arith)))
+    (feed_means (start (read c)).args.kinds (read c).loop-index.held (w / 2 ^ 20) (w / 2 ^ 16 % 16) (w % 2 ^ 16) s (omega arith) (omega arith) (omega arith)))
 
 -- what is held, handed over
 abbrev keeping : Holding → Again
@@ -176,7 +176,7 @@ loop-index-preserved c = let f = c.before.before.before.before.before.before in
       o.invariant.1,
       o.invariant.2,
       g.1,
-      o.invariant.4 ∙ fed_on_lem (start r).args.kinds (holding r) (at r) (index r) (start r).args.count (less r) (held_of f.feed-step.result.held-1) (small f) g.0,
+      o.invariant.4 ∙ fed_on_lem (start r).args.kinds (holding r) (at r) (index r) (start r).args.count (less r) (held_of f.feed-step.result.held) (small f) g.0,
     )
 
 kept-requires : tie.Need-kept-requires invariant-loop-index decreases-loop-index
@@ -186,7 +186,7 @@ returns : tie.Need-returns invariant-loop-index decreases-loop-index
 returns c = let o = c.loop-index in
     let a = c.args in
     c.kept.ensures
-    ∙ (rw (o.invariant.4, again_end a.kinds (held_of o.held-1) (number_at a.state.now) o.index a.count (omega arith)) (ap keeping o.invariant.3.is))
+    ∙ (rw (o.invariant.4, again_end a.kinds (held_of o.held) (number_at a.state.now) o.index a.count (omega arith)) (ap keeping o.invariant.3.is))
 
 pub refeed_spec : {M : Type 1} → statement M
 refeed_spec =

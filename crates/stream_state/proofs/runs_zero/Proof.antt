@@ -37,7 +37,7 @@ few_zero-requires c κs = search rules
 
 returns-then-not-few_zero : tie.Need-returns-then-not-few_zero
 returns-then-not-few_zero c = let l = c.args.bytes.now in
-    rest_not (length l / 128 * 32) l (sym c.few_zero.ensures ∙ not-true _ c.if-not-few_zero.true)
+    rest_not (length l / 128 * 32) l (sym c.few_zero.ensures ∙ c.if-not-few_zero.true)
 
 slice_bounds-four_zero-count : tie.Need-slice_bounds-four_zero-count
 slice_bounds-four_zero-count c = search rules
@@ -81,7 +81,7 @@ four_zero-requires c κs = search rules
 returns : tie.Need-returns
 returns c = let l = c.args.bytes.now in
     let t = c.before.before.before.before.before in
-    c.four_zero.ensures ∙ rest_zero (length l / 128 * 32) l (sym t.few_zero.ensures ∙ not-false _ t.if-not-few_zero.false)
+    c.four_zero.ensures ∙ rest_zero (length l / 128 * 32) l (sym t.few_zero.ensures ∙ t.if-not-few_zero.false)
 
 pub runs_zero_spec : {M : Type 1} → statement M
 runs_zero_spec =

@@ -74,7 +74,7 @@ returns c = let f = c.before.before.before.before.before.before in
     let t = z.before.before.before.before in
     let s = t.before.before.before.before in
     let a = s.args in
-    let stage = put_row 8 1 (1026 ∷ []) refl refl (front_none a.state-1.now) (omega (arith, s.requires.0)) refl t.put_times.ensures in
+    let stage = put_row 8 1 (1026 ∷ []) refl refl (front_none a.state.now) (omega (arith, s.requires.0)) refl t.put_times.ensures in
     let before = put_zeros 88 stage (omega (arith, s.requires.0)) refl z.clear.ensures in
     let fault = put_row 24 3 (a.number ∷ a.place ∷ a.second ∷ []) refl refl before (omega (arith, s.requires.0)) refl f.put_times-2.ensures in
     let behind = put_zeros 7048 fault (omega (arith, s.requires.0)) refl c.clear-2.ensures in

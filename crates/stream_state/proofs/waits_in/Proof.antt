@@ -38,7 +38,7 @@ returns-then-not-wait_fits : tie.Need-returns-then-not-wait_fits invariant-loop-
 returns-then-not-wait_fits c = let t = c.before.before.before.before in
     let o = t.loop-index in
     let a = t.args in
-    let e = sym c.wait_fits.ensures ∙ not-true _ c.if-not-wait_fits.true in
+    let e = sym c.wait_fits.ensures ∙ c.if-not-wait_fits.true in
     sym (o.invariant.2 ∙ wait_bad a.kinds a.end a.lead a.last a.table.now o.index (omega (arith, o.invariant.1, t.loop-index-test.true)) e)
 
 overflow_add-index : tie.Need-overflow_add-index invariant-loop-index decreases-loop-index
@@ -51,7 +51,7 @@ loop-index-preserved : tie.Need-loop-index-preserved invariant-loop-index decrea
 loop-index-preserved c = let t = c.before.before.before.before in
     let o = t.loop-index in
     let a = t.args in
-    let e = sym c.wait_fits.ensures ∙ not-false _ c.if-not-wait_fits.false in (
+    let e = sym c.wait_fits.ensures ∙ c.if-not-wait_fits.false in (
       omega (arith, t.loop-index-test.true),
       o.invariant.1,
       o.invariant.2 ∙ wait_good a.kinds a.end a.lead a.last a.table.now o.index (omega (arith, o.invariant.1, t.loop-index-test.true)) e,
