@@ -14,7 +14,7 @@ use Rattle.compose.proofs.compose_in.Tie as tie
 
 -- where a log without a fault was told: the words laid before, the function's entry, how many words there are and which
 abbrev laid : tie.In-Items-2 → tie.After-lay
-laid c = c.before.before.before.before
+laid c = c.before.before.before
 
 abbrev entry : tie.After-lay → tie.Start
 entry c = c.before.before.before.before.before.before

@@ -33,11 +33,11 @@ overflow_sub-before : tie.Need-overflow_sub-before
 overflow_sub-before c = search rules
 
 slice_bounds-bits_before-end : tie.Need-slice_bounds-bits_before-end
-slice_bounds-bits_before-end c = let l = c.before.before in sym (length-take-le _ _ (omega (arith, within l)))
+slice_bounds-bits_before-end c = let l = c.before in sym (length-take-le _ _ (omega (arith, within l)))
 
 bits_before-requires : tie.Need-bits_before-requires
 bits_before-requires c κs =
-    let l = c.before.before in
+    let l = c.before in
     let s = entry l in
     (words_take (l.first_open-open.result - 1) s.args.words.now (low s), omega (arith, length-take-le (l.first_open-open.result - 1) s.args.words.now (omega (arith, within l)), within l, s.requires.1))
 
@@ -46,7 +46,7 @@ refusal-requires c κs = search rules
 
 returns-then-open-ne0 : tie.Need-returns-then-open-ne0
 returns-then-open-ne0 c =
-    let l = c.before.before.before.before in
+    let l = c.before.before.before in
     let a = (entry l).args in
     let e : l.first_open-open.result ≡ open_word a.kinds a.words.now = l.first_open-open.ensures in
     rw (laid_open a.plan a.kinds a.times.now (length a.out-1.now) a.words.now (λ z. c.if-open-ne0.true (e ∙ z)))

@@ -15,7 +15,7 @@ abbrev before-least : tie.After-least-end → tie.After-words_in
 before-least c = c.before
 
 abbrev before-take : tie.After-take → tie.After-least-end
-before-take c = c.before.before.before
+before-take c = c.before.before
 
 abbrev start-words_in : tie.After-words_in → tie.Start
 start-words_in c = c.before.before.before.before.before.before.before
@@ -36,19 +36,19 @@ least-end-requires : tie.Need-least-end-requires
 least-end-requires c κs = search rules
 
 slice_bounds-take-end : tie.Need-slice_bounds-take-end
-slice_bounds-take-end c = sym (length-take-le _ (start-least c.before).args.row.now
-    (least_le (length (start-least c.before).args.row.now) ((start-least c.before).args.i + (before-least c.before).words_in.result)
+slice_bounds-take-end c = sym (length-take-le _ (start-least c).args.row.now
+    (least_le (length (start-least c).args.row.now) ((start-least c).args.i + (before-least c).words_in.result)
     c.least-end.ensures))
 
 take-requires : tie.Need-take-requires
 take-requires c κs = (
-  words_front (start-least c.before.before).args.row.now _
-      (least_le (length (start-least c.before.before).args.row.now) ((start-least c.before.before).args.i +
-      (before-least c.before.before).words_in.result) c.least-end.ensures) (start-least c.before.before).requires.0,
+  words_front (start-least c.before).args.row.now _
+      (least_le (length (start-least c.before).args.row.now) ((start-least c.before).args.i +
+      (before-least c.before).words_in.result) c.least-end.ensures) (start-least c.before).requires.0,
   front_roomy
-      (start-least c.before.before).args.row.now (start-least c.before.before).args.pass (start-least c.before.before).args.i
-      (start-least c.before.before).args.out.now (start-least c.before.before).requires.1 (start-least c.before.before).requires.2
-      (start-least c.before.before).requires.3 c.least-end.ensures (before-least c.before.before).words_in.ensures,
+      (start-least c.before).args.row.now (start-least c.before).args.pass (start-least c.before).args.i
+      (start-least c.before).args.out.now (start-least c.before).requires.1 (start-least c.before).requires.2
+      (start-least c.before).requires.3 c.least-end.ensures (before-least c.before).words_in.ensures,
 )
 
 shape_of-out-then-held-eq0 : tie.Need-shape_of-out-then-held-eq0

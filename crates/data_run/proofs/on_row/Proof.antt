@@ -19,7 +19,7 @@ abbrev before-in : tie.In-loop-i invariant-loop-i decreases-loop-i → tie.At-lo
 before-in c = c.before
 
 abbrev before-past_fill : tie.After-past_fill-past invariant-loop-i decreases-loop-i → tie.In-loop-i invariant-loop-i decreases-loop-i
-before-past_fill c = c.before
+before-past_fill c = c.before.before
 
 abbrev before-then1 : tie.Then-i-past invariant-loop-i decreases-loop-i → tie.After-past_fill-past invariant-loop-i decreases-loop-i
 before-then1 c = c.before
@@ -52,28 +52,28 @@ abbrev entry : tie.In-loop-i invariant-loop-i decreases-loop-i → tie.Start inv
 entry c = c.before.before.before.before
 
 abbrev turn-then1 : tie.Then-i-past invariant-loop-i decreases-loop-i → tie.In-loop-i invariant-loop-i decreases-loop-i
-turn-then1 c = c.before.before
+turn-then1 c = c.before.before.before
 
 abbrev turn-then2 : tie.Then-i-taken invariant-loop-i decreases-loop-i → tie.In-loop-i invariant-loop-i decreases-loop-i
-turn-then2 c = c.before.before.before.before.before.before.before.before
+turn-then2 c = c.before.before.before.before.before.before.before.before.before
 
 abbrev turn-on_items : tie.After-on_items-pass invariant-loop-i decreases-loop-i → tie.In-loop-i invariant-loop-i decreases-loop-i
-turn-on_items c = c.before.before.before.before.before.before.before.before.before
+turn-on_items c = c.before.before.before.before.before.before.before.before.before.before
 
 abbrev turn-else2 : tie.Else-i-taken invariant-loop-i decreases-loop-i → tie.In-loop-i invariant-loop-i decreases-loop-i
-turn-else2 c = c.before.before.before.before.before.before.before.before
+turn-else2 c = c.before.before.before.before.before.before.before.before.before
 
 abbrev turn-then3 : tie.Then-pass-ne0 invariant-loop-i decreases-loop-i → tie.In-loop-i invariant-loop-i decreases-loop-i
-turn-then3 c = c.before.before.before.before.before.before.before.before.before.before.before.before.before.before.before
+turn-then3 c = c.before.before.before.before.before.before.before.before.before.before.before.before.before.before.before.before
 
 abbrev turn-else3 : tie.Else-pass-ne0 invariant-loop-i decreases-loop-i → tie.In-loop-i invariant-loop-i decreases-loop-i
-turn-else3 c = c.before.before.before.before.before.before.before.before.before.before.before.before.before.before.before
+turn-else3 c = c.before.before.before.before.before.before.before.before.before.before.before.before.before.before.before.before
 
 loop-i-init : tie.Need-loop-i-init invariant-loop-i decreases-loop-i
 loop-i-init c = (omega arith, passed_none _ _ _ _ _ _ _ c.requires.0)
 
 past_fill-past-requires : tie.Need-past_fill-past-requires invariant-loop-i decreases-loop-i
-past_fill-past-requires c κs = ((before-in c).loop-i.invariant.0, omega (arith, (entry c).requires.3), (entry c).requires.4)
+past_fill-past-requires c κs = ((before-in c.before).loop-i.invariant.0, omega (arith, (entry c.before).requires.3), (entry c.before).requires.4)
 
 loop-i-smaller-then-i-past : tie.Need-loop-i-smaller-then-i-past invariant-loop-i decreases-loop-i
 loop-i-smaller-then-i-past c = omega (arith, c.if-i-past.true, (before-then1 c).past_fill-past.ensures.room)

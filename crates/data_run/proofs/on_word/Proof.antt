@@ -14,7 +14,7 @@ abbrev before-then1 : tie.Then-is_fill → tie.After-is_fill
 before-then1 c = c.before
 
 abbrev before-is_odd_fill : tie.After-is_odd_fill → tie.Then-is_fill
-before-is_odd_fill c = c.before.before
+before-is_odd_fill c = c.before.before.before
 
 abbrev before-on_fill : tie.After-on_fill-fills → tie.After-is_odd_fill
 before-on_fill c = c.before
@@ -35,7 +35,7 @@ abbrev before-on_step : tie.After-on_step → tie.After-feed-step
 before-on_step c = c.before.before
 
 abbrev start-is_odd_fill : tie.After-is_odd_fill → tie.Start
-start-is_odd_fill c = c.before.before.before.before.before.before.before
+start-is_odd_fill c = c.before.before.before.before.before.before.before.before
 
 abbrev start-on_fill : tie.After-on_fill-fills → tie.Start
 start-on_fill c = start-is_odd_fill c.before

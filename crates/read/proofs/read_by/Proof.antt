@@ -169,7 +169,7 @@ returns-then-misplaced-ne0 c =
 
 give-requires : tie.Need-give-requires
 give-requires c κs =
-    let l = brought (answered c.before.before.before.before) in
+    let l = brought (answered c.before.before.before) in
     let r = read l in
     let s = start r in
     let g = logged l in (
@@ -193,7 +193,7 @@ returns : tie.Need-returns
 returns c =
     let given = c.before.before.before.before in
     let o = given.before.before.before.before in
-    let a = o.before in
+    let a = o in
     let l = brought (answered a) in
     let r = read l in
     rw (log-settled (plan r) (capture r) (groups r) (length (log r)) (length (times r)) (start r).args.closed (logged l) (answered a).if-end-ne0-2.false a.asked-misplaced.result a.asked-misplaced.ensures

@@ -141,7 +141,7 @@ abbrev Ran-row : Type 0
 Ran-row = tie.After-on_row-pass invariant-loop-g decreases-loop-g
 
 abbrev of_row : Ran-row → Sound-group
-of_row c = c.before.before.before.before
+of_row c = c.before.before.before
 
 abbrev out : Ran-row → List ℕ
 out c = c.on_Row.new.1.1.1.1.1.1.0
@@ -177,7 +177,7 @@ abbrev Noted-row : Type 0
 Noted-row = tie.After-note_row-noted invariant-loop-g decreases-loop-g
 
 abbrev noted : Noted-row → Good-row
-noted c = c.before.before.before.before
+noted c = c.before.before.before
 
 noted_next : (c : Noted-row)
     → let e = good_group (noted c) in
@@ -292,7 +292,7 @@ slice_bounds-on_row-end c = part_room c.before
 
 on_row-pass-requires : tie.Need-on_row-pass-requires invariant-loop-g decreases-loop-g
 on_row-pass-requires c κs =
-    let e = c.before.before.before in
+    let e = c.before.before in
     let l = group e in (
       (over l).brought.sound,
       words_of_row e,
@@ -337,10 +337,10 @@ slice_bounds-note_row-start : tie.Need-slice_bounds-note_row-start invariant-loo
 slice_bounds-note_row-start c = search rules
 
 slice_bounds-note_row-end : tie.Need-slice_bounds-note_row-end invariant-loop-g decreases-loop-g
-slice_bounds-note_row-end c = part_room (good_group c.before)
+slice_bounds-note_row-end c = part_room (good_group c)
 
 slice_bounds-note_row-end-in-loop-g : tie.Need-slice_bounds-note_row-end-in-loop-g invariant-loop-g decreases-loop-g
-slice_bounds-note_row-end-in-loop-g c = sym (group (good_group c.before.before.before)).loop-g.invariant.4
+slice_bounds-note_row-end-in-loop-g c = sym (group (good_group c.before.before)).loop-g.invariant.4
 
 note_row-noted-requires : tie.Need-note_row-noted-requires invariant-loop-g decreases-loop-g
 note_row-noted-requires c κs =

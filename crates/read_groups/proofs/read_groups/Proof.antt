@@ -56,7 +56,7 @@ abbrev Finished : Type 0
 Finished = tie.After-finish-step
 
 abbrev all : Finished → All
-all c = c.before.before
+all c = c.before.before.before
 
 abbrev since : Finished → ℕ
 since c = stored_at (plan (walked (all c))) (pass (walked (all c))).since
@@ -71,7 +71,7 @@ abbrev Put : Type 0
 Put = tie.After-put_step-pen
 
 abbrev good : Put → tie.Else-step
-good c = c.before.before
+good c = c.before.before.before
 
 abbrev finished : Put → Finished
 finished c = (good c).before
@@ -88,7 +88,7 @@ returns-then-walk-ne0 : tie.Need-returns-then-walk-ne0
 returns-then-walk-ne0 c = ends_stopped _ _ _ _ _ _ c.walk_groups-walk.ensures c.if-walk-ne0.true
 
 finish-step-requires : tie.Need-finish-step-requires
-finish-step-requires c κs = (through c.before).brought.sound.sane
+finish-step-requires c κs = (through c.before.before).brought.sound.sane
 
 stored_place-first-requires : tie.Need-stored_place-first-requires
 stored_place-first-requires c κs =
@@ -107,7 +107,7 @@ returns-then-step c =
 
 put_step-pen-requires : tie.Need-put_step-pen-requires
 put_step-pen-requires c κs =
-    let f = c.before.before in
+    let f = c.before.before.before in
     let a = all f in
     (omega (arith, (through a).few, few a), closing_fits (finish (held_of (pass (walked a)).held) (since f)) f.finish-step.result (closes f) c.if-step.false)
 

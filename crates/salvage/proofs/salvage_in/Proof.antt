@@ -119,8 +119,8 @@ returns-then-number-eq20 c = denied c.before.before.before.before 20 _ c.forgo-t
 
 copy-requires : tie.Need-copy-requires
 copy-requires c κs =
-    let j = (judged c.before.before.before.before.before).enough c.if-number-eq6.false c.if-number-eq7.false c.if-number-eq20.false in
-    (j.log-1, omega (arith, in_built c.before.before.before.before.before j))
+    let j = (judged c.before.before.before.before).enough c.if-number-eq6.false c.if-number-eq7.false c.if-number-eq20.false in
+    (j.log-1, omega (arith, in_built c.before.before.before.before j))
 
 slice_bounds-no_log-end : tie.Need-slice_bounds-no_log-end
 slice_bounds-no_log-end c = search rules
@@ -160,7 +160,7 @@ returns c =
     let third = copied.before.before.before in
     let second = third.before in
     let first = second.before in
-    let q = first.before in
+    let q = first in
     let walked = q.before.before.before.before.before in
     let counted = walked.before.before.before.before.before in
     let t = walked.salvage_groups-tally.result in

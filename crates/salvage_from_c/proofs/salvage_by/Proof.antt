@@ -89,7 +89,7 @@ salvage-answer-requires c κs = search rules
 
 put_times-requires : tie.Need-put_times-requires
 put_times-requires c κs =
-    let d = c.before.before.before.before.before.before.before.before in
+    let d = c.before.before.before.before.before.before.before in
     let l = lent d in
     let there : d.salvage-answer.result.times-1 ≤ length (part' d ++ drop (entries l) (row l)) =
     rw (length-append (part' d) (drop (entries l) (row l)))
@@ -111,7 +111,7 @@ shape_of-row c = search rules
 returns : tie.Need-returns
 returns c =
     let t = c.before.before in
-    let d = t.before.before.before.before.before.before.before.before.before in
+    let d = t.before.before.before.before.before.before.before.before in
     let l = lent d in
     let a = (start l).args in
     let e = least_enough a.plan a.kinds a.capture.now (length (log l)) (length (report l)) (length (times l) / 8) (length (row l)) (entries l) (start l).requires l.least-entries.ensures

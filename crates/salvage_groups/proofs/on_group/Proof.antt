@@ -102,7 +102,7 @@ deal-fault-requires c κs = let s = c.before.before.before.before.before.before.
 
 drop_group-pass-requires : tie.Need-drop_group-pass-requires
 drop_group-pass-requires c κs =
-    let s = c.before.before.before.before.before.before.before.before.before.before.before.before.before.before in
+    let s = c.before.before.before.before.before.before.before.before.before.before.before.before.before.before.before in
     let x = s.requires.0.3.sound in
     let n = numbers s in (
       shape s,
@@ -121,7 +121,7 @@ shape_of-report-then-fault-ne0 c = c.report-1.given
 
 returns-then-fault-ne0 : tie.Need-returns-then-fault-ne0
 returns-then-fault-ne0 c =
-    let s = c.before.before.before.before.before.before.before.before.before.before.before.before.before.before.before.before.before in
+    let s = c.before.before.before.before.before.before.before.before.before.before.before.before.before.before.before.before.before.before in
     let a = s.args in
     let e = c.drop_group-pass.ensures in
     let f = c.deal-fault.result in (

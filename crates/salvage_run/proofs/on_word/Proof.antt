@@ -25,7 +25,7 @@ before s = tape s.args.pass s.args.out.now s.args.report.now
 
 -- the word was fed
 abbrev start : tie.After-feed-step → tie.Start
-start c = c.before.before.before.before.before.before.before
+start c = c.before.before.before.before.before.before.before.before
 
 fed_step : (c : tie.After-feed-step)
     → let a = (start c).args in c.feed-step.result ≡ word_step a.kinds a.plan.parity (held_of a.pass.held) a.word

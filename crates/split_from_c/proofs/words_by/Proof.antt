@@ -80,7 +80,7 @@ read_words-answer-requires c κs = search rules
 
 put_times-requires : tie.Need-put_times-requires
 put_times-requires c κs =
-    let r = c.before.before.before.before.before.before in
+    let r = c.before.before.before.before.before in
     let l = least r in
     let there : r.read_words-answer.result.times-1 ≤ length (part' r ++ drop (entries l) (row l)) =
     rw (length-append (part' r) (drop (entries l) (row l))) (omega (arith, given_there r.read_words-answer.result (words l) (words' r) (part l) (part' r) (given l) r.read_words-answer.ensures)) in
@@ -98,7 +98,7 @@ shape_of-row c = search rules
 returns : tie.Need-returns
 returns c =
     let t = c.before.before in
-    let r = t.before.before.before.before.before.before.before in
+    let r = t.before.before.before.before.before.before in
     let l = least r in
     let e = least_enough (start l).args.plan (start l).args.kinds (start l).args.capture.now (length (words l)) (length (times l) / 8) (length (row l)) (entries l) (start l).requires l.least-entries.ensures
     ∙ ap (words_read (start l).args.plan (start l).args.kinds (start l).args.capture.now (length (words l))) (sym (part_long l)) in

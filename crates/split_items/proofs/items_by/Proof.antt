@@ -76,7 +76,7 @@ returns-then-notice-ne0 c =
 
 give-requires : tie.Need-give-requires
 give-requires c κs =
-    let e = c.before.before.before.before in
+    let e = c.before.before.before.before.before in
     let k = e.before in
     let r = (start k).requires.2 in
     log_closable (kinds k) (parity k) (words k) (logged e) _ (start k).requires.1 (λ size a b. omega (arith, r size a b, k.built-1.given))
@@ -92,7 +92,7 @@ returns c =
     let g = c.before.before.before.before in
     let z = g.before.before.before in
     let o = z.before in
-    let e = o.before in
+    let e = o.before.before in
     let k = e.before in
     rw (log-settled (kinds k) (parity k) (words k) (length (log k)) (logged e) o.first_open-notice.ensures z.if-notice-ne0.false)
     (log_given (length (log k)) (logged e).items _ (log k) _ (g.give.ensures (logged e).items (logged e).wrote))

@@ -30,7 +30,7 @@ abbrev Row : Type 0
 Row = tie.After-on_row-pass
 
 abbrev first : Row → tie.After-low_front-low
-first c = c.before.before.before.before
+first c = c.before.before.before
 
 abbrev start : Row → tie.Start
 start c = (first c).before.before.before

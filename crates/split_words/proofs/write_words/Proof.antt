@@ -201,7 +201,7 @@ slice_bounds-copy_words-end-in-loop-g c = row_room c.before.before
 
 copy_words-requires : tie.Need-copy_words-requires invariant-loop-g decreases-loop-g
 copy_words-requires c κs =
-    let d = c.before.before.before in
+    let d = c.before.before in
     let l = loop d in
     let k : length (part d) ≡ count l = ap (λ (x : List ℕ). length x) (part_is d) ∙ words_length (plan l) (capture l) (l.loop-g.g * group_words (plan l)) ∙ sym (counts l) in
     lent_length l.loop-g.words-1 (l.loop-g.g * count l) (count l) (omega (arith, word_room (in_loop d), front_long l.loop-g.invariant.3)) ∙ sym k
@@ -210,11 +210,11 @@ overflow_add-g : tie.Need-overflow_add-g invariant-loop-g decreases-loop-g
 overflow_add-g c = search rules
 
 loop-g-smaller : tie.Need-loop-g-smaller invariant-loop-g decreases-loop-g
-loop-g-smaller c = omega (arith, (in_loop c.before.before.before.before.before.before).loop-g-test.true)
+loop-g-smaller c = omega (arith, (in_loop c.before.before.before.before.before).loop-g-test.true)
 
 loop-g-preserved : tie.Need-loop-g-preserved invariant-loop-g decreases-loop-g
 loop-g-preserved c =
-    let d = c.before.before.before.before.before.before in
+    let d = c.before.before.before.before.before in
     let l = loop d in (
       omega (arith, (in_loop d).loop-g-test.true),
       (deal d).deal.ensures.long ∙ l.loop-g.invariant.1,

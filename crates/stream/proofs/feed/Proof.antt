@@ -19,7 +19,7 @@ abbrev Found : Type 0
 Found = tie.After-load-found
 
 abbrev start : Found → tie.Start
-start c = c.before.before.before.before.before.before
+start c = c.before.before.before.before.before
 
 staged : (c : Found) → c.load-found.result.stage ≡ (loaded_of (start c).args.state.now).stage
 staged c = ap (λ (r : Loaded). r.stage) c.load-found.ensures

@@ -18,7 +18,7 @@ abbrev Found : Type 0
 Found = tie.After-load-found
 
 abbrev start : Found → tie.Start
-start c = c.before.before.before.before
+start c = c.before.before.before
 
 staged : (c : Found) → c.load-found.result.stage ≡ (loaded_of (start c).args.state.now).stage
 staged c = ap (λ (r : Loaded). r.stage) c.load-found.ensures
@@ -48,7 +48,7 @@ abbrev Read : Type 0
 Read = tie.After-notices_at
 
 abbrev within_limits : Read → Open
-within_limits n = n.before.before.before
+within_limits n = n.before.before
 
 says : (n : Read) → let f = found (within_limits n).before in Says (start f).args.state.now f.load-found.result n.notices_at.new.table
 says n = record { is = (found (within_limits n).before).load-found.ensures; table_is = λ e. n.notices_at.ensures }
@@ -79,7 +79,7 @@ slice_bounds-notices_at-end : tie.Need-slice_bounds-notices_at-end
 slice_bounds-notices_at-end c = search rules
 
 notices_at-requires : tie.Need-notices_at-requires
-notices_at-requires c κs = (long c.before.before, refl)
+notices_at-requires c κs = (long c.before, refl)
 
 slice_bounds-close_on-end : tie.Need-slice_bounds-close_on-end
 slice_bounds-close_on-end c = search rules

@@ -76,7 +76,7 @@ feed-answer-requires c κs = search rules
 
 put_times-requires : tie.Need-put_times-requires
 put_times-requires c κs =
-    let f = c.before.before.before.before.before.before.before.before in
+    let f = c.before.before.before.before.before.before.before in
     let l = lent f in
     let p : List ℕ = f.feed-answer.new.times in
     let there : f.feed-answer.result.times-1 ≤ length (p ++ drop (entries l) (row l)) =
@@ -98,7 +98,7 @@ shape_of-row c = search rules
 returns : tie.Need-returns
 returns c =
     let t = c.before.before in
-    let f = c.before.before.before.before.before.before.before.before.before.before.before in
+    let f = c.before.before.before.before.before.before.before.before.before.before in
     let l = lent f in
     let a = (start l).args in
     let e = least_same a.state-1.now a.piece.now (length a.log-1.now) (length a.times-1.now / 8) (length (row l)) (entries l) (start l).requires l.least-entries.ensures

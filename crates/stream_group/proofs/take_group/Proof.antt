@@ -63,7 +63,7 @@ words_low_in c i l =
 
 -- its row is read
 abbrev led : tie.After-take_row-arg-3-1 → Led
-led c = c.before.before.before.before
+led c = c.before.before.before
 
 -- ---- the needs
 
@@ -115,7 +115,7 @@ slice_bounds-take_row-start c = search rules
 
 slice_bounds-take_row-end : tie.Need-slice_bounds-take_row-end
 slice_bounds-take_row-end c =
-    let l = c.before in
+    let l = c in
     let s = start (group l) in
     omega (arith, l.lead-first.ensures, s.requires.0.1, s.requires.0.3, (group l).deal-fault.ensures.long, dealt_in _ s.requires.0.0)
 

@@ -36,7 +36,7 @@ abbrev Through : Type 0
 Through = tie.After-through-along
 
 abbrev sized : Through → Sized
-sized t = t.before.before.before.before.before.before.before.before.before.before
+sized t = t.before.before.before.before.before.before.before.before.before
 
 goes : (t : Through) → Goes (start (sized t)).args.stand.plan-1 (kinds_at (start (sized t)).args.state.now)
     (total (start (sized t)).args.state.now (start (sized t)).args.stand (start (sized t)).args.table.now (start (sized t)).args.piece.now (length (start (sized t)).args.log.now)
@@ -75,17 +75,17 @@ through-along-requires : tie.Need-through-along-requires
 through-along-requires c κs = search rules
 
 slice_bounds-end_feed-count : tie.Need-slice_bounds-end_feed-count
-slice_bounds-end_feed-count c = omega (arith, in_piece (sized c.before.before.before.before.before.before.before.before.before.before.before.before.before.before))
+slice_bounds-end_feed-count c = omega (arith, in_piece (sized c.before.before.before.before.before.before.before.before.before.before.before.before.before))
 
 slice_bounds-end_feed-start : tie.Need-slice_bounds-end_feed-start
-slice_bounds-end_feed-start c = omega (arith, in_piece (sized c.before.before.before.before.before.before.before.before.before.before.before.before.before.before))
+slice_bounds-end_feed-start c = omega (arith, in_piece (sized c.before.before.before.before.before.before.before.before.before.before.before.before.before))
 
 slice_bounds-end_feed-end : tie.Need-slice_bounds-end_feed-end
 slice_bounds-end_feed-end c = search rules
 
 end_feed-requires : tie.Need-end_feed-requires
 end_feed-requires c κs =
-    let t = c.before.before.before.before.before.before.before.before.before.before.before.before.before.before.before in
+    let t = c.before.before.before.before.before.before.before.before.before.before.before.before.before.before in
     let s = start (sized t) in
     let a = s.args in
     let F = filled s in
@@ -115,7 +115,7 @@ shape_of-times c = c.times-1.given
 
 returns : tie.Need-returns
 returns c =
-    let t = c.before.before.before.before.before.before.before.before.before.before.before.before.before.before.before.before.before.before in
+    let t = c.before.before.before.before.before.before.before.before.before.before.before.before.before.before.before.before.before in
     let s = start (sized t) in
     let a = s.args in
     let e = rw t.kinds_at-kinds.ensures at c.end_feed.ensures.1 in

@@ -67,7 +67,7 @@ abbrev First : Type 0
 First = tie.After-on_group-first
 
 abbrev whole : First → Whole
-whole o = o.before.before.before.before.before.before.before.before.before.before.before.before
+whole o = o.before.before.before.before.before.before.before.before.before.before.before
 
 goes : (o : First) → Goes (start (whole o)).args.stand.plan-1 (start (whole o)).args.kinds (flow (whole o)) (start_of (start (whole o)).args.stand) o.on_group-first.result
     o.on_group-first.new.table (start (whole o)).args.log.now o.on_group-first.new.log (start (whole o)).args.times.now
@@ -119,11 +119,11 @@ slice_bounds-on_group-start : tie.Need-slice_bounds-on_group-start
 slice_bounds-on_group-start c = search rules
 
 slice_bounds-on_group-end : tie.Need-slice_bounds-on_group-end
-slice_bounds-on_group-end c = omega (arith, in_state c.before.before.before.before.before, c.state-1.given)
+slice_bounds-on_group-end c = omega (arith, in_state c.before.before.before.before, c.state-1.given)
 
 on_group-first-requires : tie.Need-on_group-first-requires
 on_group-first-requires c κs =
-    let k = c.before.before.before.before.before.before.before.before.before.before.before in
+    let k = c.before.before.before.before.before.before.before.before.before.before in
     let s = start k in
     let a = s.args in
     let r = s.requires.2 in

@@ -24,7 +24,7 @@ abbrev Taken : Type 0
 Taken = tie.After-take_group-took
 
 abbrev start : Taken → tie.Start
-start c = c.before.before.before.before.before.before.before.before.before.before
+start c = c.before.before.before.before.before.before.before.before.before.before.before.before
 
 abbrev took : Taken → Took
 took c = c.take_group-took.result
@@ -70,7 +70,7 @@ room c z =
 
 take_group-took-requires : tie.Need-take_group-took-requires
 take_group-took-requires c κs =
-    let s = c.before.before.before.before.before.before.before.before.before in
+    let s = c.before.before.before.before.before.before.before.before.before.before.before in
     let g = grants s in
     let r = s.requires.0.2 in
     ((g.shape, r.slots_are, s.requires.0.3, r.dealt, s.requires.0.0.sane, s.requires.0.0.bits), (g.long, g.waits, s.requires.0.4))
@@ -98,7 +98,7 @@ returns-then-took-ne0 c =
 
 put_group-requires : tie.Need-put_group-requires
 put_group-requires c κs =
-    let t = c.before.before.before.before.before.before.before.before.before.before.before in
+    let t = c.before.before.before.before.before.before.before.before.before.before in
     let s = start t in
     let x = room t c.if-took-ne0.false in
     (((grants s).shape, s.requires.0.3, groups_low s.args.plan (grants s).shape s.args.along.groups s.requires.0.4, omega (arith, x.built)), (x.bytes, x.entries))
@@ -121,7 +121,7 @@ shape_of-times c = search rules
 returns : tie.Need-returns
 returns c =
     let k = c.before.before.before.before in
-    let t = k.before.before.before.before.before.before.before.before.before.before.before.before in
+    let t = k.before.before.before.before.before.before.before.before.before.before.before in
     let s = start t in
     let a = s.args in
     let z = k.if-took-ne0.false in
