@@ -94,9 +94,9 @@ overflow_add-slot-in-loop-slot c = omega (arith, c.loop-slot-test.true, (entry c
 offset_bounds-row-slot-in-loop-slot : tie.Need-offset_bounds-row-slot-in-loop-slot invariant-loop-slot decreases-loop-slot invariant-loop-slot-2 decreases-loop-slot-2
 offset_bounds-row-slot-in-loop-slot c = omega (arith, c.loop-slot-test.true, (entry c.before).requires.1)
 
-shared-slice-read-are-fill-2 :
-    tie.Need-shared_slice_read-are_fill-2 invariant-loop-slot decreases-loop-slot invariant-loop-slot-2 decreases-loop-slot-2
-shared-slice-read-are-fill-2 c = omega (arith, c.loop-slot-test.true, (entry c.before.before).requires.1)
+bounds-row-slot-in-loop-slot :
+    tie.Need-bounds-row-slot-in-loop-slot invariant-loop-slot decreases-loop-slot invariant-loop-slot-2 decreases-loop-slot-2
+bounds-row-slot-in-loop-slot c = omega (arith, c.loop-slot-test.true, (entry c.before.before).requires.1)
 
 overflow_add-slot-in-loop-slot-2 : tie.Need-overflow_add-slot-in-loop-slot-2 invariant-loop-slot decreases-loop-slot invariant-loop-slot-2 decreases-loop-slot-2
 overflow_add-slot-in-loop-slot-2 c = omega (arith, c.loop-slot-test.true, (entry c.before.before).requires.1)
@@ -104,9 +104,9 @@ overflow_add-slot-in-loop-slot-2 c = omega (arith, c.loop-slot-test.true, (entry
 offset_bounds-row-slot-in-loop-slot-2 : tie.Need-offset_bounds-row-slot-in-loop-slot-2 invariant-loop-slot decreases-loop-slot invariant-loop-slot-2 decreases-loop-slot-2
 offset_bounds-row-slot-in-loop-slot-2 c = omega (arith, c.loop-slot-test.true, (entry c.before.before).requires.1)
 
-shared-slice-read-are-fill-3 :
-    tie.Need-shared_slice_read-are_fill-3 invariant-loop-slot decreases-loop-slot invariant-loop-slot-2 decreases-loop-slot-2
-shared-slice-read-are-fill-3 c = omega (arith, c.loop-slot-test.true, (entry c.before.before.before).requires.1)
+bounds-row-slot-in-loop-slot-2 :
+    tie.Need-bounds-row-slot-in-loop-slot-2 invariant-loop-slot decreases-loop-slot invariant-loop-slot-2 decreases-loop-slot-2
+bounds-row-slot-in-loop-slot-2 c = omega (arith, c.loop-slot-test.true, (entry c.before.before.before).requires.1)
 
 overflow_add-slot-in-loop-slot-3 : tie.Need-overflow_add-slot-in-loop-slot-3 invariant-loop-slot decreases-loop-slot invariant-loop-slot-2 decreases-loop-slot-2
 overflow_add-slot-in-loop-slot-3 c = omega (arith, c.loop-slot-test.true, (entry c.before.before.before).requires.1)
@@ -114,9 +114,9 @@ overflow_add-slot-in-loop-slot-3 c = omega (arith, c.loop-slot-test.true, (entry
 offset_bounds-row-slot-in-loop-slot-3 : tie.Need-offset_bounds-row-slot-in-loop-slot-3 invariant-loop-slot decreases-loop-slot invariant-loop-slot-2 decreases-loop-slot-2
 offset_bounds-row-slot-in-loop-slot-3 c = omega (arith, c.loop-slot-test.true, (entry c.before.before.before).requires.1)
 
-shared-slice-read-are-fill-4 :
-    tie.Need-shared_slice_read-are_fill-4 invariant-loop-slot decreases-loop-slot invariant-loop-slot-2 decreases-loop-slot-2
-shared-slice-read-are-fill-4 c = omega (arith, c.loop-slot-test.true, (entry c.before.before.before.before).requires.1)
+bounds-row-slot-in-loop-slot-3 :
+    tie.Need-bounds-row-slot-in-loop-slot-3 invariant-loop-slot decreases-loop-slot invariant-loop-slot-2 decreases-loop-slot-2
+bounds-row-slot-in-loop-slot-3 c = omega (arith, c.loop-slot-test.true, (entry c.before.before.before.before).requires.1)
 
 are_fill-requires : tie.Need-are_fill-requires invariant-loop-slot decreases-loop-slot invariant-loop-slot-2 decreases-loop-slot-2
 are_fill-requires c κs = search rules
@@ -179,13 +179,13 @@ past_fill_spec =
     bounds-row-slot
     overflow_add-slot-in-loop-slot
     offset_bounds-row-slot-in-loop-slot
-    shared-slice-read-are-fill-2
+    bounds-row-slot-in-loop-slot
     overflow_add-slot-in-loop-slot-2
     offset_bounds-row-slot-in-loop-slot-2
-    shared-slice-read-are-fill-3
+    bounds-row-slot-in-loop-slot-2
     overflow_add-slot-in-loop-slot-3
     offset_bounds-row-slot-in-loop-slot-3
-    shared-slice-read-are-fill-4
+    bounds-row-slot-in-loop-slot-3
     are_fill-requires
     overflow_add-slot-then-are_fill
     loop-slot-smaller

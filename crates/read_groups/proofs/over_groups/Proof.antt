@@ -64,7 +64,7 @@ bytes c i = omega (arith, c.shared_slice_known-1.given i)
 size : (c : AtLoop) → group_words (plan c) ≤ most_group_words
 size c = group_most (plan c) (shape c)
 
-over : (c : AtLoop) → Over (start c).args.kinds (plan c) (capture c) (start c).args.groups (start c).args.out.now c.loop-g.g c.loop-g.pass c.loop-g.out-1
+over : (c : AtLoop) → Over (start c).args.kinds (plan c) (capture c) (start c).args.groups (start c).args.out.now c.loop-g.g c.loop-g.pass c.loop-g.out
 over c = c.loop-g.invariant.3
 
 -- it is dealt
@@ -144,15 +144,15 @@ abbrev of_row : Ran-row → Sound-group
 of_row c = c.before.before.before
 
 abbrev out : Ran-row → List ℕ
-out c = c.on_Row.new.1.1.1.1.1.1.0
+out c = c.on_row-pass.new.out
 
-told_few : (c : Ran-row) → (c.on_Row.result.since < 2 ^ 32) × (c.on_Row.result.bad < 2 ^ 32)
+told_few : (c : Ran-row) → (c.on_row-pass.result.since < 2 ^ 32) × (c.on_row-pass.result.bad < 2 ^ 32)
 told_few c =
     let e = of_row c in
     let l = group e in
     let t =
     told-low (start l).args.kinds (plan l) (capture l) (start l).args.groups (start l).args.out.now (shape l) l.loop-g.g (in_loop (dealt e)).loop-g-test.true
-    l.loop-g.pass l.loop-g.out-1 (over l) (counted l.loop-g.from (part e)) (counted_is e) (sound e) c.on_Row.result (out c) c.on_Row.ensures.0 in
+    l.loop-g.pass l.loop-g.out (over l) (counted l.loop-g.from (part e)) (counted_is e) (sound e) c.on_row-pass.result (out c) c.on_row-pass.ensures.0 in
     (omega (arith, t.0, numbers e), omega (arith, t.1, numbers e))
 
 -- a word of it is bad
@@ -195,7 +195,7 @@ Passed = tie.After-loop-g invariant-loop-g decreases-loop-g
 last : (c : Passed) → c.loop-g.g ≡ (start c.before).args.groups
 last c = omega (arith, c.loop-g-test.false, c.loop-g.invariant.0)
 
-earliest : (c : Passed) → let l = c.before in earliest_of l.loop-g.noted.found l.loop-g.table-1 ≡ open_number (start l).args.kinds (plan l) (capture l) (start l).args.groups
+earliest : (c : Passed) → let l = c.before in earliest_of l.loop-g.noted.found l.loop-g.table ≡ open_number (start l).args.kinds (plan l) (capture l) (start l).args.groups
 earliest c =
     let l = c.before in
     noted_all (start l).args.kinds (plan l) (capture l) (start l).args.groups (all_bytes (capture l) (bytes l)) l.loop-g.g (last c) l.loop-g.invariant.5
@@ -275,7 +275,7 @@ returns-then-fault-ne0 c =
       notice = λ z. absurd (t.if-fault-ne0.true z);
       stops = λ z.
           over-fault (start l).args.kinds (plan l) (capture l) (start l).args.groups (start l).args.out.now (shape l) l.loop-g.g (in_loop d).loop-g-test.true l.loop-g.pass
-          l.loop-g.out-1 (over l) (dealt-found (plan l) (shape l) (capture l) l.loop-g.g d.deal-fault.ensures z);
+          l.loop-g.out (over l) (dealt-found (plan l) (shape l) (capture l) l.loop-g.g d.deal-fault.ensures z);
     }
 
 offset_bounds-row-first : tie.Need-offset_bounds-row-first invariant-loop-g decreases-loop-g
@@ -322,9 +322,9 @@ returns-then-pass-ne0 c =
     let r = bad_row t in
     let e = of_row r in
     let l = group e in
-    walked_bad _ _ _ _ _ r.on_Row.result.bad r.on_Row.result.since
+    walked_bad _ _ _ _ _ r.on_row-pass.result.bad r.on_row-pass.result.since
     (over-bad (start l).args.kinds (plan l) (capture l) (start l).args.groups (start l).args.out.now (shape l) l.loop-g.g (in_loop (dealt e)).loop-g-test.true
-    l.loop-g.pass l.loop-g.out-1 (over l) (counted l.loop-g.from (part e)) (counted_is e) (sound e) r.on_Row.result (out r) r.on_Row.ensures.0 t.if-pass-ne0.true)
+    l.loop-g.pass l.loop-g.out (over l) (counted l.loop-g.from (part e)) (counted_is e) (sound e) r.on_row-pass.result (out r) r.on_row-pass.ensures.0 t.if-pass-ne0.true)
     c.broken.ensures
 
 offset_bounds-row-first-in-loop-g : tie.Need-offset_bounds-row-first-in-loop-g invariant-loop-g decreases-loop-g
@@ -358,7 +358,7 @@ overflow_add-from : tie.Need-overflow_add-from invariant-loop-g decreases-loop-g
 overflow_add-from c = let e = good_group (noted c.before) in omega (arith, (group e).loop-g.invariant.1, (start (group e)).requires.0.1, numbers e)
 
 overflow_add-g : tie.Need-overflow_add-g invariant-loop-g decreases-loop-g
-overflow_add-g c = let e = good_group (noted c.before) in omega (arith, (in_loop (dealt e)).loop-g-test.true, (start (group e)).fits.groups)
+overflow_add-g c = let e = good_group (noted c.before) in omega (arith, (in_loop (dealt e)).loop-g-test.true, (start (group e)).ranges.groups)
 
 loop-g-smaller : tie.Need-loop-g-smaller invariant-loop-g decreases-loop-g
 loop-g-smaller c = omega (arith, (in_loop (dealt (good_group (noted c.before)))).loop-g-test.true)
@@ -373,8 +373,8 @@ loop-g-preserved c =
       omega (arith, l.loop-g.invariant.1, (start l).requires.0.1),
       (dealt e).deal-fault.ensures.long ∙ l.loop-g.invariant.2,
       over-more (start l).args.kinds (plan l) (capture l) (start l).args.groups (start l).args.out.now (shape l) l.loop-g.g (in_loop (dealt e)).loop-g-test.true
-          l.loop-g.pass l.loop-g.out-1 (over l) (counted l.loop-g.from (part e)) (counted_is e) (sound e) r.on_Row.result (out r) r.on_Row.ensures.0 q.if-pass-ne0.false
-          (omega (arith, r.on_Row.ensures.1 q.if-pass-ne0.false, l.loop-g.invariant.1, part_length_is e)),
+          l.loop-g.pass l.loop-g.out (over l) (counted l.loop-g.from (part e)) (counted_is e) (sound e) r.on_row-pass.result (out r) r.on_row-pass.ensures.0 q.if-pass-ne0.false
+          (omega (arith, r.on_row-pass.ensures.1 q.if-pass-ne0.false, l.loop-g.invariant.1, part_length_is e)),
       c.table-in-loop-g-1.given,
       noted_next c.before,
       c.note_row-noted.ensures.1,

@@ -32,7 +32,7 @@ abbrev plan : Walked → Plan
 plan c = (start c).args.plan
 
 abbrev pass : Walked → Pass
-pass c = c.walk_groups-walk.result.pass-1
+pass c = c.walk_groups-walk.result.pass
 
 abbrev out : Walked → List ℕ
 out c = c.walk_groups-walk.new.out

@@ -25,11 +25,11 @@ shape_of-times-then-plan c = search rules
 returns-then-plan : tie.Need-returns-then-plan
 returns-then-plan c =
     let a = c.args in
-    let k = kept_yes a.plan a.at (group_time a.plan a.group.now 0) a.times-1.now c.if-plan.true in
-    (k.0, c.put_at.ensures ∙ ap (put_at a.times-1.now a.at) c.group_time.ensures ∙ k.1)
+    let k = kept_yes a.plan a.at (group_time a.plan a.group.now 0) a.times.now c.if-plan.true in
+    (k.0, c.put_at.ensures ∙ ap (put_at a.times.now a.at) c.group_time.ensures ∙ k.1)
 
 returns : tie.Need-returns
-returns c = let a = c.args in kept_no a.plan a.at (group_time a.plan a.group.now 0) a.times-1.now c.if-plan.false
+returns c = let a = c.args in kept_no a.plan a.at (group_time a.plan a.group.now 0) a.times.now c.if-plan.false
 
 pub keep_time_spec : {M : Type 1} → statement M
 keep_time_spec =

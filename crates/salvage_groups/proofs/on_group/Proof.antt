@@ -125,10 +125,10 @@ returns-then-fault-ne0 c =
     let a = s.args in
     let e = c.drop_group-pass.ensures in
     let f = c.deal-fault.result in (
-      reel_dropped a.kinds a.plan a.capture.now a.index a.walk a.out-1.now a.times-1.now a.report-1.now f.number (a.index * group_words a.plan + f.place)
+      reel_dropped a.kinds a.plan a.capture.now a.index a.walk a.out.now a.times.now a.report.now f.number (a.index * group_words a.plan + f.place)
           (dealt-found a.plan (shape s) a.capture.now a.index c.deal-fault.ensures c.if-fault-ne0.true) e,
       record {
-        sound = dropped_sound a.plan (shape s) f.number a.index a.walk.pass c.drop_group-pass.result a.report-1.now c.drop_group-pass.new.report s.requires.0.3.sound e;
+        sound = dropped_sound a.plan (shape s) f.number a.index a.walk.pass c.drop_group-pass.result a.report.now c.drop_group-pass.new.report s.requires.0.3.sound e;
         few = omega (arith, s.requires.0.3.few);
       },
     )
@@ -204,14 +204,14 @@ returns c =
     let a = s.args in
     let q = c.before.before.before.before.before.before.before.before.before.before.before.before.before.before in
     let k = c.keep_time-kept.ensures in
-    let w = c.on_Row.ensures in
+    let w = c.on_row-pass.ensures in
     let e : a.index * a.count ≡ a.index * slots a.plan = ap (λ (n : ℕ). a.index * n) s.requires.0.1 in (
-      reel_kept a.kinds a.plan a.capture.now a.index a.walk a.out-1.now a.times-1.now a.report-1.now (a.index * a.count) (part q) c.keep_time-kept.result
+      reel_kept a.kinds a.plan a.capture.now a.index a.walk a.out.now a.times.now a.report.now (a.index * a.count) (part q) c.keep_time-kept.result
           (group_time a.plan (part_of a.plan (shape s) a.capture.now a.index) 0) (sound q) w.0 e (part_is q) k.0 k.1
           (time_is a.plan (shape s) a.capture.now a.index),
       record {
-        sound = subst (λ (n : ℕ). Sound n c.on_Row.result) (ap₂ ◌+◌ e (row_long q) ∙ more a.index (slots a.plan)) w.1;
-        few = kept_few a.plan a.index a.walk.times-1 k.0 s.requires.0.3.few;
+        sound = subst (λ (n : ℕ). Sound n c.on_row-pass.result) (ap₂ ◌+◌ e (row_long q) ∙ more a.index (slots a.plan)) w.1;
+        few = kept_few a.plan a.index a.walk.times k.0 s.requires.0.3.few;
       },
     )
 

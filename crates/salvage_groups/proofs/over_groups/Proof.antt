@@ -32,7 +32,7 @@ abbrev start : AtLoop → tie.Start invariant-loop-index decreases-loop-index
 start c = c.before.before.before.before.before.before.before
 
 abbrev here : AtLoop → Reel
-here c = reel c.loop-index.walk c.loop-index.out-1 c.loop-index.times-1 c.loop-index.report-1
+here c = reel c.loop-index.walk c.loop-index.out c.loop-index.times c.loop-index.report
 
 -- in a group
 abbrev in_loop : tie.After-on_group-walk invariant-loop-index decreases-loop-index → tie.In-loop-index invariant-loop-index decreases-loop-index
@@ -50,7 +50,7 @@ start_walk-walk-requires c κs = search rules
 loop-index-init : tie.Need-loop-index-init invariant-loop-index decreases-loop-index
 loop-index-init c =
     let a = c.args in
-    let r : Walk → Reel = λ w. reel w a.out-1.now a.times-1.now a.report-1.now in (
+    let r : Walk → Reel = λ w. reel w a.out.now a.times.now a.report.now in (
       omega arith,
       refl,
       refl,
@@ -72,7 +72,7 @@ on_group-walk-requires c κs =
     )
 
 overflow_add-index : tie.Need-overflow_add-index invariant-loop-index decreases-loop-index
-overflow_add-index c = let i = in_loop (walked c) in omega (arith, i.loop-index-test.true, (start i.before).fits.groups)
+overflow_add-index c = let i = in_loop (walked c) in omega (arith, i.loop-index-test.true, (start i.before).ranges.groups)
 
 loop-index-smaller : tie.Need-loop-index-smaller invariant-loop-index decreases-loop-index
 loop-index-smaller c = omega (arith, (in_loop (walked c)).loop-index-test.true)

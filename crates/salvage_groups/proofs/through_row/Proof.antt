@@ -33,8 +33,8 @@ all c =
     numbers_few s.args.plan s.requires.0.0 s.args.groups (length s.args.capture.now) s.requires.1.0 s.requires.1.1
 
 -- what is held at the end is let go
-abbrev over : tie.After-let_go-arg-2-1 → Over
-over c = c.before.before.before.before.before.before.before.before.before.before
+abbrev over : tie.After-let_go-arg-3-1 → Over
+over c = c.before.before.before.before.before.before.before.before.before.before.before
 
 -- the log is closed
 abbrev gone : tie.After-close-arg-1 → tie.After-let_go-pass
@@ -80,7 +80,7 @@ returns c =
     let o = over g.before in
     let s = start o in
     let a = s.args in
-    tallied a.kinds a.plan s.requires.0.0 a.capture.now (bytes o) a.groups a.out-1.now a.times-1.now a.report-1.now
+    tallied a.kinds a.plan s.requires.0.0 a.capture.now (bytes o) a.groups a.out.now a.times.now a.report.now
     o.over_groups-walk.ensures.0 g.let_go-pass.ensures z.close-bytes.ensures.0 z.close-bytes.ensures.1
 
 pub through_row_spec : {M : Type 1} → statement M

@@ -36,7 +36,7 @@ shape_of-report c = search rules
 returns : tie.Need-returns
 returns c = λ out.
     let a = c.args in
-    rw c.put_at.ensures (tape_gap a.plan a.number a.index (tape a.pass out a.report-1.now) _ (c.drop_held-free.ensures out))
+    rw c.put_at.ensures (tape_gap a.plan a.number a.index (tape a.pass out a.report.now) _ (c.drop_held-free.ensures out))
 
 pub drop_group_spec : {M : Type 1} → statement M
 drop_group_spec =

@@ -33,8 +33,8 @@ returns c = λ out.
     let s = c.before.before.before.before.before.before.before.before.before in
     let a = s.args in
     let w = c.held_words-words.ensures in
-    tape_dropped a.plan a.pass out a.report-1.now c.nothing.ensures w c.lose_last-entries.ensures.0
-    (c.lose_last-entries.ensures.1 ∙ ap (λ (n : ℕ). put_all a.report-1.now a.pass.entries (places_of a.plan n a.pass.last-1)) w)
+    tape_dropped a.plan a.pass out a.report.now c.nothing.ensures w c.lose_last-entries.ensures.0
+    (c.lose_last-entries.ensures.1 ∙ ap (λ (n : ℕ). put_all a.report.now a.pass.entries (places_of a.plan n a.pass.last)) w)
 
 pub drop_held_spec : {M : Type 1} → statement M
 drop_held_spec =

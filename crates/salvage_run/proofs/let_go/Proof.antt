@@ -23,7 +23,7 @@ returns-then-step : tie.Need-returns-then-step
 returns-then-step c =
     let s = c.before.before.before.before.before.before.before.before in
     let a = s.args in
-    c.drop_held.ensures a.out-1.now ∙ let_dropped a.plan (tape a.pass a.out-1.now a.report-1.now) (c.finish-step.ensures 0) c.if-step.true
+    c.drop_held.ensures a.out.now ∙ let_dropped a.plan (tape a.pass a.out.now a.report.now) (c.finish-step.ensures 0) c.if-step.true
 
 put_items-requires : tie.Need-put_items-requires
 put_items-requires c κs = let s = c.before.before.before.before.before.before in (s.requires.5, freed_fits s.args.pass s.requires.2 (c.finish-step.ensures 0) c.if-step.false)
@@ -35,7 +35,7 @@ returns : tie.Need-returns
 returns c =
     let s = c.before.before.before.before.before.before.before.before.before in
     let a = s.args in
-    c.put_items.ensures a.report-1.now ∙ let_put a.plan (tape a.pass a.out-1.now a.report-1.now) (c.finish-step.ensures 0) c.if-step.false
+    c.put_items.ensures a.report.now ∙ let_put a.plan (tape a.pass a.out.now a.report.now) (c.finish-step.ensures 0) c.if-step.false
 
 pub let_go_spec : {M : Type 1} → statement M
 let_go_spec =

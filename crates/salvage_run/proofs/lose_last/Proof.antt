@@ -64,12 +64,12 @@ loop-index-preserved c =
     let l = c.before.before.before.before.before.before in
     let s = l.before.before in
     let f : ℕ → ℕ = stored_at s.args.plan in
-    let e : c.put_at.new.row ≡ put_at l.loop-index.report-1 l.loop-index.entries (f (get_or (numbers_of s.args.last) l.loop-index.index 0)) =
-    c.put_at.ensures ∙ ap (put_at l.loop-index.report-1 l.loop-index.entries) c.stored_place.ensures in (
+    let e : c.put_at.new.row ≡ put_at l.loop-index.report l.loop-index.entries (f (get_or (numbers_of s.args.last) l.loop-index.index 0)) =
+    c.put_at.ensures ∙ ap (put_at l.loop-index.report l.loop-index.entries) c.stored_place.ensures in (
       omega arith,
       omega (arith, l.loop-index.invariant.1),
       c.report-1.given ∙ l.loop-index.invariant.2,
-      l.loop-index.invariant.3 ∙ all_next f (numbers_of s.args.last) l.loop-index.report-1 l.loop-index.entries l.loop-index.index c.loop-index-test.true
+      l.loop-index.invariant.3 ∙ all_next f (numbers_of s.args.last) l.loop-index.report l.loop-index.entries l.loop-index.index c.loop-index-test.true
           ∙ ap (λ (r : List ℕ). put_all r (l.loop-index.entries + 1) (map f (drop (l.loop-index.index + 1) (numbers_of s.args.last)))) (sym e),
     )
 
@@ -81,7 +81,7 @@ returns c =
     let l = c.before in
     let s = l.before.before in (
       omega (arith, l.loop-index.invariant.1, c.loop-index-test.false, l.loop-index.invariant.0, s.requires.3),
-      sym (l.loop-index.invariant.3 ∙ all_last (stored_at s.args.plan) (numbers_of s.args.last) l.loop-index.report-1 l.loop-index.entries l.loop-index.index c.loop-index-test.false),
+      sym (l.loop-index.invariant.3 ∙ all_last (stored_at s.args.plan) (numbers_of s.args.last) l.loop-index.report l.loop-index.entries l.loop-index.index c.loop-index-test.false),
     )
 
 pub lose_last_spec : {M : Type 1} → statement M

@@ -26,7 +26,7 @@ abbrev before : tie.Start invariant-loop-i decreases-loop-i → Tape
 before s = tape s.args.pass s.args.out.now s.args.report.now
 
 abbrev now : tie.At-loop-i invariant-loop-i decreases-loop-i → Tape
-now l = tape l.loop-i.pass l.loop-i.out-1 l.loop-i.report-1
+now l = tape l.loop-i.pass l.loop-i.out l.loop-i.report
 
 further : (n i : ℕ) → n + i + 1 ≡ n + (i + 1)
 further n i = omega arith

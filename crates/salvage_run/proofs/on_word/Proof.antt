@@ -125,7 +125,7 @@ returns c =
     let e = n.before in
     let s = start e.before in
     let a = s.args in
-    p.put_items.ensures a.report-1.now
+    p.put_items.ensures a.report.now
     ∙ word-taken a.plan (before s) a.kinds a.number a.word (fed_step e.before) e.if-step.false n.next.ensures
 
 pub on_word_spec : {M : Type 1} → statement M

@@ -77,7 +77,7 @@ returns-then-step c =
     let t = p.before.before.before.before in
     let s = start t.before in
     let a = s.args in
-    tape_lost a.plan a.pass a.out-1.now a.report-1.now a.number c.nothing-then-step.ensures p.stored_place.ensures p.put_at.ensures
+    tape_lost a.plan a.pass a.out.now a.report.now a.number c.nothing-then-step.ensures p.stored_place.ensures p.put_at.ensures
     ∙ start-lost a.plan (before s) a.kinds a.number a.word (fed_step t.before) t.if-step.true
 
 next-requires : tie.Need-next-requires
@@ -99,7 +99,7 @@ returns c =
     let e = n.before in
     let s = start e.before in
     let a = s.args in
-    p.put_items.ensures a.report-1.now
+    p.put_items.ensures a.report.now
     ∙ start-taken a.plan (before s) a.kinds a.number a.word (fed_step e.before) e.if-step.false n.next.ensures
 
 pub try_start_spec : {M : Type 1} → statement M

@@ -51,10 +51,10 @@ is_low : (c : Row) → LowFront (words c) (low c)
 is_low c = (first c).low_front-low.ensures
 
 abbrev pass : Row → Pass
-pass c = c.on_Row.result
+pass c = c.on_row-pass.result
 
 abbrev out : Row → List ℕ
-out c = c.on_Row.new.1.1.1.1.1.1.0
+out c = c.on_row-pass.new.out
 
 abbrev fills : Row → Fills
 fills c =
@@ -63,7 +63,7 @@ fills c =
 is_ran : (c : Row) → RanTo start_pass (start c).args.out.now (run (kinds c) (parity c) (counted 0 (take (low c) (words c))) Nothing 0) (fills c) (pass c) (out c)
 is_ran c =
     from_start (kinds c) (parity c) (words c) (low c) (is_low c) (start c).args.out.now (out c) (pass c) (fills c) c.start_pass-start.ensures
-    c.on_Row.ensures.0
+    c.on_row-pass.ensures.0
 
 -- what it carries is known
 abbrev ran : tie.After-struct_known-1 → Row
@@ -82,7 +82,7 @@ good_row c =
 few : (c : Good-row) → let k = ran c.before in (pass k).pen-1.bits ≤ 128 * length (words k)
 few c =
     let k = ran c.before in
-    omega (arith, k.on_Row.ensures.1 c.if-pass-ne0.false, length-take-le (low k) (words k) (is_low k).few, (is_low k).few)
+    omega (arith, k.on_row-pass.ensures.1 c.if-pass-ne0.false, length-take-le (low k) (words k) (is_low k).few, (is_low k).few)
 
 -- what is held is finished, or cut
 closes : (c : tie.After-finish-step) → let k = ran c.before.before.before in Closes (finish (held_of (pass k).held-1) (pass k).since) c.finish-step.result

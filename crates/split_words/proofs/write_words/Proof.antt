@@ -204,7 +204,7 @@ copy_words-requires c κs =
     let d = c.before.before in
     let l = loop d in
     let k : length (part d) ≡ count l = ap (λ (x : List ℕ). length x) (part_is d) ∙ words_length (plan l) (capture l) (l.loop-g.g * group_words (plan l)) ∙ sym (counts l) in
-    lent_length l.loop-g.words-1 (l.loop-g.g * count l) (count l) (omega (arith, word_room (in_loop d), front_long l.loop-g.invariant.3)) ∙ sym k
+    lent_length l.loop-g.words (l.loop-g.g * count l) (count l) (omega (arith, word_room (in_loop d), front_long l.loop-g.invariant.3)) ∙ sym k
 
 overflow_add-g : tie.Need-overflow_add-g invariant-loop-g decreases-loop-g
 overflow_add-g c = search rules

@@ -52,7 +52,7 @@ part_is c =
     let d = (group c).deal-fault in
     let s = start (group c) in
     let a = s.args in
-    own_words a.plan s.requires.0.0 a.group.now d.last.1.1.0 _ s.requires.0.2 (d.ensures.words c.if-fault-ne0.false)
+    own_words a.plan s.requires.0.0 a.group.now d.new.row _ s.requires.0.2 (d.ensures.words c.if-fault-ne0.false)
     c.lead-first.result a.count c.lead-first.ensures s.requires.0.1
 
 words_low_in : (c : Led) (i : ℕ) → i < length (part c) → get_or (part c) i 0 < 2 ^ 24

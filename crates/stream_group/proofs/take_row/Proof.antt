@@ -40,14 +40,14 @@ place_from-requires : tie.Need-place_from-requires
 place_from-requires c κs =
     let s = c.before.before.before.before.before.before.before.before.before.before.before in
     let e = c.before.before.before.before.before in
-    let k = ran_bad _ _ _ _ s.requires.0.2 _ _ _ _ _ e.on_Row.ensures.0 c.if-pass-ne0.true in
+    let k = ran_bad _ _ _ _ s.requires.0.2 _ _ _ _ _ e.on_row-pass.ensures.0 c.if-pass-ne0.true in
     (s.requires.0.0, k.bad_low, at_low _ s.requires.0.0 s.args.index s.requires.1.2)
 
 place_from-requires-then-pass-ne0 : tie.Need-place_from-requires-then-pass-ne0
 place_from-requires-then-pass-ne0 c κs =
     let s = c.before.before.before.before.before.before.before.before.before.before.before.before in
     let e = c.before.before.before.before.before.before in
-    let k = ran_bad _ _ _ _ s.requires.0.2 _ _ _ _ _ e.on_Row.ensures.0 c.if-pass-ne0.true in
+    let k = ran_bad _ _ _ _ s.requires.0.2 _ _ _ _ _ e.on_row-pass.ensures.0 c.if-pass-ne0.true in
     (s.requires.0.0, k.since_low, at_low _ s.requires.0.0 s.args.index s.requires.1.2)
 
 stops-requires : tie.Need-stops-requires
@@ -60,7 +60,7 @@ returns-then-pass-ne0 : tie.Need-returns-then-pass-ne0
 returns-then-pass-ne0 c =
     let s = c.before.before.before.before.before.before.before.before.before.before.before.before.before.before in
     let e = c.before.before.before.before.before.before.before.before in
-    let k = ran_bad _ _ _ _ s.requires.0.2 _ _ _ _ _ e.on_Row.ensures.0 c.if-pass-ne0.true in
+    let k = ran_bad _ _ _ _ s.requires.0.2 _ _ _ _ _ e.on_row-pass.ensures.0 c.if-pass-ne0.true in
     took_stops 13 c.place_from.result c.place_from-then-pass-ne0.result c.stops.ensures (λ (z : 13 ≡ 0). omega arith)
     (row_bad _ _ _ _ _ _ _ k.is ∙ ap₂ (λ (a b : ℕ). stops 13 a b) (sym c.place_from.ensures) (sym c.place_from-then-pass-ne0.ensures))
 
@@ -93,8 +93,8 @@ stored_of-requires c κs =
     let a = s.args in
     let h = s.requires.0.0 in
     let n = ap (λ (n : ℕ). a.index * 2048 + n) c.lead.ensures in
-    let w = watched_from a.plan a.kinds a.index a.row.now a.table-1.now n c.watch_row-shown.ensures in
-    let ok = shown_ok a.plan h a.index s.requires.1.2 a.kinds a.row.now a.table-1.now s.requires.0.2 s.requires.1.0 s.requires.1.1 in
+    let w = watched_from a.plan a.kinds a.index a.row.now a.table.now n c.watch_row-shown.ensures in
+    let ok = shown_ok a.plan h a.index s.requires.1.2 a.kinds a.row.now a.table.now s.requires.0.2 s.requires.1.0 s.requires.1.1 in
     let k = shown_in a.plan h a.index s.requires.1.2 c.watch_row-shown.result (rw w.0 at ok) c.if-shown-ne0.true in
     (h, k.0, k.1, k.2)
 
@@ -111,16 +111,16 @@ returns-then-shown-ne0 : tie.Need-returns-then-shown-ne0
 returns-then-shown-ne0 c =
     let s = c.before.before.before.before.before.before.before.before.before.before.before.before.before.before.before.before.before.before.before in
     let a = s.args in
-    let k = ran_on _ _ _ _ s.requires.0.2 _ _ _ _ _ c.on_Row.ensures.0 c.if-pass-ne0.false in
+    let k = ran_on _ _ _ _ s.requires.0.2 _ _ _ _ _ c.on_row-pass.ensures.0 c.if-pass-ne0.false in
     let n = ap (λ (n : ℕ). a.index * 2048 + n) c.lead.ensures in
-    let w = watched_from a.plan a.kinds a.index a.row.now a.table-1.now n c.watch_row-shown.ensures in
+    let w = watched_from a.plan a.kinds a.index a.row.now a.table.now n c.watch_row-shown.ensures in
     took_stops 15 c.Stored-of.result 0 c.stops-then-shown-ne0.ensures (λ (z : 15 ≡ 0). omega arith)
     (row_shown _ _ _ _ _ k.items _ _ _ k.is w.0 c.if-shown-ne0.true ∙ ap (λ (q : ℕ). stops 15 q 0) (sym c.Stored-of.ensures))
 
 place_from-requires-2 : tie.Need-place_from-requires-2
 place_from-requires-2 c κs =
     let s = c.before.before.before.before.before.before.before.before.before.before.before.before.before.before.before.before.before.before.before in
-    let k = ran_on _ _ _ _ s.requires.0.2 _ _ _ _ _ c.on_Row.ensures.0 c.if-pass-ne0.false in
+    let k = ran_on _ _ _ _ s.requires.0.2 _ _ _ _ _ c.on_row-pass.ensures.0 c.if-pass-ne0.false in
     (s.requires.0.0, k.since_low, at_low _ s.requires.0.0 s.args.index s.requires.1.2)
 
 shape_of-table : tie.Need-shape_of-table
@@ -133,9 +133,9 @@ returns : tie.Need-returns
 returns c =
     let s = c.before.before.before.before.before.before.before.before.before.before.before.before.before.before.before.before.before.before.before.before in
     let a = s.args in
-    let k = ran_on _ _ _ _ s.requires.0.2 _ _ _ _ _ c.on_Row.ensures.0 c.if-pass-ne0.false in
+    let k = ran_on _ _ _ _ s.requires.0.2 _ _ _ _ _ c.on_row-pass.ensures.0 c.if-pass-ne0.false in
     let n = ap (λ (n : ℕ). a.index * 2048 + n) c.lead.ensures in
-    let w = watched_from a.plan a.kinds a.index a.row.now a.table-1.now n c.watch_row-shown.ensures in
+    let w = watched_from a.plan a.kinds a.index a.row.now a.table.now n c.watch_row-shown.ensures in
     record {
       went = λ z. record {
         items = k.items;
