@@ -9,7 +9,6 @@ use Rattle.format.specs.Bits.{bytes_bits}
 use Rattle.format.specs.Log.{Next, next_at}
 use Rattle.format.specs.declared.Item.{Item}
 use Rattle.log_read.proofs.Parsing.{Follows, follows, found_end, found_wrong}
-use Rattle.log_rules.specs.Laws.Tests.{not_true, not_false}
 use Rattle.log_check.specs.Role.{passes_by, role_of}
 use Rattle.log_check.proofs.Judging.{Judging, judging_start, judging_more, judging_breaks, judging_over, judging_never}
 use Rattle.log_check.proofs.judge.Statement.{statement}
@@ -36,7 +35,7 @@ abbrev Turn : Type 0
 Turn = tie.After-passes invariant-loop-item decreases-loop-item
 
 abbrev at_turn : Turn → Loop
-at_turn c = c.before.before.before.before.before.before
+at_turn c = c.before.before.before.before
 
 abbrev the_item : Turn → Item
 the_item c = c.in-Has.item
@@ -46,9 +45,9 @@ behind c = c.in-Has.next.at
 
 here : (c : Turn) → Follows (the_log (at_turn c)) (at_turn c).loop-item.at.at (the_item c) (behind c)
 here c =
-    let i = c.item-1.given in
-    follows (the_log (at_turn c)) (at_turn c).loop-item.at.at c.item.result i.0.0 i.0.1.0
-    c.item.ensures i.1
+    let i = c.in-Has in
+    follows (the_log (at_turn c)) (at_turn c).loop-item.at.at c.item.result i.item i.next
+    c.item.ensures i.is
 
 judged : (c : Turn) → passes_by (at_turn c).loop-item.seen (role_of (the_item c)) ≡ c.passes.result
 judged c = ap (passes_by (at_turn c).loop-item.seen) (sym c.role_of-role.ensures) ∙ sym c.passes.ensures
@@ -77,7 +76,7 @@ answer-requires c κs = search rules
 returns-then-not-passes : tie.Need-returns-then-not-passes invariant-loop-item decreases-loop-item
 returns-then-not-passes c =
     let t : Turn = c.before.before in
-    rw (judging_breaks (the_item t) (behind t) (at_turn t).loop-item.invariant (here t) (judged t ∙ not_true t.passes.result c.if-not-passes.true))
+    rw (judging_breaks (the_item t) (behind t) (at_turn t).loop-item.invariant (here t) (judged t ∙ c.if-not-passes.true))
     c.answer.ensures
 
 after-seen-requires : tie.Need-after-seen-requires invariant-loop-item decreases-loop-item
@@ -90,7 +89,7 @@ loop-item-preserved : tie.Need-loop-item-preserved invariant-loop-item decreases
 loop-item-preserved c =
     let t : Turn = c.before.before in
     rw (c.after-seen.ensures, t.role_of-role.ensures)
-    (judging_more (the_item t) (behind t) (at_turn t).loop-item.invariant (here t) (judged t ∙ not_false t.passes.result c.if-not-passes.false))
+    (judging_more (the_item t) (behind t) (at_turn t).loop-item.invariant (here t) (judged t ∙ c.if-not-passes.false))
 
 enum_told-1 : tie.Need-enum_told-1 invariant-loop-item decreases-loop-item
 enum_told-1 c = search rules

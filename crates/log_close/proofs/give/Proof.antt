@@ -48,9 +48,9 @@ returns-then-out-bytes c =
 
 copy-requires : tie.Need-copy-requires
 copy-requires c κs =
-    let f = c.before.before in
+    let f = c.before in
     let e = f.before in
-    (f.if-out-bytes.false, omega (arith, room e, e.built-1.given))
+    (f.if-out-bytes.false, omega (arith, room e))
 
 shape_of-built : tie.Need-shape_of-built
 shape_of-built c = search rules
@@ -61,7 +61,7 @@ shape_of-out c = search rules
 returns : tie.Need-returns
 returns c =
     let y = c.before.before in
-    let f = y.before.before.before in
+    let f = y.before.before in
     let e = f.before in
     let ended = (close e.before).close-bytes.ensures in
     λ is w. give_all is _ _ w _ ended.0 _ _ _ ended.1 e.if-bytes-gt32768.false f.if-out-bytes.false (room e) y.copy.ensures

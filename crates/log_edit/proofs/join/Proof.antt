@@ -35,7 +35,7 @@ returns-in-All c = c.join_second.ensures
 
 returns-in-Fault : tie.Need-returns-in-Fault
 returns-in-Fault c = let a = c.args in
-    join_first a.first.now a.second.now _ _ _ a.out-1.now (bad a.first.now _ _ _ c.pass.ensures
+    join_first a.first.now a.second.now _ _ _ a.out.now (bad a.first.now _ _ _ c.pass.ensures
     c.in-Fault.is) c.refusal.ensures
 
 pub join_spec : {M : Type 1} → statement M

@@ -18,7 +18,7 @@ refusal-requires : tie.Need-refusal-requires
 refusal-requires c κs = search rules
 
 returns-then-bytes-gt32768 : tie.Need-returns-then-bytes-gt32768
-returns-then-bytes-gt32768 c = let a = c.args in joins_beyond a.first.now a.second.now a.one a.two _ a.out-1.now _ refl
+returns-then-bytes-gt32768 c = let a = c.args in joins_beyond a.first.now a.second.now a.one a.two _ a.out.now _ refl
     c.if-bytes-gt32768.true c.refusal.ensures
 
 refusal-requires-then-out-bytes : tie.Need-refusal-requires-then-out-bytes
@@ -26,7 +26,7 @@ refusal-requires-then-out-bytes c κs = search rules
 
 returns-then-out-bytes : tie.Need-returns-then-out-bytes
 returns-then-out-bytes c = let a = c.args in joins_short a.first.now a.second.now a.one a.two _
-    a.out-1.now _ refl c.if-bytes-gt32768.false c.if-out-bytes.true c.refusal-then-out-bytes.ensures
+    a.out.now _ refl c.if-bytes-gt32768.false c.if-out-bytes.true c.refusal-then-out-bytes.ensures
 
 put_both-requires : tie.Need-put_both-requires
 put_both-requires c κs = search rules
@@ -36,7 +36,7 @@ shape_of-out c = search rules
 
 returns : tie.Need-returns
 returns c = let a = c.args in joins_all a.first.now a.second.now a.one
-    a.two _ a.out-1.now _ refl c.if-bytes-gt32768.false c.if-out-bytes.false
+    a.two _ a.out.now _ refl c.if-bytes-gt32768.false c.if-out-bytes.false
     c.put_both.ensures
 
 pub join_good_spec : {M : Type 1} → statement M

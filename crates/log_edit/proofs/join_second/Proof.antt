@@ -37,13 +37,13 @@ shape_of-out c = search rules
 
 returns-in-All : tie.Need-returns-in-All
 returns-in-All c = let a = c.args in
-    join_good a.first.now a.second.now _ _ _ a.out-1.now _
+    join_good a.first.now a.second.now _ _ _ a.out.now _
     c.requires (second_good c.before.before.before)
     c.join_good.ensures
 
 returns-in-Fault : tie.Need-returns-in-Fault
 returns-in-Fault c = let a = c.args in
-    join_second a.first.now a.second.now _ _ _ _ a.out-1.now c.requires (bad
+    join_second a.first.now a.second.now _ _ _ _ a.out.now c.requires (bad
     a.second.now _ _ _ c.pass.ensures c.in-Fault.is) c.refusal.ensures
 
 pub join_second_spec : {M : Type 1} → statement M

@@ -31,7 +31,7 @@ returns c = let a = c.args in
     let row = picks_of a.buses (parsed on_no_plan a.log.now) in
     let t = told_stands (parsed on_no_plan a.log.now) a.buses (length a.log.now * 8) _ _
     c.put_items-put.ensures in
-    rw (picked_is a.log.now a.buses (length a.out-1.now)) (c.finish.ensures row (length a.log.now * 8) t)
+    rw (picked_is a.log.now a.buses (length a.out.now)) (c.finish.ensures row (length a.log.now * 8) t)
 
 pub pick_in_spec : {M : Type 1} → statement M
 pick_in_spec = tie.close (tie.spec put_items-put-requires finish-requires shape_of-out shape_of-built returns)

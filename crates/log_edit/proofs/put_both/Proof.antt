@@ -76,7 +76,7 @@ placed_here : (c : tie.After-put_later-last)
 placed_here c =
     let a = c.args in
     let q = c.requires in
-    placed a.first.now a.second.now a.out-1.now _ _ (whole_of c) _ _ _ _ c.copy.ensures (omega (arith, q.0))
+    placed a.first.now a.second.now a.out.now _ _ (whole_of c) _ _ _ _ c.copy.ensures (omega (arith, q.0))
     (omega (arith, q.1, q.3)) refl c.put_later-last.ensures
 
 both_here : (c : tie.After-put_later-last)

@@ -64,17 +64,17 @@ shape_of-built-then-not-in_time c = c.loop-item.invariant.1
 returns-then-not-in_time : tie.Need-returns-then-not-in_time invariant-loop-item decreases-loop-item
 returns-then-not-in_time c =
     let o = c.loop-item in
-    let i = c.item-1.given in
+    let i = c.in-Item in
     let h = holds c.args.log.now o.at
-    c.piece_at.result i.0.0 c.piece_at.ensures i.1 in
-    rw (walk_late o.invariant.2.walk h (sym c.in_time.ensures ∙ not_true _ c.if-not-in_time.true)) refl
+    c.piece_at.result i.item c.piece_at.ensures i.is in
+    rw (walk_late o.invariant.2.walk h (sym c.in_time.ensures ∙ c.if-not-in_time.true)) refl
 
 moved_tag-time-requires : tie.Need-moved_tag-time-requires invariant-loop-item decreases-loop-item
 moved_tag-time-requires c κs =
     let o = c.loop-item in
-    let i = c.item-1.given in
+    let i = c.in-Item in
     let h = holds c.args.log.now o.at
-    c.piece_at.result i.0.0 c.piece_at.ensures i.1 in (
+    c.piece_at.result i.item c.piece_at.ensures i.is in (
       rw (to_z-of_z c.ranges.by)
           c.requires.0,
       holds_fits h,
@@ -89,13 +89,13 @@ shape_of-built-then-time-ge42949672960000 c = c.loop-item.invariant.1
 returns-then-time-ge42949672960000 : tie.Need-returns-then-time-ge42949672960000 invariant-loop-item decreases-loop-item
 returns-then-time-ge42949672960000 c =
     let o = c.loop-item in
-    let i = c.item-1.given in
+    let i = c.in-Item in
     let h = holds c.args.log.now o.at
-    c.piece_at.result i.0.0
-    c.piece_at.ensures i.1 in
-    let t = sym c.in_time.ensures ∙ not_false _ c.if-not-in_time.false in
+    c.piece_at.result i.item
+    c.piece_at.ensures i.is in
+    let t = sym c.in_time.ensures ∙ c.if-not-in_time.false in
     let f = cannot_move _ h _ c.moved_tag-time.ensures c.if-time-ge42949672960000.true in
-    rw c.judged.ensures (rw (to_z-of_z c.ranges.by) at (moving-fails o.invariant.2 h t o.built-1 f))
+    rw c.judged.ensures (rw (to_z-of_z c.ranges.by) at (moving-fails o.invariant.2 h t o.built f))
 
 with_time-requires : tie.Need-with_time-requires invariant-loop-item decreases-loop-item
 with_time-requires c κs = omega (arith, c.if-time-ge42949672960000.false)
@@ -103,18 +103,18 @@ with_time-requires c κs = omega (arith, c.if-time-ge42949672960000.false)
 put_packed-to-requires : tie.Need-put_packed-to-requires invariant-loop-item decreases-loop-item
 put_packed-to-requires c κs =
     let o = c.loop-item in
-    let i = c.item-1.given in
+    let i = c.in-Item in
     let h = holds c.args.log.now
-    o.at c.piece_at.result i.0.0
-    c.piece_at.ensures i.1 in
+    o.at c.piece_at.result i.item
+    c.piece_at.ensures i.is in
     moving_room o.invariant.2 h _ _ _ c.with_time.ensures c.if-time-ge42949672960000.false (omega (arith, o.invariant.1, o.invariant.3))
 
 overflow_add-at : tie.Need-overflow_add-at invariant-loop-item decreases-loop-item
 overflow_add-at c =
     let o = c.loop-item in
-    let i = c.item-1.given in
-    let a = c.before.before.before.before.before.before.before.before.before.before.before in
-    let h = holds a.args.log.now o.at a.piece_at.result i.0.0 a.piece_at.ensures i.1 in
+    let i = c.in-Item in
+    let a = c in
+    let h = holds a.args.log.now o.at a.piece_at.result i.item a.piece_at.ensures i.is in
     omega (arith, h.says.first_few, h.says.behind_few)
 
 overflow_cast-at : tie.Need-overflow_cast-at invariant-loop-item decreases-loop-item
@@ -123,9 +123,9 @@ overflow_cast-at c = search rules
 overflow_add-at-in-Item : tie.Need-overflow_add-at-in-Item invariant-loop-item decreases-loop-item
 overflow_add-at-in-Item c =
     let o = c.loop-item in
-    let i = c.item-1.given in
-    let a = c.before.before.before.before.before.before.before.before.before.before.before in
-    let h = holds a.args.log.now o.at a.piece_at.result i.0.0 a.piece_at.ensures i.1 in
+    let i = c.in-Item in
+    let a = c in
+    let h = holds a.args.log.now o.at a.piece_at.result i.item a.piece_at.ensures i.is in
     omega (arith, o.invariant.0, next_fits o.invariant.2.walk h)
 
 -- the item that was found, and what is put with it
@@ -144,8 +144,7 @@ moved_here : (c : tie.After-put_data-arg-1 invariant-loop-item decreases-loop-it
     c.put_packed-to.result
 moved_here c =
     let h = item_here c in
-    let t = sym c.in_time.ensures ∙ not_false _
-    c.if-not-in_time.false in
+    let t = sym c.in_time.ensures ∙ c.if-not-in_time.false in
     let e = c.moved_tag-time.ensures in
     let m = moved_is _ h _ e _ c.if-time-ge42949672960000.false c.with_time.ensures in
     let l = moved_size _ c.in-Item.item _

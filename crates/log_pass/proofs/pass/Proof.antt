@@ -50,7 +50,7 @@ in_time-requires : tie.Need-in_time-requires invariant-loop-item decreases-loop-
 in_time-requires c κs = search rules
 
 returns-then-not-in_time : tie.Need-returns-then-not-in_time invariant-loop-item decreases-loop-item
-returns-then-not-in_time c = pass_late c.pass_run-at.ensures.1 (late_here c) (sym c.in_time.ensures ∙ not_true _ c.if-not-in_time.true)
+returns-then-not-in_time c = pass_late c.pass_run-at.ensures.1 (late_here c) (sym c.in_time.ensures ∙ c.if-not-in_time.true)
 
 overflow_add-from : tie.Need-overflow_add-from invariant-loop-item decreases-loop-item
 overflow_add-from c = omega (arith, (item_here c).says.first_few, (item_here c).says.behind_few)
@@ -79,8 +79,7 @@ loop-item-preserved : tie.Need-loop-item-preserved invariant-loop-item decreases
 loop-item-preserved c = (
   c.loop-item.invariant.0,
   passing_item
-      c.pass_run-at.ensures.1 (item_here c) (sym c.in_time.ensures ∙ not_false _
-      c.if-not-in_time.false),
+      c.pass_run-at.ensures.1 (item_here c) (sym c.in_time.ensures ∙ c.if-not-in_time.false),
 )
 
 enum_told-1 : tie.Need-enum_told-1 invariant-loop-item decreases-loop-item

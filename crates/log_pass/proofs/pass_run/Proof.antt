@@ -98,7 +98,7 @@ loop-at-preserved c = let o = c.loop-at.invariant in (
   refl,
   omega (arith, o.2),
   passing_item
-      o.3 (item_here c) (sym c.in_time.ensures ∙ not_false _ c.if-not-in_time.false),
+      o.3 (item_here c) (sym c.in_time.ensures ∙ c.if-not-in_time.false),
 )
 
 returns-after-loop-at : tie.Need-returns-after-loop-at invariant-loop-at decreases-loop-at

@@ -21,7 +21,7 @@ use Rattle.log_write.proofs.Pen.start.Reads as start-reads
 
 abbrev invariant-loop-item : tie.invariant-loop-item
 invariant-loop-item log buses built₀ spot₀ built spot =
-    (length log ≤ 32768) × (length log + 8 ≤ length built₀) × (length built ≡ length built₀) × Picking log buses built spot.at spot.pen-1
+    (length log ≤ 32768) × (length log + 8 ≤ length built₀) × (length built ≡ length built₀) × Picking log buses built spot.at spot.pen
 
 abbrev decreases-loop-item : tie.decreases-loop-item
 decreases-loop-item log buses built₀ spot₀ built spot = length log * 8 - spot.at
@@ -50,7 +50,7 @@ loop-item-init c = let a = c.args in rw c.start.ensures (
   c.requires
       c.if-log-gt32768.false,
   refl,
-  picking_start a.log.now a.buses a.built-1.now c.if-log-gt32768.false,
+  picking_start a.log.now a.buses a.built.now c.if-log-gt32768.false,
 )
 
 put_run-here-requires : tie.Need-put_run-here-requires invariant-loop-item decreases-loop-item
@@ -70,7 +70,7 @@ shape_of-built-then-not-in_time c = c.built-1.given ∙ c.loop-item.invariant.2
 
 returns-then-not-in_time : tie.Need-returns-then-not-in_time invariant-loop-item decreases-loop-item
 returns-then-not-in_time c = rw (walk_late c.put_run-here.ensures.1.walk (late_here c) (sym
-    c.in_time.ensures ∙ not_true _ c.if-not-in_time.true)) refl
+    c.in_time.ensures ∙ c.if-not-in_time.true)) refl
 
 overflow_add-spot : tie.Need-overflow_add-spot invariant-loop-item decreases-loop-item
 overflow_add-spot c = let h = item_here c in omega (arith, h.says.first_few, h.says.behind_few)
@@ -93,7 +93,7 @@ loop-item-smaller c = let r = c.put_run-here.ensures in let h =
 loop-item-preserved : tie.Need-loop-item-preserved invariant-loop-item decreases-loop-item
 loop-item-preserved c = let o = c.loop-item.invariant in
     let r = c.put_run-here.ensures in
-    let t = sym c.in_time.ensures ∙ not_false _ c.if-not-in_time.false in (
+    let t = sym c.in_time.ensures ∙ c.if-not-in_time.false in (
       o.0,
       o.1,
       c.put_if.ensures.long ∙ c.built-1.given ∙ o.2,

@@ -110,7 +110,7 @@ loop-at-smaller c = let h = item_here c.before.before.before.before in omega (
 
 loop-at-preserved : tie.Need-loop-at-preserved invariant-loop-at decreases-loop-at
 loop-at-preserved c = let o = c.loop-at.invariant in
-    let t = sym c.in_time.ensures ∙ not_false _ c.if-not-in_time.false in (
+    let t = sym c.in_time.ensures ∙ c.if-not-in_time.false in (
       o.0,
       o.1,
       refl,

@@ -4,7 +4,6 @@ use mathlib.Core.Bool.{◌&&◌}
 use mathlib.Core.Path.{◌≡◌, sym, ◌∙◌}
 use lib.Dec.{leb}
 use lib.ListN.{length}
-use Rattle.log_rules.specs.Laws.Tests.{not_true, not_false}
 use Rattle.log_replay.proofs.Giving.{enough, gives_short, gives_whole}
 use borrow.Author.Rules.{rules}
 use Rattle.log_replay.proofs.give.Statement.{statement}
@@ -24,7 +23,7 @@ room : (c : tie.Else-not-fits_in) → let start = c.before.before.before.before.
 room c =
     let start = c.before.before.before.before.before.before.before.before in
     enough c.close-bytes.result (length start.args.out.now) (length start.args.built.now)
-    (judged c.before ∙ not_false c.fits_in.result c.if-not-fits_in.false)
+    (judged c.before ∙ c.if-not-fits_in.false)
     start.requires.1
 
 close-bytes-requires : tie.Need-close-bytes-requires
@@ -45,12 +44,12 @@ returns-then-not-fits_in c =
     let close = close_of fits in
     let a = close.args in
     λ s e.
-    gives_short s a.built-1.now a.level a.pen e close.close-bytes.result close.close-bytes.ensures.0 a.out-1.now _
-    (judged fits ∙ not_true fits.fits_in.result c.if-not-fits_in.true) c.deny.ensures
+    gives_short s a.built.now a.level a.pen e close.close-bytes.result close.close-bytes.ensures.0 a.out.now _
+    (judged fits ∙ c.if-not-fits_in.true) c.deny.ensures
 
 hand_over-requires : tie.Need-hand_over-requires
 hand_over-requires c κs =
-    let test = c.before.before in
+    let test = c.before in
     ((room test).0, omega (arith, c.built-1.given, (room test).1))
 
 shape_of-built : tie.Need-shape_of-built
@@ -62,13 +61,13 @@ shape_of-out c = search rules
 returns : tie.Need-returns
 returns c =
     let hand = c.before.before in
-    let test = hand.before.before.before in
+    let test = hand.before.before in
     let fits = test.before in
     let close = close_of fits in
     let a = close.args in
     λ s e.
-    gives_whole s a.built-1.now a.level a.pen e close.close-bytes.result close.close-bytes.ensures.0 a.out-1.now _ _ _
-    (judged fits ∙ not_false fits.fits_in.result test.if-not-fits_in.false) (room test).1 close.close-bytes.ensures.1 hand.hand_over.ensures
+    gives_whole s a.built.now a.level a.pen e close.close-bytes.result close.close-bytes.ensures.0 a.out.now _ _ _
+    (judged fits ∙ test.if-not-fits_in.false) (room test).1 close.close-bytes.ensures.1 hand.hand_over.ensures
 
 pub give_spec : {M : Type 1} → statement M
 give_spec =

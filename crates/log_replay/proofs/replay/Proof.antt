@@ -40,7 +40,7 @@ returns-in-Not c =
     let a = verdict.args in
     let by = refused_by a.events.now a.capacity a.slots (parsed on_no_plan a.log.now) in
     let told : by ≡ found _ _ = not_found by _ _ (sym c.in-Not.is ∙ verdict.refused_by.ensures) in
-    rw (replayed_refused a.log.now a.events.now a.capacity a.slots (length a.out-1.now) _ _ told)
+    rw (replayed_refused a.log.now a.events.now a.capacity a.slots (length a.out.now) _ _ told)
     (c.deny.ensures, refl)
 
 pub replay_spec : {M : Type 1} → statement M

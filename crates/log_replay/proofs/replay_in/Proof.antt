@@ -27,7 +27,7 @@ returns c =
     let run = give.before.before.before.before.before in
     let start = run.before.before.before.before.before.before in
     let a = start.args in
-    rw (replayed_ready a.log.now a.events.now a.capacity a.slots (length a.out-1.now) start.requires.0)
+    rw (replayed_ready a.log.now a.events.now a.capacity a.slots (length a.out.now) start.requires.0)
     (give.give.ensures (replay a.capacity a.slots a.events.now (items_of (parsed on_no_plan a.log.now)) empty_buffer) run.run-state.ensures.0)
 
 pub replay_in_spec : {M : Type 1} → statement M

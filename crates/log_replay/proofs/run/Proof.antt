@@ -20,7 +20,7 @@ loop-i-init : tie.Need-loop-i-init invariant-loop-i decreases-loop-i
 loop-i-init c =
     let start = c.before.before.before.before in
     let a = start.args in
-    (omega arith, refl, rw c.start-state.ensures (running_start a.log.now a.events.now a.capacity a.slots start.requires a.built-1.now))
+    (omega arith, refl, rw c.start-state.ensures (running_start a.log.now a.events.now a.capacity a.slots start.requires a.built.now))
 
 bounds-events-i : tie.Need-bounds-events-i invariant-loop-i decreases-loop-i
 bounds-events-i c = search rules

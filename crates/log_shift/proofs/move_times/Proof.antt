@@ -55,21 +55,21 @@ at c = 8 * c.loop-index.index
 within : (c : InLoop) → c.loop-index.index < length (row c.before) / 8
 within c = omega (arith, c.loop-index-test.true, c.loop-index.invariant.1)
 
-room : (c : InLoop) → at c + 8 ≤ length c.loop-index.times-1
+room : (c : InLoop) → at c + 8 ≤ length c.loop-index.times
 room c = omega (arith, within c, front_long c.loop-index.invariant.3)
 
 eight : (c : InLoop) → at c + 8 - at c ≡ 8
 eight c = omega arith
 
 abbrev old : InLoop → List ℕ
-old c = take (at c + 8 - at c) (drop (at c) c.loop-index.times-1)
+old c = take (at c + 8 - at c) (drop (at c) c.loop-index.times)
 
 old_long : (c : InLoop) → length (old c) ≡ 8
-old_long c = rw (eight c) (length-take-le 8 (drop (at c) c.loop-index.times-1) (rw length-drop (omega (arith, room c))))
+old_long c = rw (eight c) (length-take-le 8 (drop (at c) c.loop-index.times) (rw length-drop (omega (arith, room c))))
 
 -- it is moved
 abbrev in_loop : tie.After-moved_by invariant-loop-index decreases-loop-index → InLoop
-in_loop c = c.before.before.before
+in_loop c = c.before.before
 
 -- ---- the needs
 
@@ -84,10 +84,10 @@ overflow_add-end : tie.Need-overflow_add-end invariant-loop-index decreases-loop
 overflow_add-end c = search rules
 
 time_at-requires : tie.Need-time_at-requires invariant-loop-index decreases-loop-index
-time_at-requires c κs = room c.before
+time_at-requires c κs = room c
 
 moved_by-requires : tie.Need-moved_by-requires invariant-loop-index decreases-loop-index
-moved_by-requires c κs = let s = start c.before.before.before in rw (to_z-of_z s.fits.by) s.requires.0
+moved_by-requires c κs = let s = start c.before.before in rw (to_z-of_z s.ranges.by) s.requires.0
 
 slice_bounds-put_times-end : tie.Need-slice_bounds-put_times-end invariant-loop-index decreases-loop-index
 slice_bounds-put_times-end c = search rules
@@ -122,7 +122,7 @@ loop-index-preserved c =
       omega arith,
       o.invariant.1,
       o.invariant.2,
-      row_more (by l) (row l) o.times-1 _ o.index (at i + 8 - at i) _ o.invariant.2 o.invariant.3 (within i) (eight i) time bytes,
+      row_more (by l) (row l) o.times _ o.index (at i + 8 - at i) _ o.invariant.2 o.invariant.3 (within i) (eight i) time bytes,
     )
 
 shape_of-times : tie.Need-shape_of-times invariant-loop-index decreases-loop-index

@@ -49,7 +49,7 @@ returns : tie.Need-returns
 returns c = let a = c.args in
     let s = rw (to_z-of_z c.ranges.by) at c.put_moved-put.ensures in
     let f = rw (to_z-of_z c.ranges.by) at c.shift_put.ensures in
-    rw (within_limits a.log.now (times_from a.times-1.now) a.by (length a.out-1.now)
+    rw (within_limits a.log.now (times_from a.times.now) a.by (length a.out.now)
     c.requires.0)
     (f (moved_row a.by (parsed on_no_plan a.log.now)) (length a.log.now * 8) s)
 

@@ -12,11 +12,11 @@ use Rattle.log_shift.proofs.shift_put.Lts as lts
 use Rattle.log_close.proofs.refusal.Reads as refusal-reads
 use Rattle.log_shift.proofs.shift_row.Reads as shift-row-reads
 
-abbrev all : tie.After-shift_row-arg-in-All-2-1 → tie.In-All-2
-all c = c.before.before.before.before
+abbrev all : tie.After-shift_row-arg-in-All-2-1 → tie.In-All
+all c = c.before.before.before
 
-abbrev start : tie.In-All-2 → tie.Start
-start c = c.before.before.before.before.before
+abbrev start : tie.In-All → tie.Start
+start c = c.before.before.before.before
 
 enum_known-put : tie.Need-enum_known-put
 enum_known-put c = search rules
@@ -24,7 +24,7 @@ enum_known-put c = search rules
 shift_row-requires : tie.Need-shift_row-requires
 shift_row-requires c κs =
     let s = start (all c) in
-    (rw (to_z-of_z s.fits.by) s.requires.0, subst (λ (q : Put). Finishable q (length s.args.built.now)) (all c).in-All.is s.requires.1)
+    (rw (to_z-of_z s.ranges.by) s.requires.0, subst (λ (q : Put). Finishable q (length s.args.built.now)) (all c).in-All.is s.requires.1)
 
 enum_known-put-in-Fault-1 : tie.Need-enum_known-put-in-Fault-1
 enum_known-put-in-Fault-1 c = search rules
@@ -45,7 +45,7 @@ returns-in-All : tie.Need-returns-in-All
 returns-in-All c =
     let r = c.before.before.before.before.before.before in
     let p = all r.before in
-    let shifts = rw (to_z-of_z (start p).fits.by) at r.shift_row.ensures in
+    let shifts = rw (to_z-of_z (start p).ranges.by) at r.shift_row.ensures in
     λ row most stands. put_all (start p).args.by row most _ _ _ _ _ _ _ _ _ stands p.in-All.is shifts
 
 returns-in-Fault : tie.Need-returns-in-Fault

@@ -29,7 +29,7 @@ abbrev Looked : Type 0
 Looked = tie.After-first_unmovable-late
 
 abbrev start : Looked → tie.Start
-start c = c.before.before.before.before.before
+start c = c.before.before.before.before
 
 abbrev by : Looked → ℤ
 by c = (start c).args.by
@@ -67,12 +67,12 @@ room c = let k = c.before in (rw (← (close k).close-bytes.ensures.0) at (start
 
 -- it is copied
 abbrev fits_out : tie.After-copy → tie.Else-out-bytes
-fits_out c = c.before.before.before
+fits_out c = c.before.before
 
 -- ---- the needs
 
 first_unmovable-late-requires : tie.Need-first_unmovable-late-requires
-first_unmovable-late-requires c κs = let s = c.before.before.before.before in rw (to_z-of_z s.ranges.by) s.requires.0
+first_unmovable-late-requires c κs = let s = c.before.before.before in rw (to_z-of_z s.ranges.by) s.requires.0
 
 refusal-requires : tie.Need-refusal-requires
 refusal-requires c κs = search rules
@@ -123,14 +123,14 @@ returns-then-out-bytes c =
 
 copy-requires : tie.Need-copy-requires
 copy-requires c κs =
-    let e = c.before.before in
+    let e = c.before in
     (e.if-out-bytes.false, omega (arith, room e.before, e.built-1.given))
 
 move_times-requires : tie.Need-move_times-requires
 move_times-requires c κs =
     let k = (fits_out c.before.before.before).before.before in
     let s = start (looked k) in
-    (rw (to_z-of_z s.fits.by) s.requires.0, rw (to_z-of_z s.fits.by) (clear (movable k)).1)
+    (rw (to_z-of_z s.ranges.by) s.requires.0, rw (to_z-of_z s.ranges.by) (clear (movable k)).1)
 
 shape_of-times : tie.Need-shape_of-times
 shape_of-times c = search rules
@@ -150,7 +150,7 @@ returns c =
     let k = e.before in
     let l = looked k in
     let ended = (close k).close-bytes.ensures in
-    let moved = rw (to_z-of_z (start l).fits.by) at m.move_times.ensures in
+    let moved = rw (to_z-of_z (start l).ranges.by) at m.move_times.ensures in
     λ is w.
     row_all (by l) is _ _ w (times l) (clear (movable k)).0 _ ended.0 _ _ _ _ _ ended.1 e.if-bytes-gt32768.false f.if-out-bytes.false (room e) y.copy.ensures refl moved
 

@@ -1,5 +1,4 @@
 use Rattle.log_store.proofs.Putting.{item_few, puts_none, puts_one, puts_marked}
-use Rattle.log_rules.specs.Laws.Tests.{not_true, not_false}
 use borrow.Author.Tests.{eq-eqb, ne_eqb}
 use native.Mathlib.Omega.{arith}
 use borrow.Author.Rules.{rules}
@@ -9,7 +8,7 @@ use Rattle.log_store.proofs.put.Tie as tie
 returns-then-not-stored : tie.Need-returns-then-not-stored
 returns-then-not-stored c =
     let a = c.args in
-    puts_none a.level a.item a.built-1.now a.pen a.stored (not_true a.stored c.if-not-stored.true)
+    puts_none a.level a.item a.built.now a.pen a.stored (c.if-not-stored.true)
 
 put_item-requires : tie.Need-put_item-requires
 put_item-requires c κs = search rules
@@ -22,7 +21,7 @@ returns-then-level-eq0 c =
     let put = c.before.before in
     let test = put.before.before in
     let a = test.args in
-    puts_one a.level a.item a.built-1.now a.pen a.stored _ _ (not_false a.stored test.if-not-stored.false)
+    puts_one a.level a.item a.built.now a.pen a.stored _ _ (test.if-not-stored.false)
     (eq-eqb a.level.unmarked 0 test.if-level-eq0.true) put.put_item.ensures
 
 mark-first-requires : tie.Need-mark-first-requires
@@ -47,8 +46,8 @@ returns c =
     let mark = first.before.before in
     let test = mark.before in
     let a = test.args in
-    puts_marked a.level a.item a.built-1.now a.pen a.stored mark.mark-first.result _ _ first.put_item-marked.result _
-    (not_false a.stored test.if-not-stored.false) (ne_eqb a.level.unmarked 0 test.if-level-eq0.false) mark.mark-first.ensures
+    puts_marked a.level a.item a.built.now a.pen a.stored mark.mark-first.result _ _ first.put_item-marked.result _
+    (test.if-not-stored.false) (ne_eqb a.level.unmarked 0 test.if-level-eq0.false) mark.mark-first.ensures
     first.put_item-marked.ensures put.put_item-2.ensures
 
 pub put_spec : {M : Type 1} → statement M

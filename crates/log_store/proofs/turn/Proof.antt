@@ -9,9 +9,6 @@ use borrow.Author.Rules.{rules}
 use Rattle.log_store.proofs.turn.Statement.{statement}
 use Rattle.log_store.proofs.turn.Tie as tie
 
-abbrev entry : tie.Then-event-ne0 → tie.Start
-entry c = c.before.before.before.before.before.before
-
 -- no item has more than five words
 few : (c : tie.After-load_of-load) → c.load_of-load.result.words ≤ 5
 few c = rw c.load_of-load.ensures (load_few c.in-Has.item)
@@ -21,8 +18,8 @@ left-requires c κs = search rules
 
 returns-then-event-ne0 : tie.Need-returns-then-event-ne0
 returns-then-event-ne0 c =
-    let a = (entry c.before).args in
-    turns_left a.log.now a.event a.capacity a.slots a.built-1.now a.state c.left.result c.if-event-ne0.true c.left.ensures
+    let a = c.args in
+    turns_left a.log.now a.event a.capacity a.slots a.built.now a.state c.left.result c.if-event-ne0.true c.left.ensures
 
 item-requires : tie.Need-item-requires
 item-requires c κs = search rules
@@ -53,32 +50,26 @@ shape_of-built c = search rules
 
 returns-in-Has : tie.Need-returns-in-Has
 returns-in-Has c =
-    let put = c.before.before in
-    let arrived = put.before.before in
-    let fits = arrived.before in
-    let load = fits.before in
-    let found = load.before in
-    let item = found.before in
-    let a = item.args in
-    let i = found.item-1.given in
-    turns-arrived a.log.now a.event a.capacity a.slots a.built-1.now a.state i.0.0 i.0.1.0 fits.fits2.result arrived.arrived.result
-    _ put.put.result item.if-event-ne0.false
-    (follows a.log.now a.state.at-1.at-1 item.item.result i.0.0 i.0.1.0 item.item.ensures i.1).next
-    (rw (← load.load_of-load.ensures) fits.fits2.ensures) (rw (← load.load_of-load.ensures) arrived.arrived.ensures) put.put.ensures
+    let a = c.args in
+    let i = c.in-Has in
+    turns-arrived a.log.now a.event a.capacity a.slots a.built.now a.state i.item i.next c.fits-stored.result c.arrived.result
+    _ c.put.result c.if-event-ne0.false
+    (follows a.log.now a.state.at.at c.item.result i.item i.next c.item.ensures i.is).next
+    (rw (← c.load_of-load.ensures) c.fits-stored.ensures) (rw (← c.load_of-load.ensures) c.arrived.ensures) c.put.ensures
 
 returns-in-End : tie.Need-returns-in-End
 returns-in-End c =
     let item = c.before in
     let a = item.args in
-    turns_over a.log.now a.event a.capacity a.slots a.built-1.now a.state item.if-event-ne0.false
-    (found_end (next_at (bytes_bits a.log.now) a.state.at-1.at-1) (sym item.item.ensures ∙ c.in-End.is))
+    turns_over a.log.now a.event a.capacity a.slots a.built.now a.state item.if-event-ne0.false
+    (found_end (next_at (bytes_bits a.log.now) a.state.at.at) (sym item.item.ensures ∙ c.in-End.is))
 
 returns-in-Wrong : tie.Need-returns-in-Wrong
 returns-in-Wrong c =
     let item = c.before in
     let a = item.args in
-    turns_wrong a.log.now a.event a.capacity a.slots a.built-1.now a.state item.if-event-ne0.false
-    (found_wrong (next_at (bytes_bits a.log.now) a.state.at-1.at-1) (sym item.item.ensures ∙ c.in-Wrong.is))
+    turns_wrong a.log.now a.event a.capacity a.slots a.built.now a.state item.if-event-ne0.false
+    (found_wrong (next_at (bytes_bits a.log.now) a.state.at.at) (sym item.item.ensures ∙ c.in-Wrong.is))
 
 pub turn_spec : {M : Type 1} → statement M
 turn_spec =

@@ -34,17 +34,17 @@ here c = next_at (bytes_bits (start c).args.log.now) c.loop-item.place.at
 
 -- there is an item
 abbrev Found : Type 0
-Found = tie.In-Has-2 invariant-loop-item decreases-loop-item
+Found = tie.In-Has invariant-loop-item decreases-loop-item
 
 abbrev loop : Found → AtLoop
-loop c = c.before.before.before
+loop c = c.before.before
 
 after : (c : Found) → Follows (start (loop c)).args.log.now (loop c).loop-item.place.at c.in-Has.item c.in-Has.next.at
 after c =
-    let i = c.before.before in
+    let i = c.before in
     let l = loop c in
-    let g = c.item-1.given in
-    follows (start l).args.log.now l.loop-item.place.at i.item.result g.0.0 g.0.1.0 i.item.ensures g.1
+    let g = c.in-Has in
+    follows (start l).args.log.now l.loop-item.place.at i.item.result g.item g.next i.item.ensures g.is
 
 -- ---- the needs
 
@@ -59,11 +59,11 @@ enum_known-item c = search rules
 
 item_line-at-requires : tie.Need-item_line-at-requires invariant-loop-item decreases-loop-item
 item_line-at-requires c κs =
-    let l = loop c.before.before in
+    let l = loop c.before in
     doing_room l.loop-item.invariant (start l).requires.0.2 (start l).requires.0.0
 
 loop-item-smaller : tie.Need-loop-item-smaller invariant-loop-item decreases-loop-item
-loop-item-smaller c = let f = after c.before.before.before.before.before in omega (arith, f.far, f.fits)
+loop-item-smaller c = let f = after c.before.before.before.before in omega (arith, f.far, f.fits)
 
 loop-item-preserved : tie.Need-loop-item-preserved invariant-loop-item decreases-loop-item
 loop-item-preserved c =

@@ -21,24 +21,24 @@ start c = c.before.before.before
 abbrev log : tie.After-parse-tally → List ℕ
 log c = (start c).args.log.now
 
-abbrev parse : tie.In-Items-2 → tie.After-parse-tally
-parse c = c.before.before
+abbrev parse : tie.In-Items → tie.After-parse-tally
+parse c = c.before
 
-abbrev found : tie.In-Items-2 → List Item
+abbrev found : tie.In-Items → List Item
 found c = items_of (parsed on_no_plan (log (parse c)))
 
-abbrev tally : tie.After-lines-at → tie.In-Items-2
-tally c = c.before.before.before
+abbrev tally : tie.After-lines-at → tie.In-Items
+tally c = c.before.before
 
 -- ---- what was found, and that it is short
 
-parses : (c : tie.In-Items-2) → (parsed on_no_plan (log (parse c)) ≡ items (found c)) × (c.in-Items.items ≡ length (found c))
+parses : (c : tie.In-Items) → (parsed on_no_plan (log (parse c)) ≡ items (found c)) × (c.in-Items.items ≡ length (found c))
 parses c =
     let p = parse c in
-    let g = c.tally-1.given in
-    tallied (log p) p.parse-tally.result g.0.0 g.0.1.0 p.parse-tally.ensures g.1
+    let g = c.in-Items in
+    tallied (log p) p.parse-tally.result g.items g.words p.parse-tally.ensures g.is
 
-sizes : (c : tie.In-Items-2) → (length (log (parse c)) ≤ 32768) × (length (flat_map item_line (found c)) ≤ 262144)
+sizes : (c : tie.In-Items) → (length (log (parse c)) ≤ 32768) × (length (flat_map item_line (found c)) ≤ 262144)
 sizes c = good (log (parse c)) (found c) (λ i. omega (arith, (parse c).shared_slice_known-1.given i)) (parses c).0
 
 -- ---- the needs
@@ -83,8 +83,8 @@ returns-in-Fault c =
     let e = c.before.before in
     let t = e.before.before in
     let p = t.before in
-    let g = t.in-Fault, .parse-tally.given in
-    adds_same e.refused_line.ensures (listing_refused (log p) _ _ (refused (log p) p.parse-tally.result g.0.0 g.0.1.0 p.parse-tally.ensures g.1))
+    let g = t.in-Fault in
+    adds_same e.refused_line.ensures (listing_refused (log p) _ _ (refused (log p) p.parse-tally.result g.number g.place p.parse-tally.ensures g.is))
 
 pub list_spec : {M : Type 1} → statement M
 list_spec =

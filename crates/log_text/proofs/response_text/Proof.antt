@@ -10,23 +10,23 @@ use Rattle.log_text.proofs.response_text.Tie as tie
 
 -- ---- the places: there is a response, and behind the calls
 
-abbrev start : tie.In-After-2 → tie.Start
-start c = c.before.before.before
+abbrev start : tie.In-After → tie.Start
+start c = c.before.before
 
-abbrev response : tie.After-four-n1 → tie.In-After-2
-response c = c.before.before.before
+abbrev response : tie.After-four-n1 → tie.In-After
+response c = c.before.before
 
 abbrev first : tie.After-two-n2 → tie.After-four-n1
 first c = c.before.before.before.before
 
 -- ---- the text so far, behind each call
 
-so_far_1 : (c : tie.After-four-n1) → let a = (start (response c)).args in Short (text " res") a.out-1.now a.at c.four-n1.new.out c.four-n1.result 4
+so_far_1 : (c : tie.After-four-n1) → let a = (start (response c)).args in Short (text " res") a.out.now a.at c.four-n1.new.out c.four-n1.result 4
 unfolding text list
 so_far_1 c = short 4 c.four-n1.ensures (omega arith)
 
 so_far_2 : (c : tie.After-two-n2) → let a = (start (response (first c))).args in
-    Short (text " resp ") a.out-1.now a.at c.two-n2.new.out c.two-n2.result 6
+    Short (text " resp ") a.out.now a.at c.two-n2.new.out c.two-n2.result 6
 unfolding text list
 so_far_2 c = short_then 2 (so_far_1 (first c)) c.two-n2.ensures (omega arith)
 

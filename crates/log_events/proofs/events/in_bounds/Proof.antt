@@ -1,4 +1,3 @@
-use Rattle.log_rules.specs.Laws.Tests.{not_true, not_false}
 use mathlib.Core.Bool.{true}
 use mathlib.Core.Path.{◌≡◌, refl, sym, ◌∙◌}
 use lib.ListN.{length}
@@ -8,13 +7,13 @@ use Rattle.log_events.proofs.events.in_bounds.Statement.{statement}
 use Rattle.log_events.proofs.events.in_bounds.Tie as tie
 
 in_limits : (c : tie.Else-not-limits) → let a = c.args in limits_by (length a.events.now) a.capacity a.slots ≡ true
-in_limits c = sym c.limits.ensures ∙ not_false c.limits.result c.if-not-limits.false
+in_limits c = sym c.limits.ensures ∙ c.if-not-limits.false
 
 limits-requires : tie.Need-limits-requires
 limits-requires c κs = search rules
 
 returns-then-not-limits : tie.Need-returns-then-not-limits
-returns-then-not-limits c = rw (sym c.limits.ensures ∙ not_true c.limits.result c.if-not-limits.true) refl
+returns-then-not-limits c = rw (sym c.limits.ensures ∙ c.if-not-limits.true) refl
 
 known-requires : tie.Need-known-requires
 known-requires c κs = search rules
@@ -22,7 +21,7 @@ known-requires c κs = search rules
 returns-then-not-known : tie.Need-returns-then-not-known
 returns-then-not-known c =
     let known = c.before in
-    rw (in_limits known.before, sym known.known.ensures ∙ not_true known.known.result c.if-not-known.true) refl
+    rw (in_limits known.before, sym known.known.ensures ∙ c.if-not-known.true) refl
 
 arriving-requires : tie.Need-arriving-requires
 arriving-requires c κs = search rules
@@ -30,7 +29,7 @@ arriving-requires c κs = search rules
 returns : tie.Need-returns
 returns c =
     let known = c.before.before in
-    rw (in_limits known.before, sym known.known.ensures ∙ not_false known.known.result c.if-not-known.false, ← c.arriving.ensures) refl
+    rw (in_limits known.before, sym known.known.ensures ∙ c.if-not-known.false, ← c.arriving.ensures) refl
 
 pub in_bounds_spec : {M : Type 1} → statement M
 in_bounds_spec =

@@ -1,4 +1,3 @@
-use Rattle.log_rules.specs.Laws.Tests.{not_true, not_false}
 use mathlib.Core.Path.{refl, sym, ◌∙◌}
 use borrow.Author.Tests.{le-leb, lt-leb}
 use borrow.Author.Rules.{rules}
@@ -14,7 +13,7 @@ within-requires c κs = search rules
 returns-then-not-within : tie.Need-returns-then-not-within
 returns-then-not-within c =
     let within = c.before in
-    rw (le-leb within.args.events 65535 within.if-events-gt65535.false, sym within.within.ensures ∙ not_true within.within.result c.if-not-within.true) refl
+    rw (le-leb within.args.events 65535 within.if-events-gt65535.false, sym within.within.ensures ∙ c.if-not-within.true) refl
 
 within-requires-2 : tie.Need-within-requires-2
 within-requires-2 c κs = search rules
@@ -22,7 +21,7 @@ within-requires-2 c κs = search rules
 returns : tie.Need-returns
 returns c =
     let within = c.before.before in
-    rw (le-leb within.args.events 65535 within.if-events-gt65535.false, sym within.within.ensures ∙ not_false within.within.result c.if-not-within.false)
+    rw (le-leb within.args.events 65535 within.if-events-gt65535.false, sym within.within.ensures ∙ c.if-not-within.false)
     c.within-2.ensures
 
 pub limits_spec : {M : Type 1} → statement M

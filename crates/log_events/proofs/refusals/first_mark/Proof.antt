@@ -35,16 +35,16 @@ abbrev Turn : Type 0
 Turn = tie.After-load_of invariant-loop-item decreases-loop-item
 
 abbrev at_turn : Turn → Loop
-at_turn c = c.before.before.before.before.before
+at_turn c = c.before.before.before
 
 abbrev the_item : Turn → Item
 the_item c = c.in-Has.item
 
 here : (c : Turn) → Follows (the_log (at_turn c)) (at_turn c).loop-item.at.at (the_item c) c.in-Has.next.at
 here c =
-    let i = c.item-1.given in
-    follows (the_log (at_turn c)) (at_turn c).loop-item.at.at c.item.result i.0.0 i.0.1.0
-    c.item.ensures i.1
+    let i = c.in-Has in
+    follows (the_log (at_turn c)) (at_turn c).loop-item.at.at c.item.result i.item i.next
+    c.item.ensures i.is
 
 seen : (c : Turn) → (load_of (the_item c)).mark ≡ c.load_of.result.mark
 seen c = ap (λ (l : Load). l.mark) (sym c.load_of.ensures)

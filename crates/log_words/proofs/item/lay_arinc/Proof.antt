@@ -36,7 +36,7 @@ returns-then-fields-eq1 c =
     let l = c.before.before in
     let f = tagged l in
     λ ks p g b.
-    let q : f.channelled-fields.result.next.at ≡ p + 43 = omega (arith, f.channelled-fields.ensures.3, g.next-1.place) in
+    let q : f.channelled-fields.result.next.at ≡ p + 43 = omega (arith, f.channelled-fields.ensures.3, g.next.place) in
     tagged_lays (pair_tagged_read g (rw f.channelled-fields.ensures.0 at l.if-fields-eq1.true)) ks _ b (length_bytes (entry f).args.log.now)
     (omega arith) (omega (arith, (entry f).requires)) l.is_arinc.ensures (pair_words (entry f).args.head.bus f.channelled-fields.ensures.0) q l.lay_pair_tagged.ensures
 

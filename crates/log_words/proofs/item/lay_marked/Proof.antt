@@ -74,7 +74,7 @@ returns-then-head-eq1 c =
     let f = read w in
     let a = entry f in
     λ ks p g b.
-    let q : f.marked-fields.result.next.at ≡ p + 26 = omega (arith, f.marked-fields.ensures.4, g.next-1.place) in
+    let q : f.marked-fields.result.next.at ≡ p + 26 = omega (arith, f.marked-fields.ensures.4, g.next.place) in
     let t = command-read g (rw f.marked-fields.ensures.0 at l.if-fields-eq1.true) a.args.head.kind l.if-head-eq1.true in
     tagged_lays t ks _ b (length_bytes a.args.log.now) (omega arith) (omega (arith, a.requires)) w.is_1553-stands.ensures (ap (λ (x : ℕ). x ∷ []) (word_is w)) q l.lay_tagged.ensures
 
@@ -96,10 +96,10 @@ returns-then-fields-eq1 c =
     let m = f.marked-fields.ensures.0 in
     let k : a.args.head.kind ≡ 2 = omega (arith, l.if-head-eq1.false, a.requires) in
     λ ks p g b.
-    let q : f.marked-fields.result.next.at + 14 ≡ p + 26 + 14 = omega (arith, f.marked-fields.ensures.4, g.next-1.place) in
+    let q : f.marked-fields.result.next.at + 14 ≡ p + 26 + 14 = omega (arith, f.marked-fields.ensures.4, g.next.place) in
     let t = timed-read g (rw m at l.if-fields-eq1.true) a.args.head.kind k in
     read_lays t ks _ b (length_bytes a.args.log.now) (omega arith) w.is_1553-stands.ensures
-    (ap (λ (x : Marked). ltb (took_of x.next-1 14).field 10000) m) (timed_words a.args.head.bus m (word_is w)) q l.lay_timed.ensures
+    (ap (λ (x : Marked). ltb (took_of x.next 14).field 10000) m) (timed_words a.args.head.bus m (word_is w)) q l.lay_timed.ensures
 
 overflow_mul-log-2 : tie.Need-overflow_mul-log-2
 overflow_mul-log-2 c = search rules

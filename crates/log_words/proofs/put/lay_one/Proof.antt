@@ -20,7 +20,7 @@ shape_of-words-then-stands c = search rules
 
 returns-then-stands : tie.Need-returns-then-stands
 returns-then-stands c =
-    laid.put-next c.if-total-at.false c.if-stands.true refl refl refl c.put-next.ensures
+    laid.put c.if-total-at.false c.if-stands.true refl refl refl c.put-next.ensures
 
 fault-requires-2 : tie.Need-fault-requires-2
 fault-requires-2 c κs = search rules

@@ -35,7 +35,7 @@ returns-then-stands : tie.Need-returns-then-stands
 returns-then-stands c =
     let t = c.before.before in
     let w = first t in
-    laid.put-next w.if-log-tag.false w.if-stands.true _ _ w.put-next.ensures t.lay_tag.ensures
+    laid.put w.if-log-tag.false w.if-stands.true _ _ w.put-next.ensures t.lay_tag.ensures
 
 fault-requires-2 : tie.Need-fault-requires-2
 fault-requires-2 c κs = search rules

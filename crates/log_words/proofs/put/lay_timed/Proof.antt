@@ -47,7 +47,7 @@ returns-then-response-lt10000 c =
     let m = timely one in
     let t = (took m).take-response in
     rw (← t.ensures.0, ← t.ensures.2, ← one.join.ensures)
-    (laid.put-first m.if-total-response.false m.if-stands.true (lt-ltb _ 10000 m.if-response-lt10000.true) refl refl
+    (laid.put m.if-total-response.false m.if-stands.true (lt-ltb _ 10000 m.if-response-lt10000.true) refl refl
     (puts_more one.put-first.ensures two.put-next.ensures (omega (arith, (took m).requires))))
 
 fault-requires-then-stands : tie.Need-fault-requires-then-stands
