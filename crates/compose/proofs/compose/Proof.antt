@@ -50,7 +50,7 @@ refusal-requires c κs = search rules
 returns-then-legal : tie.Need-returns-then-legal
 returns-then-legal c =
     let a = c.args in
-    rw (log_long a.plan a.kinds a.log.now a.times.now (length a.out-1.now) (sym c.legal.ensures ∙ c.if-legal.true) c.if-log-le32768.false) (c.refusal.ensures, refl)
+    rw (log_long a.plan a.kinds a.log.now a.times.now (length a.out.now) (sym c.legal.ensures ∙ c.if-legal.true) c.if-log-le32768.false) (c.refusal.ensures, refl)
 
 refusal-requires-2 : tie.Need-refusal-requires-2
 refusal-requires-2 c κs = search rules
@@ -58,7 +58,7 @@ refusal-requires-2 c κs = search rules
 returns : tie.Need-returns
 returns c =
     let a = c.args in
-    rw (plan_illegal a.plan a.kinds a.log.now a.times.now (length a.out-1.now) (sym c.legal.ensures ∙ c.if-legal.false)) (c.refusal-2.ensures, refl)
+    rw (plan_illegal a.plan a.kinds a.log.now a.times.now (length a.out.now) (sym c.legal.ensures ∙ c.if-legal.false)) (c.refusal-2.ensures, refl)
 
 pub compose_spec : {M : Type 1} → statement M
 compose_spec =

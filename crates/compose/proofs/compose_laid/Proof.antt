@@ -49,7 +49,7 @@ returns-then-open-ne0 c =
     let l = c.before.before.before in
     let a = (entry l).args in
     let e : l.first_open-open.result ≡ open_word a.kinds a.words.now = l.first_open-open.ensures in
-    rw (laid_open a.plan a.kinds a.times.now (length a.out-1.now) a.words.now (λ z. c.if-open-ne0.true (e ∙ z)))
+    rw (laid_open a.plan a.kinds a.times.now (length a.out.now) a.words.now (λ z. c.if-open-ne0.true (e ∙ z)))
     (c.refusal.ensures ∙ ap (λ (q : ℕ). refusal 15 q 0) (c.bits_before.ensures ∙ ap (λ (n : ℕ). bits_in a.kinds (take (n - 1) a.words.now)) e), refl)
 
 compose_words-requires : tie.Need-compose_words-requires
@@ -63,7 +63,7 @@ returns c =
     let w = c.before.before in
     let l = w.before.before.before in
     let a = (entry l).args in
-    rw (laid_answered a.plan a.kinds a.times.now (length a.out-1.now) a.words.now (sym l.first_open-open.ensures ∙ w.if-open-ne0.false))
+    rw (laid_answered a.plan a.kinds a.times.now (length a.out.now) a.words.now (sym l.first_open-open.ensures ∙ w.if-open-ne0.false))
     w.compose_words.ensures
 
 pub compose_laid_spec : {M : Type 1} → statement M

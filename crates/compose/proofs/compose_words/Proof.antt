@@ -22,7 +22,7 @@ times_needed-needed-requires c κs = search rules
 refusal-requires : tie.Need-refusal-requires
 refusal-requires c κs = search rules
 
-returns-then-times-needed : tie.Need-returns-then-times_needed
+returns-then-times-needed : tie.Need-returns-then-times-needed
 returns-then-times-needed c =
     let a = c.args in
     let q = c.requires in
@@ -31,7 +31,7 @@ returns-then-times-needed c =
     let groups : c.groups_for-groups.result ≡ groups_for a.plan (length ws) = c.groups_for-groups.ensures in
     let need : c.times_needed-needed.result ≡ cond a.plan.frame_time (groups_for a.plan (length ws)) 0 =
     c.times_needed-needed.ensures ∙ ap (λ (k : ℕ). cond a.plan.frame_time k 0) groups in
-    rw (times_wrong a.plan ts (length a.out-1.now) ws (λ z. c.if-times-needed.true (z ∙ sym need)))
+    rw (times_wrong a.plan ts (length a.out.now) ws (λ z. c.if-times-needed.true (z ∙ sym need)))
     (c.refusal.ensures ∙ ap (λ (q : ℕ). refusal 5 q 0) need, refl)
 
 first_late-late-requires : tie.Need-first_late-late-requires
@@ -51,7 +51,7 @@ returns-then-late-times c =
     c.times_needed-needed.ensures ∙ ap (λ (k : ℕ). cond a.plan.frame_time k 0) groups in
     let number = c.if-times-needed.false ∙ need in
     let late = c.first_late-late.ensures in
-    rw (time-late a.plan ts (length a.out-1.now) ws number (λ z. c.if-late-times.true (late ∙ z)))
+    rw (time-late a.plan ts (length a.out.now) ws number (λ z. c.if-late-times.true (late ∙ z)))
     (c.refusal-then-late-times.ensures ∙ ap (λ (q : ℕ). refusal 5 q 0) late, refl)
 
 group_words-requires : tie.Need-group_words-requires
@@ -87,7 +87,7 @@ returns-then-out-bytes c =
     let size = sym c.first_late-late.ensures ∙ c.if-late-times.false in
     let bytes : c.groups_for-groups.result * (3 * c.group_words.result) ≡ groups_for a.plan (length ws) * (3 * group_words a.plan) =
     ap₂ (λ (g w : ℕ). g * (3 * w)) groups c.group_words.ensures.0 in
-    rw (room-short a.plan ts (length a.out-1.now) ws number size (rw bytes at c.if-out-bytes.true))
+    rw (room-short a.plan ts (length a.out.now) ws number size (rw bytes at c.if-out-bytes.true))
     (c.refusal-then-out-bytes.ensures ∙ ap (λ (q : ℕ). refusal 6 q 0) bytes, refl)
 
 write_groups-requires : tie.Need-write_groups-requires
@@ -120,7 +120,7 @@ returns c =
     let size = sym c.first_late-late.ensures ∙ c.if-late-times.false in
     let bytes : c.groups_for-groups.result * (3 * c.group_words.result) ≡ groups_for a.plan (length ws) * (3 * group_words a.plan) =
     ap₂ (λ (g w : ℕ). g * (3 * w)) groups c.group_words.ensures.0 in
-    rw (all_made a.plan ts (length a.out-1.now) ws number size (rw bytes at c.if-out-bytes.false))
+    rw (all_made a.plan ts (length a.out.now) ws number size (rw bytes at c.if-out-bytes.false))
     (ap (λ (k : ℕ). success k 0) (bytes ∙ sym (capture_length a.plan (omega (arith, q.0.words_least)) q.0.tracks_least ts ws)), c.write_groups.ensures)
 
 pub compose_words_spec : {M : Type 1} → statement M

@@ -75,7 +75,7 @@ overflow_mul-size c = search rules
 loop-group-init : tie.Need-loop-group-init invariant-loop-group decreases-loop-group
 loop-group-init c =
     let a = c.args in
-    (omega arith, rw (groups_none a.plan a.times.now a.words.now, zero-mul (group_words a.plan)) (written_none a.out-1.now))
+    (omega arith, rw (groups_none a.plan a.times.now a.words.now, zero-mul (group_words a.plan)) (written_none a.out.now))
 
 overflow_mul-start : tie.Need-overflow_mul-start invariant-loop-group decreases-loop-group
 overflow_mul-start c = omega (arith, room c)

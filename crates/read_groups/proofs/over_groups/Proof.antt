@@ -288,7 +288,7 @@ slice_bounds-on_row-start : tie.Need-slice_bounds-on_row-start invariant-loop-g 
 slice_bounds-on_row-start c = search rules
 
 slice_bounds-on_row-end : tie.Need-slice_bounds-on_row-end invariant-loop-g decreases-loop-g
-slice_bounds-on_row-end c = part_room c.before
+slice_bounds-on_row-end c = part_room c
 
 on_row-pass-requires : tie.Need-on_row-pass-requires invariant-loop-g decreases-loop-g
 on_row-pass-requires c κs =

@@ -50,7 +50,7 @@ returns-then-not-legal c =
     let j = c.before.before in
     let a = (start j).args in
     let e = sym j.legal.ensures ∙ c.if-not-legal.true in
-    denies_by _ 1 0 _ a.log-1.now a.times-1.now a.report-1.now (not_legal a.plan a.kinds a.capture.now _ _ _ e) c.forgo.ensures
+    denies_by _ 1 0 _ a.log.now a.times.now a.report.now (not_legal a.plan a.kinds a.capture.now _ _ _ e) c.forgo.ensures
 
 forgo-requires-then-length-gt1048576 : tie.Need-forgo-requires-then-length-gt1048576
 forgo-requires-then-length-gt1048576 c κs = search rules
@@ -59,7 +59,7 @@ returns-then-length-gt1048576 : tie.Need-returns-then-length-gt1048576
 returns-then-length-gt1048576 c =
     let l = c.before.before in
     let a = (start l.before).args in
-    denies_by _ 8 (length a.capture.now) _ a.log-1.now a.times-1.now a.report-1.now
+    denies_by _ 8 (length a.capture.now) _ a.log.now a.times.now a.report.now
     (too_long a.plan a.kinds a.capture.now _ _ _ (is_legal l) c.if-length-gt1048576.true) c.forgo-then-length-gt1048576.ensures
 
 is_whole-requires : tie.Need-is_whole-requires
@@ -75,7 +75,7 @@ returns-then-not-is_whole c =
     let l = f.before in
     let a = (start l.before).args in
     let e = sym t.is_whole.ensures ∙ t.if-not-is_whole.true in
-    denies_by _ 8 (length a.capture.now) _ a.log-1.now a.times-1.now a.report-1.now
+    denies_by _ 8 (length a.capture.now) _ a.log.now a.times.now a.report.now
     (not_whole a.plan a.kinds a.capture.now _ _ _ (is_legal l) f.if-length-gt1048576.false e) c.forgo-then-not-is_whole.ensures
 
 salvage_sized-requires : tie.Need-salvage_sized-requires
@@ -100,8 +100,8 @@ returns c =
     let f = w.before.before in
     let a = (start f.before.before).args in
     let y = z.salvage_sized.new.1.1.1 in
-    subst (λ (m : Salvage). Saves m z.salvage_sized.result a.log-1.now y.0 a.times-1.now y.1.0 a.report-1.now y.1.1.0)
-    (sym (is_saved a.plan a.kinds a.capture.now (length a.log-1.now) (length a.times-1.now) (length a.report-1.now)
+    subst (λ (m : Salvage). Saves m z.salvage_sized.result a.log.now y.0 a.times.now y.1.0 a.report.now y.1.1.0)
+    (sym (is_saved a.plan a.kinds a.capture.now (length a.log.now) (length a.times.now) (length a.report.now)
     (is_legal f.before) f.if-length-gt1048576.false (whole w)))
     z.salvage_sized.ensures
 

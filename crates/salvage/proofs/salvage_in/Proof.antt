@@ -35,7 +35,7 @@ judged : (c : Judged) → Judges (start c).args.plan (start c).args.kinds (start
 judged c =
     let a = (start c).args in
     let m = c.salvage_groups-tally.ensures in
-    by a.plan a.kinds a.capture.now (groups c) (length a.log-1.now) (length a.times-1.now) (length a.report-1.now) c.salvage_groups-tally.result m.bytes m.number_times
+    by a.plan a.kinds a.capture.now (groups c) (length a.log.now) (length a.times.now) (length a.report.now) c.salvage_groups-tally.result m.bytes m.number_times
     m.number_entries c.room_number-number.result c.room_number-number.ensures
 
 denied : (c : Judged) (k q : ℕ) (r : Salvaged)
@@ -46,9 +46,9 @@ denied : (c : Judged) (k q : ℕ) (r : Salvaged)
     (start c).args.times.now (start c).args.report.now (start c).args.report.now
 denied c k q r e f =
     let a = (start c).args in
-    subst (λ (n : ℕ). Saves (saved_of a.plan a.kinds a.capture.now n (length a.log-1.now) (length a.times-1.now) (length a.report-1.now)) r a.log-1.now a.log-1.now a.times-1.now
-    a.times-1.now a.report-1.now a.report-1.now) c.groups_in-groups.ensures
-    (denies_by _ k q r a.log-1.now a.times-1.now a.report-1.now e f)
+    subst (λ (n : ℕ). Saves (saved_of a.plan a.kinds a.capture.now n (length a.log.now) (length a.times.now) (length a.report.now)) r a.log.now a.log.now a.times.now
+    a.times.now a.report.now a.report.now) c.groups_in-groups.ensures
+    (denies_by _ k q r a.log.now a.times.now a.report.now e f)
 
 -- the log is in the array
 in_built : (c : Judged) → Enough c.salvage_groups-tally.result (length (start c).args.log.now) (length (start c).args.times.now) (length (start c).args.report.now)
@@ -56,7 +56,7 @@ in_built : (c : Judged) → Enough c.salvage_groups-tally.result (length (start 
 in_built c h = go (dec_lt (length (start c).args.built.now) 32776)
   where
     go : Dec (length (start c).args.built.now < 32776) → c.salvage_groups-tally.result.bytes + 7 ≤ length c.salvage_groups-tally.new.out
-    go (yes l) = omega (arith, h.log-1, (start c).requires.1 l, c.built-1.given)
+    go (yes l) = omega (arith, h.log, (start c).requires.1 l, c.built-1.given)
     go (no l) = omega (arith, h.short, c.built-1.given)
 
 groups_in-groups-requires : tie.Need-groups_in-groups-requires
@@ -120,7 +120,7 @@ returns-then-number-eq20 c = denied c.before.before.before.before 20 _ c.forgo-t
 copy-requires : tie.Need-copy-requires
 copy-requires c κs =
     let j = (judged c.before.before.before.before).enough c.if-number-eq6.false c.if-number-eq7.false c.if-number-eq20.false in
-    (j.log-1, omega (arith, in_built c.before.before.before.before j))
+    (j.log, omega (arith, in_built c.before.before.before.before j))
 
 slice_bounds-no_log-end : tie.Need-slice_bounds-no_log-end
 slice_bounds-no_log-end c = search rules
@@ -130,7 +130,7 @@ slice_bounds-salvage_groups-end-3 c = search rules
 
 salvage_groups-requires : tie.Need-salvage_groups-requires
 salvage_groups-requires c κs =
-    let s = c.before.before.before.before.before.before.before.before.before.before.before.before.before.before.before.before.before.before.before.before.before.before.before.before.before.before.before in (
+    let s = c.before.before.before.before.before.before.before.before.before.before.before.before.before.before.before.before.before.before.before.before.before.before.before.before.before.before in (
       (s.requires.0.0, c.slots-count.ensures.0),
       (
         rw c.groups_in-groups.ensures (whole_groups s.args.plan s.requires.0.0 (length s.args.capture.now) s.requires.0.2),
@@ -165,12 +165,12 @@ returns c =
     let counted = walked.before.before.before.before.before in
     let t = walked.salvage_groups-tally.result in
     let a = (start q).args in
-    let j = (judged q).enough first.if-number-eq6.false second.if-number-eq7.false third.if-number-eq20.false in
+    let j = (judged q).enough first.room_number-number.false second.if-number-eq7.false third.if-number-eq20.false in
     let z = (judged q).all first.if-number-eq6.false second.if-number-eq7.false third.if-number-eq20.false in
-    subst (λ (n : ℕ). Saves (saved_of a.plan a.kinds a.capture.now n (length a.log-1.now) (length a.times-1.now) (length a.report-1.now))
+    subst (λ (n : ℕ). Saves (saved_of a.plan a.kinds a.capture.now n (length a.log.now) (length a.times.now) (length a.report.now))
     (record { number = 0; place = 0; second = 0; bytes = t.bytes; times = t.times-1; entries = t.entries })
-    a.log-1.now log' a.times-1.now times' a.report-1.now report') counted.groups_in-groups.ensures
-    (hands_over a.plan a.kinds a.capture.now (groups q) a.log-1.now log' a.times-1.now times' a.report-1.now
+    a.log.now log' a.times.now times' a.report.now report') counted.groups_in-groups.ensures
+    (hands_over a.plan a.kinds a.capture.now (groups q) a.log.now log' a.times.now times' a.report.now
     report' t walked.salvage_groups-tally.ensures wrote.salvage_groups.ensures j (in_built q j) copied.copy.ensures z)
 
 pub salvage_in_spec : {M : Type 1} → statement M

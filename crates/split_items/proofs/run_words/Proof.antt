@@ -79,18 +79,18 @@ good_row c =
     let k = ran c.before in
     good (kinds k) (parity k) (words k) (low k) (is_low k) (start k).args.out.now (pass k) (out k) (fills k) (is_ran k) c.if-pass-ne0.false
 
-few : (c : Good-row) → let k = ran c.before in (pass k).pen-1.bits ≤ 128 * length (words k)
+few : (c : Good-row) → let k = ran c.before in (pass k).pen.bits ≤ 128 * length (words k)
 few c =
     let k = ran c.before in
     omega (arith, k.on_row-pass.ensures.1 c.if-pass-ne0.false, length-take-le (low k) (words k) (is_low k).few, (is_low k).few)
 
 -- what is held is finished, or cut
-closes : (c : tie.After-finish-step) → let k = ran c.before.before.before in Closes (finish (held_of (pass k).held-1) (pass k).since) c.finish-step.result
+closes : (c : tie.After-finish-step) → let k = ran c.before.before.before in Closes (finish (held_of (pass k).held) (pass k).since) c.finish-step.result
 closes c =
     let g = c.before.before in
     let k = ran g.before in
-    subst (Closes (finish (held_of (pass k).held-1) (pass k).since)) (sym (c.finish-step.ensures (pass k).since))
-    (finish_means (pass k).held-1 (good_row g).brought.sound.sane (pass k).since)
+    subst (Closes (finish (held_of (pass k).held) (pass k).since)) (sym (c.finish-step.ensures (pass k).since))
+    (finish_means (pass k).held (good_row g).brought.sound.sane (pass k).since)
 
 -- ---- the needs
 
@@ -109,7 +109,7 @@ on_row-pass-requires : tie.Need-on_row-pass-requires
 on_row-pass-requires c κs =
     let p = c.before.before in
     let l = p.before in
-    let s = l.before.before.before in
+    let s = l.before.before in
     let ws = s.args.words.now in
     let long = length-take-le l.low_front-low.result ws l.low_front-low.ensures.few in (
       start_sound p.start_pass-start.ensures,
@@ -174,7 +174,7 @@ put_step-end-requires : tie.Need-put_step-end-requires
 put_step-end-requires c κs =
     let e = c.before.before in
     let k = ran e.before.before.before in
-    (omega (arith, few e.before.before, (start k).requires.1), closing_fits (finish (held_of (pass k).held-1) (pass k).since) e.finish-step.result (closes e) c.if-step.false)
+    (omega (arith, few e.before.before, (start k).requires.1), closing_fits (finish (held_of (pass k).held) (pass k).since) e.finish-step.result (closes e) c.if-step.false)
 
 shape_of-out : tie.Need-shape_of-out
 shape_of-out c = search rules

@@ -114,8 +114,8 @@ returns-then-shown-ne0 c =
     let k = ran_on _ _ _ _ s.requires.0.2 _ _ _ _ _ c.on_row-pass.ensures.0 c.if-pass-ne0.false in
     let n = ap (λ (n : ℕ). a.index * 2048 + n) c.lead.ensures in
     let w = watched_from a.plan a.kinds a.index a.row.now a.table.now n c.watch_row-shown.ensures in
-    took_stops 15 c.Stored-of.result 0 c.stops-then-shown-ne0.ensures (λ (z : 15 ≡ 0). omega arith)
-    (row_shown _ _ _ _ _ k.items _ _ _ k.is w.0 c.if-shown-ne0.true ∙ ap (λ (q : ℕ). stops 15 q 0) (sym c.Stored-of.ensures))
+    took_stops 15 c.stored_of.result 0 c.stops-then-shown-ne0.ensures (λ (z : 15 ≡ 0). omega arith)
+    (row_shown _ _ _ _ _ k.items _ _ _ k.is w.0 c.if-shown-ne0.true ∙ ap (λ (q : ℕ). stops 15 q 0) (sym c.stored_of.ensures))
 
 place_from-requires-2 : tie.Need-place_from-requires-2
 place_from-requires-2 c κs =

@@ -30,16 +30,16 @@ abbrev took : Taken → Took
 took c = c.take_group-took.result
 
 abbrev brought : tie.Start → Brought
-brought s = let a = s.args in take_group a.plan a.kinds a.group.now a.along.groups (carried a.along.held a.along.since a.table-1.now)
+brought s = let a = s.args in take_group a.plan a.kinds a.group.now a.along.groups (carried a.along.held a.along.since a.table.now)
 
 abbrev flow : tie.Start → Flow
-flow s = let a = s.args in feed_bytes (working (work_of a.plan a.kinds a.along a.table-1.now)) a.group.now
+flow s = let a = s.args in feed_bytes (working (work_of a.plan a.kinds a.along a.table.now)) a.group.now
 
 grants : (s : tie.Start) → Grants s.args.plan s.args.kinds s.args.along.groups s.args.table.now
-grants s = let a = s.args in ready_grants a.plan a.kinds a.along a.table-1.now s.requires.0.0 s.requires.0.1
+grants s = let a = s.args in ready_grants a.plan a.kinds a.along a.table.now s.requires.0.0 s.requires.0.1
 
 flows : (s : tie.Start) → flow s ≡ taken (work_of s.args.plan s.args.kinds s.args.along s.args.table.now) s.args.group.now (brought s)
-flows s = let a = s.args in group_flow (work_of a.plan a.kinds a.along a.table-1.now) a.group.now (grants s).shape refl s.requires.0.3
+flows s = let a = s.args in group_flow (work_of a.plan a.kinds a.along a.table.now) a.group.now (grants s).shape refl s.requires.0.3
 
 -- it is taken
 went : (c : Taken) → (took c).number ≡ 0 → Went (brought (start c)) (start c).args.along.pen (start c).args.out.now (took c) c.take_group-took.new.table
@@ -50,18 +50,18 @@ went c z = c.take_group-took.ensures.went z
 record Room (s : tie.Start) (k : Took) (out : List ℕ) : Type 0 where
   built : k.pen.bits / 8 + 7 ≤ length out
   bytes : s.args.along.bytes + k.pen.bits / 8 ≤ length s.args.log.now
-  entries : s.args.along.times-1 + times_needed s.args.plan 1 ≤ length s.args.times.now
+  entries : s.args.along.times + times_needed s.args.plan 1 ≤ length s.args.times.now
 
 room : (c : Taken) → (took c).number ≡ 0 → Room (start c) (took c) c.take_group-took.new.out
 room c z =
     let s = start c in
     let a = s.args in
     let w = went c z in
-    let x = w.wrote _ (bits_written a.out-1.now a.along.pen s.requires.0.0.bits) in
-    let n = went-bytes a.plan a.kinds a.along a.table-1.now a.group.now (flow s) (brought s) (flows s) (took c) _ _ w.items w.is x in
-    let m = went-times a.plan a.kinds a.along a.table-1.now a.group.now (flow s) (brought s) (flows s) (took c) _ _ w.items w.is x in
+    let x = w.wrote _ (bits_written a.out.now a.along.pen s.requires.0.0.bits) in
+    let n = went-bytes a.plan a.kinds a.along a.table.now a.group.now (flow s) (brought s) (flows s) (took c) _ _ w.items w.is x in
+    let m = went-times a.plan a.kinds a.along a.table.now a.group.now (flow s) (brought s) (flows s) (took c) _ _ w.items w.is x in
     record {
-      built = omega (arith, n, w.long, built_room a.plan a.kinds a.along a.table-1.now a.group.now a.out-1.now s.requires.0.0.bits s.requires.0.3 s.requires.0.2.built);
+      built = omega (arith, n, w.long, built_room a.plan a.kinds a.along a.table.now a.group.now a.out.now s.requires.0.0.bits s.requires.0.3 s.requires.0.2.built);
       bytes = omega (arith, n, s.requires.1.bytes);
       entries = omega (arith, m, s.requires.1.entries);
     }
@@ -93,7 +93,7 @@ returns-then-took-ne0 c =
     let s = start t in
     let a = s.args in
     let z = c.if-took-ne0.true in
-    stopped_goes a.plan a.kinds a.along a.table-1.now a.group.now (flow s) (brought s) (flows s) (took t) _ _ _ c.stopped.ensures (t.take_group-took.ensures.stopped z) z
+    stopped_goes a.plan a.kinds a.along a.table.now a.group.now (flow s) (brought s) (flows s) (took t) _ _ _ c.stopped.ensures (t.take_group-took.ensures.stopped z) z
     s.requires.0.0.sane s.requires.0.0.bits
 
 put_group-requires : tie.Need-put_group-requires
@@ -126,8 +126,8 @@ returns c =
     let a = s.args in
     let z = k.if-took-ne0.false in
     let w = went t z in
-    went-goes a.plan a.kinds a.along a.table-1.now a.group.now (flow s) (brought s) (flows s) (took t) _ _ w.items w.is
-    (w.wrote _ (bits_written a.out-1.now a.along.pen s.requires.0.0.bits)) _ _ _ _
+    went-goes a.plan a.kinds a.along a.table.now a.group.now (flow s) (brought s) (flows s) (took t) _ _ w.items w.is
+    (w.wrote _ (bits_written a.out.now a.along.pen s.requires.0.0.bits)) _ _ _ _
     k.put_group.ensures.0 w.sane (room t z).built k.put_group.ensures.1 k.put_group.ensures.2
 
 pub on_group_spec : {M : Type 1} → statement M

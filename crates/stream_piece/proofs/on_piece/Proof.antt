@@ -87,9 +87,9 @@ loop-index-init c =
     let a = s.args in
     record {
       few = omega arith;
-      goes = subst (λ (f : Flow). Goes a.plan a.kinds f a.start a.start a.table-1.now a.log-1.now a.log-1.now a.times-1.now a.times-1.now)
-          (sym (up_none (reached a.plan a.kinds a.start a.table-1.now) (drop a.first a.piece.now) (group_size a.plan)))
-          (goes_none a.plan a.kinds a.start a.table-1.now a.log-1.now a.times-1.now s.requires.0.1.sane s.requires.0.1.bits);
+      goes = subst (λ (f : Flow). Goes a.plan a.kinds f a.start a.start a.table.now a.log.now a.log.now a.times.now a.times.now)
+          (sym (up_none (reached a.plan a.kinds a.start a.table.now) (drop a.first a.piece.now) (group_size a.plan)))
+          (goes_none a.plan a.kinds a.start a.table.now a.log.now a.times.now s.requires.0.1.sane s.requires.0.1.bits);
       same_table = refl;
       same_row_lem = refl;
       same_out = refl;
@@ -116,7 +116,7 @@ returns-then-along-ne0 : tie.Need-returns-then-along-ne0 invariant-loop-index de
 returns-then-along-ne0 c =
     let a = c.args in
     let o = c.loop-index in
-    turn-stops a.plan a.kinds a.start a.table-1.now (drop a.first a.piece.now) a.groups o.index o.invariant.goes o.invariant.few c.if-along-ne0.true
+    turn-stops a.plan a.kinds a.start a.table.now (drop a.first a.piece.now) a.groups o.index o.invariant.goes o.invariant.few c.if-along-ne0.true
 
 overflow_mul-begin : tie.Need-overflow_mul-begin invariant-loop-index decreases-loop-index
 overflow_mul-begin c = let s = start c in omega (arith, in_piece c, s.requires.0.4)
@@ -147,18 +147,18 @@ on_group-along-requires c κs =
     let v = part_is a.piece.now a.first (index h) (group_size a.plan) (sized h) in
     let r = s.requires.0.2 in (
       (
-        turn-ready a.plan a.kinds a.start a.table-1.now D a.groups (index h) g s.requires.0.1.fit s.requires.1.0 (at h).loop-index.invariant.few (all_in s),
+        turn-ready a.plan a.kinds a.start a.table.now D a.groups (index h) g s.requires.0.1.fit s.requires.1.0 (at h).loop-index.invariant.few (all_in s),
         z,
         record { slots_are = r.slots_are; dealt = omega (arith, r.dealt, (at h).loop-index.invariant.same_row); built = omega (arith, r.built, (at h).loop-index.invariant.same_out) },
         ap (λ (u : List ℕ). length u) v ∙ part_long a.piece.now a.first (index h) a.groups (group_size a.plan) (more h) s.requires.0.3,
-        turn_small a.plan a.kinds a.start a.table-1.now D a.groups (index h) g s.requires.1.0 (more h) (all_in s) z,
+        turn_small a.plan a.kinds a.start a.table.now D a.groups (index h) g s.requires.1.0 (more h) (all_in s) z,
       ),
-      turn-takes a.plan a.kinds a.start a.table-1.now D a.groups (index h) g _ v z (more h) s.requires.1.1 (at h).loop-index.invariant.same_log (at h).loop-index.invariant.same_times,
+      turn-takes a.plan a.kinds a.start a.table.now D a.groups (index h) g _ v z (more h) s.requires.1.1 (at h).loop-index.invariant.same_log (at h).loop-index.invariant.same_times,
     )
 
 overflow_add-index : tie.Need-overflow_add-index invariant-loop-index decreases-loop-index
 overflow_add-index c = let h = c.before.before.before.before.before.before.before.before.before.before.before.before.before.before.before.before.before in let s = start h in omega
-    (arith, more h, s.fits.groups)
+    (arith, more h, s.ranges.groups)
 
 loop-index-smaller : tie.Need-loop-index-smaller invariant-loop-index decreases-loop-index
 loop-index-smaller c = let h = c.before.before.before.before.before.before.before.before.before.before.before.before.before.before.before.before.before in omega (arith, more h)
@@ -172,7 +172,7 @@ loop-index-preserved c =
     let v = part_is a.piece.now a.first (index h) (group_size a.plan) (sized h) in
     record {
       few = omega (arith, more h);
-      goes = turn-goes a.plan a.kinds a.start a.table-1.now (drop a.first a.piece.now) a.groups (index h) t.goes _ v h.if-along-ne0.false (more h) s.requires.1.1
+      goes = turn-goes a.plan a.kinds a.start a.table.now (drop a.first a.piece.now) a.groups (index h) t.goes _ v h.if-along-ne0.false (more h) s.requires.1.1
           c.on_group-along.ensures;
       same_table = c.table-1.given ∙ t.same_table;
       same_row_lem = c.row-1.given ∙ t.same_row;
