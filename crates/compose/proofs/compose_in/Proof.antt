@@ -13,30 +13,30 @@ use Rattle.compose.proofs.compose_in.Statement.{statement}
 use Rattle.compose.proofs.compose_in.Tie as tie
 
 -- where a log without a fault was told: the words laid before, the function's entry, how many words there are and which
-abbrev laid : tie.In-Items-2 → tie.After-lay
+abbrev laid : tie.In-Items → tie.After-lay
 laid c = c.before.before.before
 
 abbrev entry : tie.After-lay → tie.Start
 entry c = c.before.before.before.before.before.before
 
-abbrev count : tie.In-Items-2 → ℕ
+abbrev count : tie.In-Items → ℕ
 count c = c.in-Items.words
 
-abbrev words : tie.In-Items-2 → List ℕ
+abbrev words : tie.In-Items → List ℕ
 words c = words_from (on_plan (entry (laid c)).args.kinds) (entry (laid c)).args.log.now 0
 
-abbrev row : tie.In-Items-2 → List ℕ
+abbrev row : tie.In-Items → List ℕ
 row c = (laid c).lay.new.words
 
-counted : (c : tie.In-Items-2) → Counted (entry (laid c)).args.plan (entry (laid c)).args.kinds (entry (laid c)).args.log.now (count c)
+counted : (c : tie.In-Items) → Counted (entry (laid c)).args.plan (entry (laid c)).args.kinds (entry (laid c)).args.log.now (count c)
 counted c =
     let a = entry (laid c) in
-    let g = c.words-1.given in
+    let g = c.in-Items in
     log_counted a.args.plan a.args.kinds a.args.log.now a.requires.0
     (all_bytes a.args.log.now (λ i. omega (arith, (laid c).shared_slice_known-1.given i)))
-    g.0.0 (count c) (sym g.1 ∙ (laid c).lay.ensures.0)
+    g.items (count c) (sym g.is ∙ (laid c).lay.ensures.0)
 
-begins : (c : tie.In-Items-2) → take (count c) (row c) ≡ words c
+begins : (c : tie.In-Items) → take (count c) (row c) ≡ words c
 begins c = row_begins (count c) (row c) (words c) (entry (laid c)).args.row.now (laid c).lay.ensures.1 (counted c).count
 
 lay-requires : tie.Need-lay-requires
@@ -77,18 +77,18 @@ returns-in-Items : tie.Need-returns-in-Items
 returns-in-Items c =
     let w = c.before.before.before.before in
     let a = (entry (laid w)).args in
-    rw ((counted w).is a.times.now (length a.out-1.now)) (rw (begins w) at c.compose_laid.ensures)
+    rw ((counted w).is a.times.now (length a.out.now)) (rw (begins w) at c.compose_laid.ensures)
 
 shape_of-row-in-Fault : tie.Need-shape_of-row-in-Fault
 shape_of-row-in-Fault c = search rules
 
 returns-in-Fault : tie.Need-returns-in-Fault
 returns-in-Fault c =
-    let g = c.number-1.given in
+    let g = c.in-Fault in
     let l = c.before.before.before.before in
     let a = entry l in
     rw (log_faulty a.args.plan a.args.kinds a.args.log.now a.args.times.now (length a.args.out.now) a.requires.0
-    g.0.0 g.0.1.0 (sym g.1 ∙ l.lay.ensures.0))
+    g.number g.place (sym g.is ∙ l.lay.ensures.0))
     (c.refusal.ensures, refl)
 
 pub compose_in_spec : {M : Type 1} → statement M

@@ -32,7 +32,7 @@ returns c =
     let a = s.args in
     let t = c.times_row-number in
     let bytes = all_bytes a.log.now (λ i. omega (arith, c.shared_slice_known-1.given i)) in
-    rw (row_composed a.plan a.kinds a.log.now bytes a.times.now t.new.row t.result (length a.out-1.now) t.ensures) c.compose.ensures
+    rw (row_composed a.plan a.kinds a.log.now bytes a.times.now t.new.row t.result (length a.out.now) t.ensures) c.compose.ensures
 
 pub compose_bytes_spec : {M : Type 1} → statement M
 compose_bytes_spec = tie.close (tie.spec slice_bounds-times_row-end times_row-number-requires slice_bounds-row-end slice_bounds-compose-end compose-requires shape_of-out returns)

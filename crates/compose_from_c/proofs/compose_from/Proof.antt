@@ -32,7 +32,7 @@ returns-then-named c =
     let e = sym t.named.ensures ∙ t.if-named.true in
     rw
     (composed-named a.words a.tracks a.frame_time a.crc a.parity a.crc_label a.fill_bus a.kinds.now p.plan_from-plan.result k.kinds_from.result e
-    p.plan_from-plan.ensures k.kinds_from.ensures a.log.now a.times.now (length a.out-1.now))
+    p.plan_from-plan.ensures k.kinds_from.ensures a.log.now a.times.now (length a.out.now))
     c.compose_bytes.ensures
 
 unnamed-requires : tie.Need-unnamed-requires
@@ -42,7 +42,7 @@ returns : tie.Need-returns
 returns c =
     let a = c.args in
     rw
-    (composed_unnamed a.words a.tracks a.frame_time a.crc a.parity a.crc_label a.fill_bus a.kinds.now a.log.now a.times.now (length a.out-1.now)
+    (composed_unnamed a.words a.tracks a.frame_time a.crc a.parity a.crc_label a.fill_bus a.kinds.now a.log.now a.times.now (length a.out.now)
     (sym c.named.ensures ∙ c.if-named.false))
     (c.unnamed.ensures, refl)
 

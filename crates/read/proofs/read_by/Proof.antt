@@ -192,8 +192,8 @@ shape_of-times c = search rules
 returns : tie.Need-returns
 returns c =
     let given = c.before.before.before.before in
-    let o = given.before.before.before.before in
-    let a = o in
+    let o = given.before.before.before in
+    let a = o.before in
     let l = brought (answered a) in
     let r = read l in
     rw (log-settled (plan r) (capture r) (groups r) (length (log r)) (length (times r)) (start r).args.closed (logged l) (answered a).if-end-ne0-2.false a.asked-misplaced.result a.asked-misplaced.ensures

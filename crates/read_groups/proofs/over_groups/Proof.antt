@@ -344,7 +344,7 @@ slice_bounds-note_row-end-in-loop-g c = sym (group (good_group c.before.before))
 
 note_row-noted-requires : tie.Need-note_row-noted-requires invariant-loop-g decreases-loop-g
 note_row-noted-requires c κs =
-    let e = good_group c.before.before.before in
+    let e = good_group c.before.before in
     let l = group e in (
       l.has_arinc-arinc.ensures,
       words_of_row e,

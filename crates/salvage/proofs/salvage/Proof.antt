@@ -99,8 +99,8 @@ returns c =
     let w = sound z.before in
     let f = w.before.before in
     let a = (start f.before.before).args in
-    let y = z.salvage_sized.new.1.1.1 in
-    subst (λ (m : Salvage). Saves m z.salvage_sized.result a.log.now y.0 a.times.now y.1.0 a.report.now y.1.1.0)
+    let y = z.salvage_sized.new in
+    subst (λ (m : Salvage). Saves m z.salvage_sized.result a.log.now y.log a.times.now y.times a.report.now y.report)
     (sym (is_saved a.plan a.kinds a.capture.now (length a.log.now) (length a.times.now) (length a.report.now)
     (is_legal f.before) f.if-length-gt1048576.false (whole w)))
     z.salvage_sized.ensures

@@ -102,12 +102,12 @@ start_pass-start-requires c κs = search rules
 
 slice_bounds-on_row-end : tie.Need-slice_bounds-on_row-end
 slice_bounds-on_row-end c =
-    let f = c.before.before in
+    let f = c.before in
     sym (length-take-le f.low_front-low.result f.args.words.now f.low_front-low.ensures.few)
 
 on_row-pass-requires : tie.Need-on_row-pass-requires
 on_row-pass-requires c κs =
-    let p = c.before.before in
+    let p = c.before in
     let l = p.before in
     let s = l.before.before in
     let ws = s.args.words.now in

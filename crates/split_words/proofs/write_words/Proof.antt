@@ -197,7 +197,7 @@ slice_bounds-copy_words-start-in-loop-g : tie.Need-slice_bounds-copy_words-start
 slice_bounds-copy_words-start-in-loop-g c = search rules
 
 slice_bounds-copy_words-end-in-loop-g : tie.Need-slice_bounds-copy_words-end-in-loop-g invariant-loop-g decreases-loop-g
-slice_bounds-copy_words-end-in-loop-g c = row_room c.before.before
+slice_bounds-copy_words-end-in-loop-g c = row_room c.before
 
 copy_words-requires : tie.Need-copy_words-requires invariant-loop-g decreases-loop-g
 copy_words-requires c κs =

@@ -24,7 +24,7 @@ record Turn (kinds : List Kind) (plan : Plan) (piece : List ℕ) (first groups :
   few : index ≤ groups
   goes : Goes plan kinds (up_to (reached plan kinds along₀ table₀) (drop first piece) (group_size plan) index) along₀ along table log₀ log times₀ times
   same_table : length table ≡ length table₀
-  same_row_lem : length row ≡ length row₀
+  same_row : length row ≡ length row₀
   same_out : length out ≡ length out₀
   same_log : length log ≡ length log₀
   same_times : length times ≡ length times₀
@@ -91,7 +91,7 @@ loop-index-init c =
           (sym (up_none (reached a.plan a.kinds a.start a.table.now) (drop a.first a.piece.now) (group_size a.plan)))
           (goes_none a.plan a.kinds a.start a.table.now a.log.now a.times.now s.requires.0.1.sane s.requires.0.1.bits);
       same_table = refl;
-      same_row_lem = refl;
+      same_row = refl;
       same_out = refl;
       same_log = refl;
       same_times = refl;
@@ -175,7 +175,7 @@ loop-index-preserved c =
       goes = turn-goes a.plan a.kinds a.start a.table.now (drop a.first a.piece.now) a.groups (index h) t.goes _ v h.if-along-ne0.false (more h) s.requires.1.1
           c.on_group-along.ensures;
       same_table = c.table-1.given ∙ t.same_table;
-      same_row_lem = c.row-1.given ∙ t.same_row;
+      same_row = c.row-1.given ∙ t.same_row;
       same_out = c.out-1.given ∙ t.same_out;
       same_log = c.log-1.given ∙ t.same_log;
       same_times = c.times-1.given ∙ t.same_times;
