@@ -39,13 +39,13 @@ part_long c = length-take-le (entries c) (row c) (both c).1
 
 -- the reading where there is room for so many times
 abbrev reading_in : Lent → ℕ → Reading
-reading_in c room = let a = (start c).args in reading a.closed a.plan a.kinds a.capture.now (length a.log-1.now) room
+reading_in c room = let a = (start c).args in reading a.closed a.plan a.kinds a.capture.now (length a.log.now) room
 
 same_reading : (c : Lent) → reading_in c (time_room c) ≡ reading_in c (length (part c))
 same_reading c =
     let s = start c in
     let a = s.args in
-    least_enough a.closed a.plan a.kinds a.capture.now (length a.log-1.now) (time_room c) (length (row c)) (entries c) s.requires c.least-entries.ensures
+    least_enough a.closed a.plan a.kinds a.capture.now (length a.log.now) (time_room c) (length (row c)) (entries c) s.requires c.least-entries.ensures
     ∙ ap (reading_in c) (sym (part_long c))
 
 -- the capture is read
@@ -61,22 +61,22 @@ log_after c = c.read_either-answer.new.log
 abbrev part_after : Read → List ℕ
 part_after c = c.read_either-answer.new.times
 
-few : (c : Read) → c.read_either-answer.result.times-1 ≤ length (part (lent c))
+few : (c : Read) → c.read_either-answer.result.times ≤ length (part (lent c))
 few c =
     let l = lent c in
     let a = (start l).args in
     let n = length (part l) in
-    given_few c.read_either-answer.result a.log-1.now (log_after c) (part l) (part_after c) n (reading_in l n)
-    (few_times a.closed a.plan a.kinds a.capture.now (length a.log-1.now) n) c.read_either-answer.ensures
+    given_few c.read_either-answer.result a.log.now (log_after c) (part l) (part_after c) n (reading_in l n)
+    (few_times a.closed a.plan a.kinds a.capture.now (length a.log.now) n) c.read_either-answer.ensures
 
-there : (c : Read) → c.read_either-answer.result.times-1 ≤ length (part_after c)
+there : (c : Read) → c.read_either-answer.result.times ≤ length (part_after c)
 there c =
     let l = lent c in
     given_there c.read_either-answer.result (start l).args.log.now (log_after c) (part l) (part_after c) (reading_in l (length (part l))) c.read_either-answer.ensures
 
 -- its times are put
-abbrev read : tie.After-put_times-arg2 → Read
-read c = c.before.before.before.before.before.before
+abbrev read : tie.After-put_times-arg-1 → Read
+read c = c.before.before.before.before.before
 
 -- ---- the needs
 
@@ -113,7 +113,7 @@ returns c =
     let r = read p.before in
     let l = lent r in
     let a = (start l).args in
-    rw (same_reading l) (given_bytes r.read_either-answer.result a.log-1.now (log_after r) (part l) (part_after r) a.times-1.now p.put_times.new.bytes
+    rw (same_reading l) (given_bytes r.read_either-answer.result a.log.now (log_after r) (part l) (part_after r) a.times.now p.put_times.new.bytes
     (drop (entries l) (row l)) (reading_in l (length (part l))) r.read_either-answer.ensures p.put_times.ensures)
 
 pub read_by_spec : {M : Type 1} → statement M

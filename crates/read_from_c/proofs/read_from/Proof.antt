@@ -36,7 +36,7 @@ returns-then-named c =
     let e = sym t.named.ensures ∙ t.if-named.true in
     rw
     (read_named a.words a.tracks a.frame_time a.crc a.parity a.crc_label a.fill_bus a.kinds.now p.plan_from-plan.result k.kinds_from.result e
-    p.plan_from-plan.ensures k.kinds_from.ensures a.closed a.capture.now (length a.log-1.now) (length a.times-1.now))
+    p.plan_from-plan.ensures k.kinds_from.ensures a.closed a.capture.now (length a.log.now) (length a.times.now))
     c.read_bytes.ensures
 
 unnamed-requires : tie.Need-unnamed-requires
@@ -46,9 +46,9 @@ returns : tie.Need-returns
 returns c =
     let a = c.args in
     rw
-    (read_unnamed a.words a.tracks a.frame_time a.crc a.parity a.crc_label a.fill_bus a.kinds.now a.closed a.capture.now (length a.log-1.now)
-    (length a.times-1.now) (sym c.named.ensures ∙ c.if-named.false))
-    (given_none _ a.log-1.now a.times-1.now 1 0 0 c.unnamed.ensures)
+    (read_unnamed a.words a.tracks a.frame_time a.crc a.parity a.crc_label a.fill_bus a.kinds.now a.closed a.capture.now (length a.log.now)
+    (length a.times.now) (sym c.named.ensures ∙ c.if-named.false))
+    (given_none _ a.log.now a.times.now 1 0 0 c.unnamed.ensures)
 
 pub read_from_spec : {M : Type 1} → statement M
 read_from_spec =

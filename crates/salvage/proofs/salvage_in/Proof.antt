@@ -165,10 +165,10 @@ returns c =
     let counted = walked.before.before.before.before.before in
     let t = walked.salvage_groups-tally.result in
     let a = (start q).args in
-    let j = (judged q).enough first.room_number-number.false second.if-number-eq7.false third.if-number-eq20.false in
+    let j = (judged q).enough first.if-number-eq6.false second.if-number-eq7.false third.if-number-eq20.false in
     let z = (judged q).all first.if-number-eq6.false second.if-number-eq7.false third.if-number-eq20.false in
     subst (λ (n : ℕ). Saves (saved_of a.plan a.kinds a.capture.now n (length a.log.now) (length a.times.now) (length a.report.now))
-    (record { number = 0; place = 0; second = 0; bytes = t.bytes; times = t.times-1; entries = t.entries })
+    (record { number = 0; place = 0; second = 0; bytes = t.bytes; times = t.times; entries = t.entries })
     a.log.now log' a.times.now times' a.report.now report') counted.groups_in-groups.ensures
     (hands_over a.plan a.kinds a.capture.now (groups q) a.log.now log' a.times.now times' a.report.now
     report' t walked.salvage_groups-tally.ensures wrote.salvage_groups.ensures j (in_built q j) copied.copy.ensures z)

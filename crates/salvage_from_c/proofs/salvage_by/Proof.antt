@@ -67,7 +67,7 @@ part' c = c.salvage-answer.new.times
 abbrev report' : Done → List ℕ
 report' c = c.salvage-answer.new.report
 
-few : (c : Done) → c.salvage-answer.result.times-1 ≤ length (part (lent c))
+few : (c : Done) → c.salvage-answer.result.times ≤ length (part (lent c))
 few c =
     let l = lent c in
     saves_few c.salvage-answer.result (log l) (log' c) (part l) (part' c) (report l) (report' c) (length (part l)) (given l)
@@ -91,7 +91,7 @@ put_times-requires : tie.Need-put_times-requires
 put_times-requires c κs =
     let d = c.before.before.before.before.before.before.before in
     let l = lent d in
-    let there : d.salvage-answer.result.times-1 ≤ length (part' d ++ drop (entries l) (row l)) =
+    let there : d.salvage-answer.result.times ≤ length (part' d ++ drop (entries l) (row l)) =
     rw (length-append (part' d) (drop (entries l) (row l)))
     (omega (arith, saves_there d.salvage-answer.result (log l) (log' d) (part l) (part' d) (report l) (report' d) (given l) d.salvage-answer.ensures)) in
     (there, omega (arith, few d, part_long l, (both l).0))

@@ -51,7 +51,7 @@ returns-then-named c =
     let a = (start p.before.before).args in
     rw
     (salvage_named a.words a.tracks a.frame_time a.crc a.parity a.crc_label a.fill_bus a.kinds.now a.capture.now
-    (length a.log-1.now) (length a.times-1.now) (length a.report-1.now) p.plan_from-plan.result k.kinds_from.result (is_named p.before) p.plan_from-plan.ensures k.kinds_from.ensures)
+    (length a.log.now) (length a.times.now) (length a.report.now) p.plan_from-plan.result k.kinds_from.result (is_named p.before) p.plan_from-plan.ensures k.kinds_from.ensures)
     d.salvage_bytes.ensures
 
 returns : tie.Need-returns
@@ -59,8 +59,8 @@ returns c =
     let a = (start c.before).args in
     rw
     (salvage_unnamed a.words a.tracks a.frame_time a.crc a.parity a.crc_label a.fill_bus a.kinds.now a.capture.now
-    (length a.log-1.now) (length a.times-1.now) (length a.report-1.now) (sym c.named.ensures ∙ c.if-named.false))
-    (saves_none _ a.log-1.now a.times-1.now a.report-1.now 1 0 refl)
+    (length a.log.now) (length a.times.now) (length a.report.now) (sym c.named.ensures ∙ c.if-named.false))
+    (saves_none _ a.log.now a.times.now a.report.now 1 0 refl)
 
 pub salvage_from_spec : {M : Type 1} → statement M
 salvage_from_spec =

@@ -44,7 +44,7 @@ returns-then-named c =
     let a = (start p.before.before).args in
     rw
     (items-named a.words a.tracks a.frame_time a.crc a.parity a.crc_label a.fill_bus a.kinds.now p.plan_from-plan.result k.kinds_from.result (is_named p.before)
-    p.plan_from-plan.ensures k.kinds_from.ensures a.words_in.now (length a.log-1.now))
+    p.plan_from-plan.ensures k.kinds_from.ensures a.words_in.now (length a.log.now))
     r.read_items.ensures
 
 unnamed-requires : tie.Need-unnamed-requires
@@ -55,7 +55,7 @@ returns c =
     let e = c.before in
     let a = (start e.before).args in
     rw
-    (items_unnamed a.words a.tracks a.frame_time a.crc a.parity a.crc_label a.fill_bus a.kinds.now a.words_in.now (length a.log-1.now) (sym e.named.ensures ∙ e.if-named.false))
+    (items_unnamed a.words a.tracks a.frame_time a.crc a.parity a.crc_label a.fill_bus a.kinds.now a.words_in.now (length a.log.now) (sym e.named.ensures ∙ e.if-named.false))
     ((c.unnamed.ensures, refl))
 
 pub items_from_spec : {M : Type 1} → statement M

@@ -58,7 +58,7 @@ words' c = c.read_words-answer.new.words
 abbrev part' : Read → List ℕ
 part' c = c.read_words-answer.new.times
 
-few : (c : Read) → c.read_words-answer.result.times-1 ≤ length (part (least c))
+few : (c : Read) → c.read_words-answer.result.times ≤ length (part (least c))
 few c =
     let l = least c in
     given_few c.read_words-answer.result (words l) (words' c) (part l) (part' c) (length (part l)) (given l)
@@ -82,7 +82,7 @@ put_times-requires : tie.Need-put_times-requires
 put_times-requires c κs =
     let r = c.before.before.before.before.before in
     let l = least r in
-    let there : r.read_words-answer.result.times-1 ≤ length (part' r ++ drop (entries l) (row l)) =
+    let there : r.read_words-answer.result.times ≤ length (part' r ++ drop (entries l) (row l)) =
     rw (length-append (part' r) (drop (entries l) (row l))) (omega (arith, given_there r.read_words-answer.result (words l) (words' r) (part l) (part' r) (given l) r.read_words-answer.ensures)) in
     (there, omega (arith, few r, part_long l, (both l).0))
 

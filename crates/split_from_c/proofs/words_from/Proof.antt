@@ -48,7 +48,7 @@ returns-then-named c =
     let a = (start p.before.before).args in
     rw
     (words-named a.words a.tracks a.frame_time a.crc a.parity a.crc_label a.fill_bus a.kinds.now p.plan_from-plan.result k.kinds_from.result (is_named p.before)
-    p.plan_from-plan.ensures k.kinds_from.ensures a.capture.now (length a.words_out-1.now) (length a.times-1.now))
+    p.plan_from-plan.ensures k.kinds_from.ensures a.capture.now (length a.words_out.now) (length a.times.now))
     r.words_bytes.ensures
 
 unnamed-requires : tie.Need-unnamed-requires
@@ -59,8 +59,8 @@ returns c =
     let e = c.before in
     let a = (start e.before).args in
     rw
-    (words_unnamed a.words a.tracks a.frame_time a.crc a.parity a.crc_label a.fill_bus a.kinds.now a.capture.now (length a.words_out-1.now) (length a.times-1.now) (sym e.named.ensures ∙ e.if-named.false))
-    (given_none _ a.words_out-1.now a.times-1.now 1 0 0 c.unnamed.ensures)
+    (words_unnamed a.words a.tracks a.frame_time a.crc a.parity a.crc_label a.fill_bus a.kinds.now a.capture.now (length a.words_out.now) (length a.times.now) (sym e.named.ensures ∙ e.if-named.false))
+    (given_none _ a.words_out.now a.times.now 1 0 0 c.unnamed.ensures)
 
 pub words_from_spec : {M : Type 1} → statement M
 words_from_spec =

@@ -34,7 +34,7 @@ found c = c.before
 judged : (c : Judged) → c.within.result ≡ within (loaded_of (start (found c)).args.state.now).stage (length (start (found c)).args.piece.now) (length (start (found c)).args.log.now)
 judged c =
     let a = (start (found c)).args in
-    c.within.ensures ∙ ap (λ (n : ℕ). within n (length a.piece.now) (length a.log-1.now)) (staged (found c))
+    c.within.ensures ∙ ap (λ (n : ℕ). within n (length a.piece.now) (length a.log.now)) (staged (found c))
 
 -- ---- the needs
 
@@ -54,8 +54,8 @@ returns-then-not-within : tie.Need-returns-then-not-within
 returns-then-not-within c =
     let j = c.before.before in
     let a = (start (found j)).args in
-    unread_leaves a.state-1.now a.log-1.now a.times-1.now
-    (not_within a.state-1.now a.piece.now (length a.log-1.now) (length a.times-1.now) (sym (judged j) ∙ c.if-not-within.true)) c.refusal.ensures
+    unread_leaves a.state.now a.log.now a.times.now
+    (not_within a.state.now a.piece.now (length a.log.now) (length a.times.now) (sym (judged j) ∙ c.if-not-within.true)) c.refusal.ensures
 
 refusal-requires-then-found-eq2 : tie.Need-refusal-requires-then-found-eq2
 refusal-requires-then-found-eq2 c κs = search rules
@@ -68,10 +68,10 @@ returns-then-found-eq2 c =
     let j = c.before.before.before.before in
     let f = found j in
     let a = (start f).args in
-    let k = limits (loaded_of a.state-1.now).stage (length a.piece.now) (length a.log-1.now) (sym (judged j) ∙ c.if-not-within.false) in
+    let k = limits (loaded_of a.state.now).stage (length a.piece.now) (length a.log.now) (sym (judged j) ∙ c.if-not-within.false) in
     let e = f.load-found.ensures in
-    unread_leaves a.state-1.now a.log-1.now a.times-1.now
-    (repeated a.state-1.now a.piece.now (length a.log-1.now) (length a.times-1.now) (sym (staged f) ∙ c.if-found-eq2.true) k.short k.roomy)
+    unread_leaves a.state.now a.log.now a.times.now
+    (repeated a.state.now a.piece.now (length a.log.now) (length a.times.now) (sym (staged f) ∙ c.if-found-eq2.true) k.short k.roomy)
     (c.refusal-then-found-eq2.ensures ∙ ap (λ (r : Loaded). refusal r.number r.place r.second) e)
 
 feed_working-requires : tie.Need-feed_working-requires
@@ -79,12 +79,12 @@ feed_working-requires c κs =
     let j = c.before.before.before.before.before.before.before in
     let f = found j in
     let a = (start f).args in
-    let k = limits (loaded_of a.state-1.now).stage (length a.piece.now) (length a.log-1.now)
+    let k = limits (loaded_of a.state.now).stage (length a.piece.now) (length a.log.now)
     (sym (judged j) ∙ c.if-not-within.false) in
     let one = k.open_stage (λ z. c.if-found-eq2.false (staged f ∙ z)) in
-    let w = loaded_work a.state-1.now one in
+    let w = loaded_work a.state.now one in
     record {
-      work = subst (AtWork a.state-1.now) (sym (ap (λ (r : Loaded). r.stand-1) f.load-found.ensures)) w;
+      work = subst (AtWork a.state.now) (sym (ap (λ (r : Loaded). r.stand) f.load-found.ensures)) w;
       table_is = refl;
       short = k.short;
       roomy = k.roomy;

@@ -23,9 +23,9 @@ start c = c.before.before.before.before.before.before
 abbrev Asked : Type 0
 Asked = tie.After-times_of
 
-asked : (c : Asked) → c.times_of.result ≡ times_needed (start c.before).args.stand.plan-1
-    (((start c.before).args.stand.waiting + length (start c.before).args.piece.now) / group_size (start c.before).args.stand.plan-1)
-asked c = let p = (start c.before).args.stand.plan-1 in c.times_of.ensures ∙ ap (λ (n : ℕ). times_needed p n) c.groups_in-filled.ensures
+asked : (c : Asked) → c.times_of.result ≡ times_needed (start c.before).args.stand.plan
+    (((start c.before).args.stand.waiting + length (start c.before).args.piece.now) / group_size (start c.before).args.stand.plan)
+asked c = let p = (start c.before).args.stand.plan in c.times_of.ensures ∙ ap (λ (n : ℕ). times_needed p n) c.groups_in-filled.ensures
 
 -- there are as many, and the size of a group is known
 abbrev Sized : Type 0
@@ -34,11 +34,11 @@ Sized = tie.After-group_words
 abbrev from : Sized → tie.Start
 from d = start d.before.before.before
 
-enough : (d : Sized) → times_needed (from d).args.stand.plan-1 (((from d).args.stand.waiting + length (from d).args.piece.now) / group_size (from d).args.stand.plan-1) ≤ length
+enough : (d : Sized) → times_needed (from d).args.stand.plan (((from d).args.stand.waiting + length (from d).args.piece.now) / group_size (from d).args.stand.plan) ≤ length
     (from d).args.times.now
 enough d = omega (arith, asked d.before.before, d.if-times-times_of.false)
 
-counts : (d : Sized) → (from d).args.stand.groups * (3 * d.group_words.result) ≡ (from d).args.stand.groups * group_size (from d).args.stand.plan-1
+counts : (d : Sized) → (from d).args.stand.groups * (3 * d.group_words.result) ≡ (from d).args.stand.groups * group_size (from d).args.stand.plan
 counts d = ap (λ (n : ℕ). (from d).args.stand.groups * (3 * n)) d.group_words.ensures.0
 
 -- ---- the needs
@@ -48,7 +48,7 @@ overflow_add-waiting c = search rules
 
 groups_in-filled-requires : tie.Need-groups_in-filled-requires
 groups_in-filled-requires c κs = let s = c.before.before.before.before.before in
-    (s.requires.work.shape, omega (arith, s.requires.short, s.requires.work.part, group_most s.args.stand.plan-1 s.requires.work.shape))
+    (s.requires.work.shape, omega (arith, s.requires.short, s.requires.work.part, group_most s.args.stand.plan s.requires.work.shape))
 
 times_of-requires : tie.Need-times_of-requires
 times_of-requires c κs = search rules
@@ -61,8 +61,8 @@ returns-then-times-times_of c =
     let q = c.before.before in
     let s = start q.before in
     let a = s.args in
-    unread_leaves a.state-1.now a.log-1.now a.times-1.now
-    (short-entries a.state-1.now a.stand s.requires.work a.piece.now (length a.log-1.now) (length a.times-1.now) s.requires.short (omega (arith, asked q, c.if-times-times_of.true)))
+    unread_leaves a.state.now a.log.now a.times.now
+    (short-entries a.state.now a.stand s.requires.work a.piece.now (length a.log.now) (length a.times.now) s.requires.short (omega (arith, asked q, c.if-times-times_of.true)))
     c.refusal.ensures
 
 group_words-requires : tie.Need-group_words-requires
@@ -88,8 +88,8 @@ returns-then-count-piece-gt1099511627776 c =
     let d = c.before.before.before in
     let s = from d in
     let a = s.args in
-    unread_leaves a.state-1.now a.log-1.now a.times-1.now
-    (crossed a.state-1.now a.stand s.requires.work a.piece.now (length a.log-1.now) (length a.times-1.now) s.requires.short s.requires.roomy (enough d) _
+    unread_leaves a.state.now a.log.now a.times.now
+    (crossed a.state.now a.stand s.requires.work a.piece.now (length a.log.now) (length a.times.now) s.requires.short s.requires.roomy (enough d) _
     (ap (λ (n : ℕ). n + a.stand.waiting) (counts d)) c.if-count-piece-gt1099511627776.true)
     c.refusal-then-count-piece-gt1099511627776.ensures
 
@@ -98,7 +98,7 @@ keep-requires c κs =
     let d = c.before.before.before.before in
     let s = from d in
     let a = s.args in
-    piece_waits a.state-1.now a.stand s.requires.work a.piece.now _ d.groups_in-filled.ensures c.if-filled-eq0.true
+    piece_waits a.state.now a.stand s.requires.work a.piece.now _ d.groups_in-filled.ensures c.if-filled-eq0.true
 
 refusal-requires-then-filled-eq0 : tie.Need-refusal-requires-then-filled-eq0
 refusal-requires-then-filled-eq0 c κs = search rules
@@ -111,11 +111,11 @@ returns-then-filled-eq0 c =
     let d = c.before.before.before.before.before.before.before.before in
     let s = from d in
     let a = s.args in
-    let small : a.stand.groups * group_size a.stand.plan-1 + a.stand.waiting + length a.piece.now ≤ most_bytes = omega
+    let small : a.stand.groups * group_size a.stand.plan + a.stand.waiting + length a.piece.now ≤ most_bytes = omega
     (arith, counts d, c.if-count-piece-gt1099511627776.false) in
-    piece_kept a.state-1.now a.stand s.requires.work a.piece.now a.log-1.now a.times-1.now _ _ d.groups_in-filled.ensures
+    piece_kept a.state.now a.stand s.requires.work a.piece.now a.log.now a.times.now _ _ d.groups_in-filled.ensures
     c.if-filled-eq0.true
-    (fed-bytes a.state-1.now a.stand s.requires.work a.piece.now (length a.log-1.now) (length a.times-1.now) s.requires.short s.requires.roomy (enough d) small)
+    (fed-bytes a.state.now a.stand s.requires.work a.piece.now (length a.log.now) (length a.times.now) s.requires.short s.requires.roomy (enough d) small)
     c.refusal-then-filled-eq0.ensures c.keep.ensures
 
 feed_groups-requires : tie.Need-feed_groups-requires

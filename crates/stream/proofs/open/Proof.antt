@@ -10,7 +10,7 @@ refusal-requires : tie.Need-refusal-requires
 refusal-requires c κs = search rules
 
 returns-then-state-ne7168 : tie.Need-returns-then-state-ne7168
-returns-then-state-ne7168 c = let a = c.args in opens_unread a.plan a.kinds a.state-1.now c.if-state-ne7168.true c.refusal.ensures
+returns-then-state-ne7168 c = let a = c.args in opens_unread a.plan a.kinds a.state.now c.if-state-ne7168.true c.refusal.ensures
 
 legal-requires : tie.Need-legal-requires
 legal-requires c κs = search rules
@@ -25,7 +25,7 @@ shape_of-state-then-not-legal : tie.Need-shape_of-state-then-not-legal
 shape_of-state-then-not-legal c = search rules
 
 returns-then-not-legal : tie.Need-returns-then-not-legal
-returns-then-not-legal c = let a = c.args in opens_closed a.plan a.kinds a.state-1.now
+returns-then-not-legal c = let a = c.args in opens_closed a.plan a.kinds a.state.now
     c.if-state-ne7168.false
     (sym c.legal.ensures ∙ c.if-not-legal.true) c.refusal-then-not-legal.ensures
     c.store_closed.ensures
@@ -41,7 +41,7 @@ shape_of-state : tie.Need-shape_of-state
 shape_of-state c = search rules
 
 returns : tie.Need-returns
-returns c = let a = c.args in opens_work a.plan a.kinds a.state-1.now
+returns c = let a = c.args in opens_work a.plan a.kinds a.state.now
     c.if-state-ne7168.false
     (sym c.legal.ensures ∙ c.if-not-legal.false) c.refusal-2.ensures
     c.store_open.ensures

@@ -71,8 +71,8 @@ returns-then-not-within : tie.Need-returns-then-not-within
 returns-then-not-within c =
     let j = c.before.before in
     let a = (start (found j)).args in
-    let e = not_closable a.state-1.now (length a.log-1.now)
-    (ap (λ (n : ℕ). within n 0 (length a.log-1.now)) (sym (staged (found j))) ∙ sym (judged j) ∙ c.if-not-within.true) in
+    let e = not_closable a.state.now (length a.log.now)
+    (ap (λ (n : ℕ). within n 0 (length a.log.now)) (sym (staged (found j))) ∙ sym (judged j) ∙ c.if-not-within.true) in
     rw e (c.refusal.ensures, refl, refl)
 
 slice_bounds-notices_at-end : tie.Need-slice_bounds-notices_at-end
@@ -105,10 +105,10 @@ returns c =
     let o = within_limits n in
     let f = found o.before in
     let a = (start f).args in
-    let k = c.close_on-answer.ensures a.state-1.now (says n) in (
+    let k = c.close_on-answer.ensures a.state.now (says n) in (
       k.0,
       c.store_closed.ensures ∙ sym
-          (shut_state a.state-1.now (length a.log-1.now) f.load-found.result.stage (sym (staged f)) (within_them o).open_stage (within_them o).roomy),
+          (shut_state a.state.now (length a.log.now) f.load-found.result.stage (sym (staged f)) (within_them o).open_stage (within_them o).roomy),
       k.1,
     )
 

@@ -33,7 +33,7 @@ Sized = tie.After-group_words
 abbrev start : Sized → tie.Start
 start c = c.before.before.before.before.before.before.before.before
 
-counts : (c : Sized) → (start c).args.found.stand.groups * (3 * c.group_words.result) ≡ (start c).args.found.stand.groups * group_size (start c).args.found.stand.plan-1
+counts : (c : Sized) → (start c).args.found.stand.groups * (3 * c.group_words.result) ≡ (start c).args.found.stand.groups * group_size (start c).args.found.stand.plan
 counts c = ap (λ (n : ℕ). (start c).args.found.stand.groups * (3 * n)) c.group_words.ensures.0
 
 -- ---- the needs
@@ -67,7 +67,7 @@ returns-then-waiting-ne0 c =
     let s = c.before.before.before.before.before.before.before.before.before in
     let a = s.args in
     let x = a.found.stand in
-    λ b y. shut_part b x (at_work s c.if-found-eq2.false b y) a.log-1.now s.requires.roomy _ c.if-waiting-ne0.true
+    λ b y. shut_part b x (at_work s c.if-found-eq2.false b y) a.log.now s.requires.roomy _ c.if-waiting-ne0.true
     (ap (λ (n : ℕ). n + x.waiting) (counts c.before)) c.refusal-then-waiting-ne0.ensures
 
 overflow_cast-pen : tie.Need-overflow_cast-pen
@@ -81,7 +81,7 @@ end_log-requires c κs =
     let s = c.before.before.before.before.before.before.before.before.before.before in
     let a = s.args in
     let z = c.if-found-eq2.false in
-    shut-whole s.requires.bytes a.found.stand (work s z) a.log-1.now s.requires.roomy (c.if-waiting-ne0.false) a.table.now (s.requires.says.table_is (s.requires.open_stage z))
+    shut-whole s.requires.bytes a.found.stand (work s z) a.log.now s.requires.roomy (c.if-waiting-ne0.false) a.table.now (s.requires.says.table_is (s.requires.open_stage z))
 
 shape_of-log : tie.Need-shape_of-log
 shape_of-log c = search rules
@@ -91,7 +91,7 @@ returns c =
     let s = c.before.before.before.before.before.before.before.before.before.before.before.before.before in
     let a = s.args in
     let z = c.if-found-eq2.false in
-    λ b y. shut-ends b a.found.stand (at_work s z b y) a.log-1.now s.requires.roomy (c.if-waiting-ne0.false) a.table.now
+    λ b y. shut-ends b a.found.stand (at_work s z b y) a.log.now s.requires.roomy (c.if-waiting-ne0.false) a.table.now
     (y.table_is (s.requires.open_stage z)) c.end_log.ensures
 
 pub close_on_spec : {M : Type 1} → statement M

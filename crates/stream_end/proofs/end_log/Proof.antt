@@ -63,7 +63,7 @@ returns-then-step : tie.Need-returns-then-step
 returns-then-step c =
     let f = c.before.before in
     let a = (start f).args in
-    ends_cut a.plan a.held a.since a.pen a.table.now a.log-1.now f.finish-step.result (closes f) c.if-step.true c.refusal.ensures
+    ends_cut a.plan a.held a.since a.pen a.table.now a.log.now f.finish-step.result (closes f) c.if-step.true c.refusal.ensures
 
 is_clear-requires : tie.Need-is_clear-requires
 is_clear-requires c κs = search rules
@@ -87,9 +87,9 @@ returns-then-notice-ne0 c =
     let n = c.before.before.before in
     let f = done n in
     let a = (start f).args in
-    ends_open a.plan a.held a.since a.pen a.table.now a.log-1.now f.finish-step.result (closes f) n.if-step.false n.at_end-notice.result (notice n)
+    ends_open a.plan a.held a.since a.pen a.table.now a.log.now f.finish-step.result (closes f) n.if-step.false n.at_end-notice.result (notice n)
     c.if-notice-ne0.true
-    (c.refusal-then-notice-ne0.ensures ∙ ap (λ (q : ℕ). refusal 15 q 0) c.Stored-of.ensures)
+    (c.refusal-then-notice-ne0.ensures ∙ ap (λ (q : ℕ). refusal 15 q 0) c.stored_of.ensures)
 
 put_end-requires : tie.Need-put_end-requires
 put_end-requires c κs =
@@ -97,7 +97,7 @@ put_end-requires c κs =
     let f = done n in
     let s = start f in
     let a = s.args in (
-      ends_last a.plan a.held a.since a.pen a.table.now a.log-1.now f.finish-step.result (closes f) n.if-step.false (none n c.if-notice-ne0.false) s.requires.bits
+      ends_last a.plan a.held a.since a.pen a.table.now a.log.now f.finish-step.result (closes f) n.if-step.false (none n c.if-notice-ne0.false) s.requires.bits
           s.requires.few,
       s.requires.room,
     )
@@ -111,7 +111,7 @@ returns c =
     let n = k.before.before.before in
     let f = done n in
     let a = (start f).args in
-    ends-put a.plan a.held a.since a.pen a.table.now a.log-1.now f.finish-step.result (closes f) n.if-step.false (none n k.if-notice-ne0.false)
+    ends-put a.plan a.held a.since a.pen a.table.now a.log.now f.finish-step.result (closes f) n.if-step.false (none n k.if-notice-ne0.false)
     k.put_end.ensures
 
 pub end_log_spec : {M : Type 1} → statement M

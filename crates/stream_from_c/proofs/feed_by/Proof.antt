@@ -46,19 +46,19 @@ abbrev lent : Fed → Lent
 lent c = c.before.before.before.before
 
 abbrev outcome : Lent → Outcome
-outcome l = let a = (start l).args in feeding a.state-1.now a.piece.now (length a.log-1.now) (length (take (entries l) (row l)))
+outcome l = let a = (start l).args in feeding a.state.now a.piece.now (length a.log.now) (length (take (entries l) (row l)))
 
-told : (c : Fed) → c.feed-answer.result.times-1 ≡ length (outcome (lent c)).times-1
+told : (c : Fed) → c.feed-answer.result.times ≡ length (outcome (lent c)).times
 told c =
     let l = lent c in
     let a = (start l).args in
-    ap (λ (r : Answer). r.times-1) c.feed-answer.ensures.answer ∙ told_times a.state-1.now a.piece.now (length a.log-1.now) (length (take (entries l) (row l)))
+    ap (λ (r : Answer). r.times) c.feed-answer.ensures.answer ∙ told_times a.state.now a.piece.now (length a.log.now) (length (take (entries l) (row l)))
 
-few : (c : Fed) → c.feed-answer.result.times-1 ≤ entries (lent c)
+few : (c : Fed) → c.feed-answer.result.times ≤ entries (lent c)
 few c =
     let l = lent c in
     let a = (start l).args in
-    omega (arith, told c, times_few a.state-1.now a.piece.now (length a.log-1.now) (length (take (entries l) (row l))), part_long l)
+    omega (arith, told c, times_few a.state.now a.piece.now (length a.log.now) (length (take (entries l) (row l))), part_long l)
 
 -- ---- the needs
 
@@ -79,8 +79,8 @@ put_times-requires c κs =
     let f = c.before.before.before.before.before.before.before in
     let l = lent f in
     let p : List ℕ = f.feed-answer.new.times in
-    let there : f.feed-answer.result.times-1 ≤ length (p ++ drop (entries l) (row l)) =
-    rw (length-append p (drop (entries l) (row l))) (omega (arith, told f, ap (λ (u : List ℕ). length u) f.feed-answer.ensures.times-1 ∙ length-append (outcome l).times-1 _)) in
+    let there : f.feed-answer.result.times ≤ length (p ++ drop (entries l) (row l)) =
+    rw (length-append p (drop (entries l) (row l))) (omega (arith, told f, ap (λ (u : List ℕ). length u) f.feed-answer.ensures.times ∙ length-append (outcome l).times _)) in
     (there, omega (arith, few f, (both l).0))
 
 shape_of-state : tie.Need-shape_of-state
@@ -101,11 +101,11 @@ returns c =
     let f = c.before.before.before.before.before.before.before.before.before.before in
     let l = lent f in
     let a = (start l).args in
-    let e = least_same a.state-1.now a.piece.now (length a.log-1.now) (length a.times-1.now / 8) (length (row l)) (entries l) (start l).requires l.least-entries.ensures
-    ∙ ap (feeding a.state-1.now a.piece.now (length a.log-1.now)) (sym (part_long l)) in
+    let e = least_same a.state.now a.piece.now (length a.log.now) (length a.times.now / 8) (length (row l)) (entries l) (start l).requires l.least-entries.ensures
+    ∙ ap (feeding a.state.now a.piece.now (length a.log.now)) (sym (part_long l)) in
     rw e
-    (leaves_bytes (outcome l) (take (entries l) (row l)) f.feed-answer.new.times (drop (entries l) (row l)) a.times-1.now f.feed-answer.ensures t.put_times.ensures
-    (told_times a.state-1.now a.piece.now (length a.log-1.now) (length (take (entries l) (row l)))))
+    (leaves_bytes (outcome l) (take (entries l) (row l)) f.feed-answer.new.times (drop (entries l) (row l)) a.times.now f.feed-answer.ensures t.put_times.ensures
+    (told_times a.state.now a.piece.now (length a.log.now) (length (take (entries l) (row l)))))
 
 pub feed_by_spec : {M : Type 1} → statement M
 feed_by_spec =

@@ -48,7 +48,7 @@ returns-then-named c =
     let p = k.before in
     let t = p.before in
     let a = (start t.before).args in
-    opens_named a.words a.tracks a.frame_time a.crc a.parity a.crc_label a.fill_bus a.kinds.now a.state-1.now p.plan_from-plan.result k.kinds_from.result (is_named t)
+    opens_named a.words a.tracks a.frame_time a.crc a.parity a.crc_label a.fill_bus a.kinds.now a.state.now p.plan_from-plan.result k.kinds_from.result (is_named t)
     p.plan_from-plan.ensures k.kinds_from.ensures o.«open».ensures
 
 plan_from-none-requires : tie.Need-plan_from-none-requires
@@ -66,7 +66,7 @@ returns c =
     let p = o.before.before in
     let e = p.before in
     let a = (start e.before).args in
-    opens_none a.words a.tracks a.frame_time a.crc a.parity a.crc_label a.fill_bus a.kinds.now a.state-1.now p.plan_from-none.result _
+    opens_none a.words a.tracks a.frame_time a.crc a.parity a.crc_label a.fill_bus a.kinds.now a.state.now p.plan_from-none.result _
     (sym e.named.ensures ∙ e.if-named.false)
     p.plan_from-none.ensures o.open-2.ensures
 

@@ -31,7 +31,7 @@ returns c =
     let k = c.before.before in
     let a = k.args in
     let p = k.requires in
-    copy_laid a.piece.now (1024 + a.waiting) a.front a.state-1.now _ p.2 (omega (arith, p.0, p.1)) k.copy.ensures
+    copy_laid a.piece.now (1024 + a.waiting) a.front a.state.now _ p.2 (omega (arith, p.0, p.1)) k.copy.ensures
 
 pub complete_spec : {M : Type 1} → statement M
 complete_spec =

@@ -19,7 +19,7 @@ slice_bounds-notices_at-end : tie.Need-slice_bounds-notices_at-end
 slice_bounds-notices_at-end c = search rules
 
 notices_at-requires : tie.Need-notices_at-requires
-notices_at-requires c κs = let s = c.before.before.before.before.before.before in (s.requires.fed.work.long, refl)
+notices_at-requires c κs = let s = c.before.before.before.before.before in (s.requires.fed.work.long, refl)
 
 group_words-requires : tie.Need-group_words-requires
 group_words-requires c κs = search rules

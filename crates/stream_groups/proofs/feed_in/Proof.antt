@@ -25,11 +25,11 @@ Sized = tie.After-group_words
 abbrev start : Sized → tie.Start
 start c = c.before.before.before.before.before.before.before.before.before
 
-ends_are : (c : Sized) → (start c).args.filled * (3 * c.group_words.result) ≡ (start c).args.filled * group_size (start c).args.stand.plan-1
+ends_are : (c : Sized) → (start c).args.filled * (3 * c.group_words.result) ≡ (start c).args.filled * group_size (start c).args.stand.plan
 ends_are c = ap (λ (n : ℕ). (start c).args.filled * (3 * n)) c.group_words.ensures.0
 
 in_piece : (c : Sized) → (start c).args.filled * (3 * c.group_words.result) ≤ (start c).args.stand.waiting + length (start c).args.piece.now
-in_piece c = let s = start c in let a = s.args in omega (arith, ends_are c, filled_in a.state-1.now a.stand a.table-1.now a.piece.now _ _ a.filled (filled s))
+in_piece c = let s = start c in let a = s.args in omega (arith, ends_are c, filled_in a.state.now a.stand a.table.now a.piece.now _ _ a.filled (filled s))
 
 -- the groups are taken
 abbrev Through : Type 0
@@ -38,7 +38,7 @@ Through = tie.After-through-along
 abbrev sized : Through → Sized
 sized t = t.before.before.before.before.before.before.before.before.before
 
-goes : (t : Through) → Goes (start (sized t)).args.stand.plan-1 (kinds_at (start (sized t)).args.state.now)
+goes : (t : Through) → Goes (start (sized t)).args.stand.plan (kinds_at (start (sized t)).args.state.now)
     (total (start (sized t)).args.state.now (start (sized t)).args.stand (start (sized t)).args.table.now (start (sized t)).args.piece.now (length (start (sized t)).args.log.now)
     (length (start (sized t)).args.times.now) (start (sized t)).args.filled (filled (start (sized t)))) (start_of (start (sized t)).args.stand) t.through-along.result
     t.through-along.new.table (start (sized t)).args.log.now t.through-along.new.log (start (sized t)).args.times.now
@@ -47,7 +47,7 @@ goes t = rw t.kinds_at-kinds.ensures at t.through-along.ensures
 
 tail : (t : Through) → take (length (start (sized t)).args.piece.now - ((start (sized t)).args.filled * (3 * (sized t).group_words.result) - (start (sized t)).args.stand.waiting))
     (drop ((start (sized t)).args.filled * (3 * (sized t).group_words.result) - (start (sized t)).args.stand.waiting) (start (sized t)).args.piece.now)
-    ≡ drop ((start (sized t)).args.filled * group_size (start (sized t)).args.stand.plan-1 - (start (sized t)).args.stand.waiting) (start (sized t)).args.piece.now
+    ≡ drop ((start (sized t)).args.filled * group_size (start (sized t)).args.stand.plan - (start (sized t)).args.stand.waiting) (start (sized t)).args.piece.now
 tail t = let a = (start (sized t)).args in tail_is a.piece.now _ _ (ap (λ (n : ℕ). n - a.stand.waiting) (ends_are (sized t)))
 
 -- ---- the needs
@@ -59,14 +59,14 @@ overflow_mul-begin : tie.Need-overflow_mul-begin
 overflow_mul-begin c = search rules
 
 overflow_mul-begin-2 : tie.Need-overflow_mul-begin-2
-overflow_mul-begin-2 c = let s = start c in omega (arith, in_piece c, (filled s).fed.short, (filled s).fed.work.part, group_most s.args.stand.plan-1 (filled s).fed.work.shape)
+overflow_mul-begin-2 c = let s = start c in omega (arith, in_piece c, (filled s).fed.short, (filled s).fed.work.part, group_most s.args.stand.plan (filled s).fed.work.shape)
 
 overflow_sub-begin : tie.Need-overflow_sub-begin
 overflow_sub-begin c =
     let d = c.before in
     let s = start d in
     let a = s.args in
-    omega (arith, ends_are d, (filled s).fed.work.part, one_filled a.state-1.now a.stand a.table-1.now a.piece.now _ _ a.filled (filled s))
+    omega (arith, ends_are d, (filled s).fed.work.part, one_filled a.state.now a.stand a.table.now a.piece.now _ _ a.filled (filled s))
 
 kinds_at-kinds-requires : tie.Need-kinds_at-kinds-requires
 kinds_at-kinds-requires c κs = search rules
@@ -92,7 +92,7 @@ end_feed-requires c κs =
     rw t.kinds_at-kinds.ensures (
       c.state-1.given ∙ F.fed.work.long,
       (goes t).bits,
-      stores a.state-1.now a.stand a.table-1.now a.piece.now _ _ a.filled F refl refl (goes t) _ (tail t),
+      stores a.state.now a.stand a.table.now a.piece.now _ _ a.filled F refl refl (goes t) _ (tail t),
     )
 
 shape_of-state : tie.Need-shape_of-state
@@ -119,7 +119,7 @@ returns c =
     let s = start (sized t) in
     let a = s.args in
     let e = rw t.kinds_at-kinds.ensures at c.end_feed.ensures.1 in
-    ends-given a.state-1.now a.stand a.table-1.now a.piece.now _ _ a.filled (filled s) refl refl (goes t) _ (tail t) _ _ c.end_feed.ensures.0 e
+    ends-given a.state.now a.stand a.table.now a.piece.now _ _ a.filled (filled s) refl refl (goes t) _ (tail t) _ _ c.end_feed.ensures.0 e
 
 pub feed_in_spec : {M : Type 1} → statement M
 feed_in_spec =

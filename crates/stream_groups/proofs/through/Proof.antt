@@ -32,35 +32,35 @@ size k = 3 * k.group_words-size.result
 abbrev front : Whole → ℕ
 front k = size k - (start k).args.stand.waiting
 
-sized : (k : Whole) → size k ≡ group_size (start k).args.stand.plan-1
+sized : (k : Whole) → size k ≡ group_size (start k).args.stand.plan
 sized k = ap (λ (n : ℕ). 3 * n) k.group_words-size.ensures.0
 
-fronted : (k : Whole) → front k + (start k).args.stand.waiting ≡ group_size (start k).args.stand.plan-1
+fronted : (k : Whole) → front k + (start k).args.stand.waiting ≡ group_size (start k).args.stand.plan
 fronted k = omega (arith, sized k, (filled (start k)).fed.work.part)
 
 in_piece : (k : Whole) → front k ≤ length (start k).args.piece.now
-in_piece k = let s = start k in let a = s.args in front-in a.state-1.now a.stand a.table-1.now a.piece.now _ _ a.filled (filled s) a.kinds s.requires.1 (front k) (fronted k)
+in_piece k = let s = start k in let a = s.args in front-in a.state.now a.stand a.table.now a.piece.now _ _ a.filled (filled s) a.kinds s.requires.1 (front k) (fronted k)
 
 in_state : (k : Whole) → 1024 + size k ≤ length (start k).args.state.now
-in_state k = let w = (filled (start k)).fed.work in omega (arith, w.long, sized k, group_most (start k).args.stand.plan-1 w.shape)
+in_state k = let w = (filled (start k)).fed.work in omega (arith, w.long, sized k, group_most (start k).args.stand.plan w.shape)
 
 -- its bytes
 abbrev group : Whole → List ℕ
-group k = take (1024 + size k - 1024) (drop 1024 k.complete.last.0)
+group k = take (1024 + size k - 1024) (drop 1024 k.complete.new.state)
 
 group_is : (k : Whole) → group k ≡ take (start k).args.stand.waiting (drop 1024 (start k).args.state.now) ++ take (front k) (start k).args.piece.now
 group_is k =
     let a = (start k).args in
-    first_group a.state-1.now a.piece.now k.complete.new.state a.stand.waiting (front k) (size k) (fronted k ∙ sym (sized k)) (in_state k) (in_piece k) k.complete.ensures
+    first_group a.state.now a.piece.now k.complete.new.state a.stand.waiting (front k) (size k) (fronted k ∙ sym (sized k)) (in_state k) (in_piece k) k.complete.ensures
 
 abbrev flow : Whole → Flow
-flow k = let a = (start k).args in feed_bytes (working (work_of a.stand.plan-1 a.kinds (start_of a.stand) a.table-1.now)) (group k)
+flow k = let a = (start k).args in feed_bytes (working (work_of a.stand.plan a.kinds (start_of a.stand) a.table.now)) (group k)
 
 flows : (k : Whole) → flow k ≡ feed_bytes (working (work_in (start k).args.state.now (start k).args.stand)) (take (front k) (start k).args.piece.now)
 flows k =
     let s = start k in
     let a = s.args in
-    one-is a.state-1.now a.stand a.table-1.now a.piece.now _ _ a.filled (filled s) a.kinds s.requires.1 (front k) (fronted k) (group k) (group_is k)
+    one-is a.state.now a.stand a.table.now a.piece.now _ _ a.filled (filled s) a.kinds s.requires.1 (front k) (fronted k) (group k) (group_is k)
 
 -- and taken
 abbrev First : Type 0
@@ -69,7 +69,7 @@ First = tie.After-on_group-first
 abbrev whole : First → Whole
 whole o = o.before.before.before.before.before.before.before.before.before.before.before
 
-goes : (o : First) → Goes (start (whole o)).args.stand.plan-1 (start (whole o)).args.kinds (flow (whole o)) (start_of (start (whole o)).args.stand) o.on_group-first.result
+goes : (o : First) → Goes (start (whole o)).args.stand.plan (start (whole o)).args.kinds (flow (whole o)) (start_of (start (whole o)).args.stand) o.on_group-first.result
     o.on_group-first.new.table (start (whole o)).args.log.now o.on_group-first.new.log (start (whole o)).args.times.now
     o.on_group-first.new.times
 goes o = rw o.start_along-start.ensures at o.on_group-first.ensures
@@ -96,10 +96,10 @@ complete-requires : tie.Need-complete-requires
 complete-requires c κs =
     let s = c.before.before.before.before.before.before.before.before.before.before.before in
     let w = (filled s).fed.work in
-    let z : 3 * c.group_words-size.result ≡ group_size s.args.stand.plan-1 = ap (λ (n : ℕ). 3 * n) c.group_words-size.ensures.0 in
-    let f : 3 * c.group_words-size.result - s.args.stand.waiting + s.args.stand.waiting ≡ group_size s.args.stand.plan-1 = omega (arith, z, w.part) in (
+    let z : 3 * c.group_words-size.result ≡ group_size s.args.stand.plan = ap (λ (n : ℕ). 3 * n) c.group_words-size.ensures.0 in
+    let f : 3 * c.group_words-size.result - s.args.stand.waiting + s.args.stand.waiting ≡ group_size s.args.stand.plan = omega (arith, z, w.part) in (
       w.long,
-      omega (arith, f, group_most s.args.stand.plan-1 w.shape),
+      omega (arith, f, group_most s.args.stand.plan w.shape),
       front-in s.args.state.now s.args.stand s.args.table.now s.args.piece.now _ _ s.args.filled (filled s) s.args.kinds s.requires.1 _ f,
     )
 
@@ -130,14 +130,14 @@ on_group-first-requires c κs =
     let t = c.start_along-start.ensures in
     rw t (
       (
-        first-ready a.state-1.now a.stand a.table-1.now a.piece.now _ _ a.filled (filled s) a.kinds s.requires.1 (front k) (fronted k),
+        first-ready a.state.now a.stand a.table.now a.piece.now _ _ a.filled (filled s) a.kinds s.requires.1 (front k) (fronted k),
         refl,
         record { slots_are = c.slots-count.ensures.0; dealt = r.dealt; built = r.built },
-        first_long a.state-1.now a.piece.now (group k) a.stand.waiting (front k) (size k) (fronted k ∙ sym (sized k)) (in_state k) (in_piece k) (group_is k) ∙ sized k,
-        first_small a.state-1.now a.stand a.table-1.now a.piece.now _ _ a.filled (filled s) a.kinds s.requires.1 (front k) (fronted k),
+        first_long a.state.now a.piece.now (group k) a.stand.waiting (front k) (size k) (fronted k ∙ sym (sized k)) (in_state k) (in_piece k) (group_is k) ∙ sized k,
+        first_small a.state.now a.stand a.table.now a.piece.now _ _ a.filled (filled s) a.kinds s.requires.1 (front k) (fronted k),
       ),
-      first-takes a.state-1.now a.stand a.table-1.now a.piece.now _ _ a.filled (filled s) a.kinds s.requires.1 (front k) (fronted k) (flow k) (flows k) a.log-1.now
-          a.times-1.now refl refl,
+      first-takes a.state.now a.stand a.table.now a.piece.now _ _ a.filled (filled s) a.kinds s.requires.1 (front k) (fronted k) (flow k) (flows k) a.log.now
+          a.times.now refl refl,
     )
 
 overflow_sub-filled : tie.Need-overflow_sub-filled
@@ -150,11 +150,11 @@ on_piece-requires c κs =
     let s = start k in
     let a = s.args in
     let r = s.requires.2 in
-    let b : List ℕ = a.state-1.now in
+    let b : List ℕ = a.state.now in
     let F = filled s in (
       (
         F.fed.work.shape,
-        next-ready b a.stand a.table-1.now a.piece.now _ _ a.filled F a.kinds s.requires.1 (front k) (fronted k) (flow k) (flows k) a.log-1.now a.times-1.now refl refl (goes o),
+        next-ready b a.stand a.table.now a.piece.now _ _ a.filled F a.kinds s.requires.1 (front k) (fronted k) (flow k) (flows k) a.log.now a.times.now refl refl (goes o),
         record {
           slots_are = o.slots-count.ensures.0;
           dealt = omega
@@ -162,12 +162,12 @@ on_piece-requires c κs =
           built = omega
               (arith, r.built, c.out-1.given);
         },
-        others-in b a.stand a.table-1.now a.piece.now _ _ a.filled F a.kinds s.requires.1 (front k) (fronted k),
+        others-in b a.stand a.table.now a.piece.now _ _ a.filled F a.kinds s.requires.1 (front k) (fronted k),
         F.fed.short,
       ),
       (
-        next-count b a.stand a.table-1.now a.piece.now _ _ a.filled F a.kinds s.requires.1 (front k) (fronted k) (flow k) (flows k) a.log-1.now a.times-1.now refl refl (goes o),
-        next-takes b a.stand a.table-1.now a.piece.now _ _ a.filled F a.kinds s.requires.1 (front k) (fronted k) (flow k) (flows k) a.log-1.now a.times-1.now refl refl (goes o)
+        next-count b a.stand a.table.now a.piece.now _ _ a.filled F a.kinds s.requires.1 (front k) (fronted k) (flow k) (flows k) a.log.now a.times.now refl refl (goes o),
+        next-takes b a.stand a.table.now a.piece.now _ _ a.filled F a.kinds s.requires.1 (front k) (fronted k) (flow k) (flows k) a.log.now a.times.now refl refl (goes o)
             c.log-1.given c.times-1.given,
       ),
     )
@@ -198,8 +198,8 @@ returns c =
     let k = whole o in
     let s = start k in
     let a = s.args in
-    through-goes a.state-1.now a.stand a.table-1.now a.piece.now _ _ a.filled (filled s) a.kinds s.requires.1 (front k) (fronted k) (flow k) (flows k) a.log-1.now
-    a.times-1.now refl refl (goes o) c.on_piece.ensures
+    through-goes a.state.now a.stand a.table.now a.piece.now _ _ a.filled (filled s) a.kinds s.requires.1 (front k) (fronted k) (flow k) (flows k) a.log.now
+    a.times.now refl refl (goes o) c.on_piece.ensures
 
 pub through_spec : {M : Type 1} → statement M
 through_spec =
