@@ -1,10 +1,10 @@
 # make                      prove and build the library, the lister and the tool: target/tool/vin
-# make NATIVE=yes           the same for this processor where it is not x86-64: target/native/vin
+# make NATIVE=yes           the library and the tool for this processor where it is not x86-64: target/native/vin
 # make install PREFIX=DIR   header, archive, pkg-config file, tool, manual and completion under DIR (default /usr/local)
-# make test                 the gate, .ci/run: everything from nothing
+# make test                 the gate, .ci/run
 #
-# All programs are for x86-64. On another processor they are made by the cross compiler and run under the emulator RUNNER;
-# with NATIVE=yes the modules that the proved crates were compiled to are compiled for that processor instead.
+# All programs are for x86-64, for which alone the kit links. On another processor they are made by the cross compiler and run under the
+# emulator RUNNER; with NATIVE=yes the kit builds the library for that processor, and there is no lister.
 VERSION := $(shell sed -n 's/^\#define VIN_VERSION "\(.*\)"/\1/p' include/vinculampe.h)
 PREFIX ?= /usr/local
 CFLAGS ?= -O2
@@ -14,7 +14,6 @@ ifneq ($(MACHINE),x86_64)
 ifneq ($(NATIVE),)
 OUT := target/native
 ARCHIVE ?= target/native/libvinculampe.a
-LISTER ?= target/native/lister
 PROCESSOR := $(MACHINE)
 else
 CROSS := x86_64-linux-gnu-
@@ -30,39 +29,29 @@ CC := $(CROSS)gcc
 endif
 
 # Where programs need the runner, they stand in a folder of their own, and a script in their place runs each.
-programs := vin vin-lister
+programs := vin $(if $(filter $(PROCESSOR),x86-64),vin-lister)
 folder := $(if $(RUNNER),/x86-64)
 built := $(programs:%=$(OUT)$(folder)/%)
 runner_words := $(foreach word,$(RUNNER),"$(word)",)
 flags := -std=c11 -Wall -Wextra -Wpedantic -Werror $(CFLAGS) -DRUNNER='$(runner_words)'
 objects := $(patsubst tools/%.c,$(OUT)/objects/%.o,$(wildcard tools/*.c tools/commands/*.c))
-proved := $(shell find crates crates.txt -type f -not -path '*/must-fail/*')
+proved := $(shell find crates crates.txt -type f -not -path '*/must-fail/*' -not -path '*/out/*')
 
 all: $(built) $(if $(RUNNER),$(programs:%=$(OUT)/%))
 
-# The proofs: minutes the first time. The lister's and those of the crates that the library is made of at once, so that every
-# processor is used; then the library's own.
-parts := $(shell sed -n 's/^vinculampe://p' crates.txt)
+# The proofs: minutes the first time.
 need = @command -v $(firstword $(1)) >/dev/null || { echo "$(firstword $(1)) is missing$(2); see README.md" >&2; exit 1; }
 need_rt = $(call need,rt,: install the Rattle kit)
 target/bin/lister: $(proved)
 	$(need_rt)
-	@echo "the proofs take some minutes the first time"
-	rt check lister $(parts)
-	@touch $@
+	tools/proved lister $@
 
 target/staticlib/libvinculampe.a: $(proved) | target/bin/lister
 	$(need_rt)
-	rt staticlib vinculampe
+	tools/proved library $@
 
-target/native/lister: $(proved) tools/native/module | target/bin/lister
-	tools/native/module lister target/native/objects/lister-module.o
-	$(CC) target/native/objects/lister-module.o -o $@
-
-target/native/libvinculampe.a: $(proved) $(wildcard tools/native/*) include/vinculampe.h | target/bin/lister
-	tools/native/module library target/native/objects/library-module.o
-	rm -f $@
-	ar rcs $@ target/native/objects/library-module.o
+target/native/libvinculampe.a: $(proved) tools/native/module | target/staticlib/libvinculampe.a
+	tools/native/module $@
 
 $(OUT)/objects/%.o: tools/%.c $(wildcard tools/*.h) include/vinculampe.h Makefile
 	$(call need,$(CC))

@@ -1,42 +1,42 @@
 // A named case's line: its name, then a letter and the numbers of each call, and `differs` where they are not as they must be.
 
 use crate::calls::Outcome;
+use std::io::{self, Write};
 
-pub(crate) fn say_number(number: u64) {
-    io::write_all(1, b" ");
-    io::print_decimal(1, number);
+pub(crate) fn say_number(to: &mut impl Write, number: u64) -> io::Result<()> {
+    write!(to, " {number}")
 }
 
-pub(crate) fn name(letters: &[u8], number: u32) {
-    io::write_all(1, letters);
-    say_number(number as u64);
-    io::write_all(1, b":");
+pub(crate) fn name(to: &mut impl Write, letters: &[u8], number: u32) -> io::Result<()> {
+    to.write_all(letters)?;
+    say_number(to, number as u64)?;
+    to.write_all(b":")
 }
 
 // =NAME: begins a line.
-pub(crate) fn say_name(line: &[u8]) {
+pub(crate) fn say_name(to: &mut impl Write, line: &[u8]) -> io::Result<()> {
     if 1 < line.len() {
-        io::write_all(1, &line[1..]);
+        to.write_all(&line[1..])?;
     }
-    io::write_all(1, b":");
+    to.write_all(b":")
 }
 
-pub(crate) fn end_line() {
-    io::write_all(1, b"\n");
+pub(crate) fn end_line(to: &mut impl Write) -> io::Result<()> {
+    to.write_all(b"\n")
 }
 
-pub(crate) fn say_unknown() {
-    io::write_all(1, b" unknown");
+pub(crate) fn say_unknown(to: &mut impl Write) -> io::Result<()> {
+    to.write_all(b" unknown")
 }
 
-fn say_answer(o: Outcome) {
-    say_number(o.number as u64);
-    say_number(o.place);
-    say_number(o.second);
-    say_number(o.bytes);
-    say_number(o.times);
-    say_number(o.first_digest);
-    say_number(o.second_digest);
+fn say_answer(to: &mut impl Write, o: Outcome) -> io::Result<()> {
+    say_number(to, o.number as u64)?;
+    say_number(to, o.place)?;
+    say_number(to, o.second)?;
+    say_number(to, o.bytes)?;
+    say_number(to, o.times)?;
+    say_number(to, o.first_digest)?;
+    say_number(to, o.second_digest)
 }
 
 // "On success: number 0, place 0 and the lengths written": so many bytes.
@@ -60,11 +60,18 @@ fn is_asked(o: Outcome, number: u64, value: u64, second: u64) -> bool {
     refuses(o, number, value)
 }
 
-pub(crate) fn say_checked(letters: &[u8], o: Outcome, number: u64, value: u64, second: u64) {
-    io::write_all(1, letters);
-    say_answer(o);
+pub(crate) fn say_checked(
+    to: &mut impl Write,
+    letters: &[u8],
+    o: Outcome,
+    number: u64,
+    value: u64,
+    second: u64,
+) -> io::Result<()> {
+    to.write_all(letters)?;
+    say_answer(to, o)?;
     if is_asked(o, number, value, second) {
-        return;
+        return Ok(());
     }
-    io::write_all(1, b" differs");
+    to.write_all(b" differs")
 }

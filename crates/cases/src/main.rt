@@ -17,10 +17,12 @@ mod text;
 
 use crate::named::named_cases;
 use crate::random::random_cases;
+use std::io;
+use whole_input::read_full;
 
-fn main() {
+fn main(rt: HostRuntime) -> io::Result<()> {
     let mut text = [0; 65536];
-    let size = io::read_full(0, &mut text);
-    named_cases(&text[..size]);
-    random_cases();
+    let size = read_full(&mut rt.stdin(), &mut text)?;
+    named_cases(&mut rt.stdout(), &text[..size])?;
+    random_cases(&mut rt.stdout())
 }

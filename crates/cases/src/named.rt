@@ -10,6 +10,7 @@ use crate::captures::fill_of;
 use crate::lines::{end_line, say_checked, say_name, say_unknown};
 use crate::runs::{put, put_time, put_word, turn};
 use crate::text::{letter, line_end, number, size, small};
+use std::io::{self, Write};
 
 // p WORDS TRACKS FRAME_TIME CRC PARITY KINDS: a plan; KINDS has a hexadecimal digit a bus
 fn plan_line(line: &[u8]) -> Numbers {
@@ -118,7 +119,14 @@ fn make_line(
 }
 
 // c LOG TIMES OUT NUMBER VALUE: composes so many bytes of log and times into the capture's first OUT
-fn compose_line(line: &[u8], p: Numbers, log: &[u8], times: &[u8], capture: &mut [u8]) {
+fn compose_line(
+    to: &mut impl Write,
+    line: &[u8],
+    p: Numbers,
+    log: &[u8],
+    times: &[u8],
+    capture: &mut [u8],
+) -> io::Result<()> {
     let composed = composing(
         p,
         log,
@@ -128,10 +136,10 @@ fn compose_line(line: &[u8], p: Numbers, log: &[u8], times: &[u8], capture: &mut
         capture,
         size(line, 3),
     );
-    say_checked(b" c", composed, number(line, 4), number(line, 5), 0);
+    say_checked(to, b" c", composed, number(line, 4), number(line, 5), 0)
 }
 
-fn read_plain(line: &[u8], p: Numbers, capture: &[u8]) {
+fn read_plain(to: &mut impl Write, line: &[u8], p: Numbers, capture: &[u8]) -> io::Result<()> {
     let read = reading(
         false,
         p,
@@ -141,18 +149,19 @@ fn read_plain(line: &[u8], p: Numbers, capture: &[u8]) {
         size(line, 3),
     );
     say_checked(
+        to,
         b" r",
         read,
         number(line, 4),
         number(line, 5),
         number(line, 6),
-    );
+    )
 }
 
 // r CAPTURE LOG TIMES NUMBER VALUE SECOND NUMBER VALUE SECOND: both readings of so many bytes of capture into so many of log and times; the
 // plain one's answer, and the closed one's
-fn read_both(line: &[u8], p: Numbers, capture: &[u8]) {
-    read_plain(line, p, capture);
+fn read_both(to: &mut impl Write, line: &[u8], p: Numbers, capture: &[u8]) -> io::Result<()> {
+    read_plain(to, line, p, capture)?;
     let read = reading(
         true,
         p,
@@ -162,12 +171,13 @@ fn read_both(line: &[u8], p: Numbers, capture: &[u8]) {
         size(line, 3),
     );
     say_checked(
+        to,
         b" x",
         read,
         number(line, 7),
         number(line, 8),
         number(line, 9),
-    );
+    )
 }
 
 // k LENGTH: the plan with only so many kinds lent; y LABEL BUS: the whole plan, with a label and a fill bus code
@@ -181,18 +191,25 @@ fn plan_of(line: &[u8], p: Numbers) -> Numbers {
 }
 
 // A letter that says nothing is no case: it is told.
-fn say_line(line: &[u8], p: Numbers, log: &[u8], times: &[u8], capture: &mut [u8]) {
+fn say_line(
+    to: &mut impl Write,
+    line: &[u8],
+    p: Numbers,
+    log: &[u8],
+    times: &[u8],
+    capture: &mut [u8],
+) -> io::Result<()> {
     match letter(line) {
-        b'=' => say_name(line),
-        b'c' => compose_line(line, p, log, times, capture),
-        b'r' => read_both(line, p, capture),
-        b'\n' => end_line(),
-        b'#' | b'p' | b'k' | b'y' | b'l' | b'i' | b't' | b'f' | b'n' | b'w' | b'v' => (),
-        _ => say_unknown(),
+        b'=' => say_name(to, line),
+        b'c' => compose_line(to, line, p, log, times, capture),
+        b'r' => read_both(to, line, p, capture),
+        b'\n' => end_line(to),
+        b'#' | b'p' | b'k' | b'y' | b'l' | b'i' | b't' | b'f' | b'n' | b'w' | b'v' => Ok(()),
+        _ => say_unknown(to),
     }
 }
 
-pub(crate) fn named_cases(text: &[u8]) {
+pub(crate) fn named_cases(to: &mut impl Write, text: &[u8]) -> io::Result<()> {
     let mut log = [0; 32769];
     let mut times = [0; 1024];
     let mut capture = [0; 32768];
@@ -204,7 +221,8 @@ pub(crate) fn named_cases(text: &[u8]) {
         let next = end + 1;
         bit = make_line(&text[at..end], p, &mut log, bit, &mut times, &mut capture);
         p = plan_of(&text[at..end], p);
-        say_line(&text[at..end], p, &log, &times, &mut capture);
+        say_line(to, &text[at..end], p, &log, &times, &mut capture)?;
         at = next;
     }
+    Ok(())
 }

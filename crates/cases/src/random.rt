@@ -7,6 +7,7 @@ use crate::digest::fold;
 use crate::draws::{draw, draw_plan, faulty, spoil_plan};
 use crate::lines::{end_line, name, say_number};
 use crate::logs::{draw_log, draw_times};
+use std::io::{self, Write};
 
 fn fold_outcome(digest: &mut u64, o: Outcome) {
     let answered = fold(fold(fold(*digest, o.number as u64), o.place), o.second);
@@ -150,23 +151,24 @@ fn random_case(seed: &mut u64, digest: &mut u64) {
     }
 }
 
-fn random_block(seed: &mut u64, block: u32) {
+fn random_block(to: &mut impl Write, seed: &mut u64, block: u32) -> io::Result<()> {
     let mut digest = 0;
     let mut n: u32 = 0;
     while n < 200 {
         random_case(seed, &mut digest);
         n += 1;
     }
-    name(b"block", block);
-    say_number(digest);
-    end_line();
+    name(to, b"block", block)?;
+    say_number(to, digest)?;
+    end_line(to)
 }
 
-pub(crate) fn random_cases() {
+pub(crate) fn random_cases(to: &mut impl Write) -> io::Result<()> {
     let mut seed = 20241001;
     let mut block = 0;
     while block < 10 {
-        random_block(&mut seed, block);
+        random_block(to, &mut seed, block)?;
         block += 1;
     }
+    Ok(())
 }

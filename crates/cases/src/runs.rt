@@ -1,7 +1,7 @@
 // Runs of bytes, written by bits and by words. What would stand past the end of a run is not written.
 
 ghost use Rattle.std.specs.Prelude.{◌<◌, ◌≤◌};
-ghost use Rattle.io.specs.Counts.{IsPrefixLen};
+ghost use Rattle.whole_input.specs.Counts.{IsPrefixLen};
 
 // So many bytes, or all if there are fewer.
 pub(crate) fn part(bytes: &[u8], size: usize) -> usize

@@ -4,30 +4,30 @@ use crate::digest::digest_of;
 use crate::fields::number;
 use crate::runs::{no_bytes, run};
 use format::Answer;
+use std::io::{self, Write};
 
 // A line that says nothing is no case: it is told.
-pub(crate) fn say_unknown() {
-    io::write_all(1, b"unknown\n");
+pub(crate) fn say_unknown(to: &mut impl Write) -> io::Result<()> {
+    to.write_all(b"unknown\n")
 }
 
-pub(crate) fn say_number(number: u64) {
-    io::write_all(1, b" ");
-    io::print_decimal(1, number);
+pub(crate) fn say_number(to: &mut impl Write, number: u64) -> io::Result<()> {
+    write!(to, " {number}")
 }
 
-pub(crate) fn say_answer(a: Answer) {
-    say_number(a.number as u64);
-    say_number(a.place);
-    say_number(a.second);
-    say_number(a.bytes);
-    say_number(a.times);
+pub(crate) fn say_answer(to: &mut impl Write, a: Answer) -> io::Result<()> {
+    say_number(to, a.number as u64)?;
+    say_number(to, a.place)?;
+    say_number(to, a.second)?;
+    say_number(to, a.bytes)?;
+    say_number(to, a.times)
 }
 
-pub(crate) fn say_unless(good: bool) {
+pub(crate) fn say_unless(to: &mut impl Write, good: bool) -> io::Result<()> {
     if good {
-        return;
+        return Ok(());
     }
-    io::write_all(1, b" differs");
+    to.write_all(b" differs")
 }
 
 // "On success: number 0, place 0 and the lengths written": so many bytes. "A refusal returns number, place and lengths 0."
@@ -60,29 +60,54 @@ pub(crate) fn is_made(bytes: u64, out: &[u8], asked: &[u8]) -> bool {
     bytes == end as u64 && begins(out, &made[..end])
 }
 
-fn say_checked(a: Answer, out: &[u8], asked: &[u8]) {
-    say_unless(a.second == 0 && is_asked(a, number(asked, 1), number(asked, 2)));
-    say_unless(is_made(a.bytes, out, asked));
+fn say_checked(to: &mut impl Write, a: Answer, out: &[u8], asked: &[u8]) -> io::Result<()> {
+    say_unless(
+        to,
+        a.second == 0 && is_asked(a, number(asked, 1), number(asked, 2)),
+    )?;
+    say_unless(to, is_made(a.bytes, out, asked))
 }
 
 // Without the line's end, for a call that has more to say.
-pub(crate) fn say_call(name: &[u8], a: Answer, out: &[u8], asked: &[u8]) {
-    io::write_all(1, name);
-    say_answer(a);
-    say_number(digest_of(out));
-    say_checked(a, out, asked);
+pub(crate) fn say_call(
+    to: &mut impl Write,
+    name: &[u8],
+    a: Answer,
+    out: &[u8],
+    asked: &[u8],
+) -> io::Result<()> {
+    to.write_all(name)?;
+    say_answer(to, a)?;
+    say_number(to, digest_of(out))?;
+    say_checked(to, a, out, asked)
 }
 
-pub(crate) fn say_made(name: &[u8], a: Answer, out: &[u8], asked: &[u8]) {
-    say_call(name, a, out, asked);
-    io::write_all(1, b"\n");
+pub(crate) fn say_made(
+    to: &mut impl Write,
+    name: &[u8],
+    a: Answer,
+    out: &[u8],
+    asked: &[u8],
+) -> io::Result<()> {
+    say_call(to, name, a, out, asked)?;
+    to.write_all(b"\n")
 }
 
 // The same where a refusal may have a second place, which is asked for behind what is made: so many bytes of `out`.
-pub(crate) fn say_found(name: &[u8], a: Answer, bytes: u64, out: &[u8], asked: &[u8]) {
-    io::write_all(1, name);
-    say_answer(a);
-    say_number(digest_of(out));
-    say_unless(a.second == number(asked, 4) && is_asked(a, number(asked, 1), number(asked, 2)));
-    say_unless(is_made(bytes, out, asked));
+pub(crate) fn say_found(
+    to: &mut impl Write,
+    name: &[u8],
+    a: Answer,
+    bytes: u64,
+    out: &[u8],
+    asked: &[u8],
+) -> io::Result<()> {
+    to.write_all(name)?;
+    say_answer(to, a)?;
+    say_number(to, digest_of(out))?;
+    say_unless(
+        to,
+        a.second == number(asked, 4) && is_asked(a, number(asked, 1), number(asked, 2)),
+    )?;
+    say_unless(to, is_made(bytes, out, asked))
 }

@@ -9,23 +9,31 @@ use crate::plans::numbers;
 use crate::runs::{no_bytes, part, room, run};
 use crate::words::say_times;
 use format::Answer;
+use std::io::{self, Write};
 
 // ---- What is said
 
 // The answer asked for, and the log: a refusal may have both.
-fn say_handed(a: Answer, bytes: u64, log: &[u8], asked: &[u8]) {
-    say_number(digest_of(log));
+fn say_handed(
+    to: &mut impl Write,
+    a: Answer,
+    bytes: u64,
+    log: &[u8],
+    asked: &[u8],
+) -> io::Result<()> {
+    say_number(to, digest_of(log))?;
     say_unless(
+        to,
         a.number as u64 == number(asked, 1)
             && a.place == number(asked, 2)
             && a.second == number(asked, 4),
-    );
-    say_unless(is_made(bytes, log, asked));
+    )?;
+    say_unless(to, is_made(bytes, log, asked))
 }
 
-fn say_state(state: &[u8]) {
-    say_number(digest_of(state));
-    io::write_all(1, b"\n");
+fn say_state(to: &mut impl Write, state: &[u8]) -> io::Result<()> {
+    say_number(to, digest_of(state))?;
+    to.write_all(b"\n")
 }
 
 // ---- A capture cut in two
@@ -106,16 +114,23 @@ fn first_refused(first: Answer, then: Answer) -> Answer {
     then
 }
 
-fn say_calls(opened: Answer, first: Answer, second: Answer, closed: Answer) {
-    io::write_all(1, b"cut");
-    say_answer(opened);
-    say_answer(first);
-    say_answer(second);
-    say_answer(closed);
+fn say_calls(
+    to: &mut impl Write,
+    opened: Answer,
+    first: Answer,
+    second: Answer,
+    closed: Answer,
+) -> io::Result<()> {
+    to.write_all(b"cut")?;
+    say_answer(to, opened)?;
+    say_answer(to, first)?;
+    say_answer(to, second)?;
+    say_answer(to, closed)
 }
 
 // What the calls handed out stands one behind the other.
 fn say_cut(
+    to: &mut impl Write,
     opened: Answer,
     first: Answer,
     second: Answer,
@@ -123,20 +138,22 @@ fn say_cut(
     log: &[u8],
     times: &[u8],
     asked: &[u8],
-) {
+) -> io::Result<()> {
     let end = first_refused(opened, first_refused(first, first_refused(second, closed)));
-    say_calls(opened, first, second, closed);
+    say_calls(to, opened, first, second, closed)?;
     say_handed(
+        to,
         end,
         both(both(first.bytes, second.bytes), closed.bytes),
         log,
         asked,
-    );
-    say_times(both(first.times, second.times), times, asked);
-    io::write_all(1, b"\n");
+    )?;
+    say_times(to, both(first.times, second.times), times, asked)?;
+    to.write_all(b"\n")
 }
 
 fn cut_close(
+    to: &mut impl Write,
     line: &[u8],
     asked: &[u8],
     state: &mut [u8],
@@ -145,12 +162,13 @@ fn cut_close(
     opened: Answer,
     first: Answer,
     second: Answer,
-) {
+) -> io::Result<()> {
     let closed = close_behind(line, state, log, both(first.bytes, second.bytes));
-    say_cut(opened, first, second, closed, log, times, asked);
+    say_cut(to, opened, first, second, closed, log, times, asked)
 }
 
 fn cut_second(
+    to: &mut impl Write,
     line: &[u8],
     asked: &[u8],
     state: &mut [u8],
@@ -159,24 +177,26 @@ fn cut_second(
     times: &mut [u8],
     opened: Answer,
     first: Answer,
-) {
+) -> io::Result<()> {
     let second = feed_behind(line, state, rest, log, times, first.bytes, first.times);
-    cut_close(line, asked, state, log, times, opened, first, second);
+    cut_close(to, line, asked, state, log, times, opened, first, second)
 }
 
 // Opened; the capture's first bytes fed, then the rest; closed.
 fn cut_run(
+    to: &mut impl Write,
     line: &[u8],
     asked: &[u8],
     state: &mut [u8],
     capture: &[u8],
     log: &mut [u8],
     times: &mut [u8],
-) {
+) -> io::Result<()> {
     let opened = open_line(line, state);
     let cut = part(capture, size(line, 10));
     let first = feed_behind(line, state, &capture[..cut], log, times, 0, 0);
     cut_second(
+        to,
         line,
         asked,
         state,
@@ -185,37 +205,45 @@ fn cut_run(
         times,
         opened,
         first,
-    );
+    )
 }
 
-pub(crate) fn cut_line(line: &[u8], asked: &[u8]) {
+pub(crate) fn cut_line(to: &mut impl Write, line: &[u8], asked: &[u8]) -> io::Result<()> {
     let mut capture = no_bytes();
     let mut log = room();
     let mut times = [0xA5u8; 1024];
     let mut state = [0u8; 7168];
     let capture_end = run(line, 9, &mut capture);
     cut_run(
+        to,
         line,
         asked,
         &mut state,
         &capture[..capture_end],
         &mut log,
         &mut times,
-    );
+    )
 }
 
 // ---- A state
 
-fn add_run(asked: &[u8], state: &mut [u8], piece: &[u8], log: &mut [u8], times: &mut [u8]) {
+fn add_run(
+    to: &mut impl Write,
+    asked: &[u8],
+    state: &mut [u8],
+    piece: &[u8],
+    log: &mut [u8],
+    times: &mut [u8],
+) -> io::Result<()> {
     let a = vinculampe::vin_stream_feed(state, piece, log, times);
-    io::write_all(1, b"add");
-    say_answer(a);
-    say_handed(a, a.bytes, log, asked);
-    say_times(a.times, times, asked);
-    say_state(state);
+    to.write_all(b"add")?;
+    say_answer(to, a)?;
+    say_handed(to, a, a.bytes, log, asked)?;
+    say_times(to, a.times, times, asked)?;
+    say_state(to, state)
 }
 
-pub(crate) fn add_line(line: &[u8], asked: &[u8]) {
+pub(crate) fn add_line(to: &mut impl Write, line: &[u8], asked: &[u8]) -> io::Result<()> {
     let mut state = [0; 8000];
     let mut piece = [0; 8000];
     let mut log = room();
@@ -225,26 +253,27 @@ pub(crate) fn add_line(line: &[u8], asked: &[u8]) {
     let log_end = part(&log, size(line, 3));
     let times_end = part(&times, size(line, 4));
     add_run(
+        to,
         asked,
         &mut state[..state_end],
         &piece[..piece_end],
         &mut log[..log_end],
         &mut times[..times_end],
-    );
+    )
 }
 
-fn end_run(asked: &[u8], state: &mut [u8], log: &mut [u8]) {
+fn end_run(to: &mut impl Write, asked: &[u8], state: &mut [u8], log: &mut [u8]) -> io::Result<()> {
     let a = vinculampe::vin_stream_close(state, log);
-    io::write_all(1, b"end");
-    say_answer(a);
-    say_handed(a, a.bytes, log, asked);
-    say_state(state);
+    to.write_all(b"end")?;
+    say_answer(to, a)?;
+    say_handed(to, a, a.bytes, log, asked)?;
+    say_state(to, state)
 }
 
-pub(crate) fn end_line(line: &[u8], asked: &[u8]) {
+pub(crate) fn end_line(to: &mut impl Write, line: &[u8], asked: &[u8]) -> io::Result<()> {
     let mut state = [0; 8000];
     let mut log = room();
     let state_end = run(line, 1, &mut state);
     let log_end = part(&log, size(line, 2));
-    end_run(asked, &mut state[..state_end], &mut log[..log_end]);
+    end_run(to, asked, &mut state[..state_end], &mut log[..log_end])
 }

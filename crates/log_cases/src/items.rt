@@ -5,8 +5,15 @@ use crate::fields::size;
 use crate::plans::numbers;
 use crate::runs::{no_bytes, part, room, run};
 use crate::words::{gather, words_part};
+use std::io::{self, Write};
 
-fn items_run(line: &[u8], asked: &[u8], words: &[u32], out: &mut [u8]) {
+fn items_run(
+    to: &mut impl Write,
+    line: &[u8],
+    asked: &[u8],
+    words: &[u32],
+    out: &mut [u8],
+) -> io::Result<()> {
     let mut kinds = [0; 32];
     let kinds_end = run(line, 8, &mut kinds);
     let p = numbers(line);
@@ -22,11 +29,11 @@ fn items_run(line: &[u8], asked: &[u8], words: &[u32], out: &mut [u8]) {
         words,
         out,
     );
-    say_found(b"items", a, a.bytes, out, asked);
-    io::write_all(1, b"\n");
+    say_found(to, b"items", a, a.bytes, out, asked)?;
+    to.write_all(b"\n")
 }
 
-pub(crate) fn items_line(line: &[u8], asked: &[u8]) {
+pub(crate) fn items_line(to: &mut impl Write, line: &[u8], asked: &[u8]) -> io::Result<()> {
     let mut bytes = no_bytes();
     let mut words = [0u32; 10000];
     let mut out = room();
@@ -34,5 +41,5 @@ pub(crate) fn items_line(line: &[u8], asked: &[u8]) {
     let count = gather(&bytes[..bytes_end], &mut words);
     let words_end = words_part(&words, count);
     let out_end = part(&out, size(line, 10));
-    items_run(line, asked, &words[..words_end], &mut out[..out_end]);
+    items_run(to, line, asked, &words[..words_end], &mut out[..out_end])
 }

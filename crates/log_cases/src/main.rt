@@ -31,48 +31,51 @@ use crate::replay::replay_line;
 use crate::salvage::salvage_line;
 use crate::shift::shift_line;
 use crate::slots::slots_line;
+use std::io::{self, Write};
+use whole_input::read_full;
 
 // A call is told by its second letter: pick, join, shift, profile, replay, slots, items, salvage, cut, add, end.
-fn call_line(letter: u8, line: &[u8], asked: &[u8]) {
+fn call_line(to: &mut impl Write, letter: u8, line: &[u8], asked: &[u8]) -> io::Result<()> {
     match letter {
-        b'i' => pick_line(line, asked),
-        b'o' => join_line(line, asked),
-        b'h' => shift_line(line, asked),
-        b'r' => profile_line(line, asked),
-        b'e' => replay_line(line, asked),
-        b'l' => slots_line(line, asked),
-        b't' => items_line(line, asked),
-        b'a' => salvage_line(line, asked),
-        b'u' => cut_line(line, asked),
-        b'd' => add_line(line, asked),
-        b'n' => end_line(line, asked),
-        _ => say_unknown(),
+        b'i' => pick_line(to, line, asked),
+        b'o' => join_line(to, line, asked),
+        b'h' => shift_line(to, line, asked),
+        b'r' => profile_line(to, line, asked),
+        b'e' => replay_line(to, line, asked),
+        b'l' => slots_line(to, line, asked),
+        b't' => items_line(to, line, asked),
+        b'a' => salvage_line(to, line, asked),
+        b'u' => cut_line(to, line, asked),
+        b'd' => add_line(to, line, asked),
+        b'n' => end_line(to, line, asked),
+        _ => say_unknown(to),
     }
 }
 
 // Empty lines and comments are passed over.
-fn one_line(line: &[u8]) {
+fn one_line(to: &mut impl Write, line: &[u8]) -> io::Result<()> {
     if line.len() < 2 {
-        return;
+        return Ok(());
     }
     if line[0] == b'#' {
-        return;
+        return Ok(());
     }
     let at = arrow(line);
-    call_line(line[1], line, &line[at..]);
+    call_line(to, line[1], line, &line[at..])
 }
 
-fn all_lines(text: &[u8]) {
+fn all_lines(to: &mut impl Write, text: &[u8]) -> io::Result<()> {
     let mut at = 0;
     while at < text.len() {
         let end = line_end(text, at);
-        one_line(&text[at..end]);
+        one_line(to, &text[at..end])?;
         at = end + 1;
     }
+    Ok(())
 }
 
-fn main() {
+fn main(rt: HostRuntime) -> io::Result<()> {
     let mut text = [0; 65536];
-    let size = io::read_full(0, &mut text);
-    all_lines(&text[..size]);
+    let size = read_full(&mut rt.stdin(), &mut text)?;
+    all_lines(&mut rt.stdout(), &text[..size])
 }

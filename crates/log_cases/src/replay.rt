@@ -4,6 +4,7 @@ use crate::answers::{is_made, say_number, say_unless};
 use crate::digest::digest_of;
 use crate::fields::{number, size, small};
 use crate::runs::{no_bytes, part, room, run};
+use std::io::{self, Write};
 
 // "words sent, items lost, words held"
 #[derive(Clone, Copy)]
@@ -13,10 +14,10 @@ struct Counts {
     held: u64,
 }
 
-fn say_counts(counts: Counts) {
-    say_number(counts.sent);
-    say_number(counts.lost);
-    say_number(counts.held);
+fn say_counts(to: &mut impl Write, counts: Counts) -> io::Result<()> {
+    say_number(to, counts.sent)?;
+    say_number(to, counts.lost)?;
+    say_number(to, counts.held)
 }
 
 // Of a refusal they are 0, as every length is.
@@ -40,30 +41,38 @@ fn answer_asked(refused_by: u64, place: u64, bytes: u64, asked: &[u8]) -> bool {
     place == number(asked, 2) && bytes == 0
 }
 
-fn replay_run(line: &[u8], asked: &[u8], log: &[u8], events: &[u8], out: &mut [u8]) {
+fn replay_run(
+    to: &mut impl Write,
+    line: &[u8],
+    asked: &[u8],
+    log: &[u8],
+    events: &[u8],
+    out: &mut [u8],
+) -> io::Result<()> {
     let a = vinculampe::vin_replay(log, events, small(line, 3), small(line, 4), out);
     let counts = Counts {
         sent: a.sent,
         lost: a.lost,
         held: a.held,
     };
-    io::write_all(1, b"replay");
-    say_number(a.number as u64);
-    say_number(a.place);
-    say_number(a.second);
-    say_number(a.bytes);
-    say_counts(counts);
-    say_number(digest_of(out));
+    to.write_all(b"replay")?;
+    say_number(to, a.number as u64)?;
+    say_number(to, a.place)?;
+    say_number(to, a.second)?;
+    say_number(to, a.bytes)?;
+    say_counts(to, counts)?;
+    say_number(to, digest_of(out))?;
     say_unless(
+        to,
         a.second == 0
             && answer_asked(a.number as u64, a.place, a.bytes, asked)
             && counts_asked(counts, a.number == 0, asked),
-    );
-    say_unless(is_made(a.bytes, out, asked));
-    io::write_all(1, b"\n");
+    )?;
+    say_unless(to, is_made(a.bytes, out, asked))?;
+    to.write_all(b"\n")
 }
 
-pub(crate) fn replay_line(line: &[u8], asked: &[u8]) {
+pub(crate) fn replay_line(to: &mut impl Write, line: &[u8], asked: &[u8]) -> io::Result<()> {
     let mut log = no_bytes();
     let mut events = [0; 65600];
     let mut out = room();
@@ -71,10 +80,11 @@ pub(crate) fn replay_line(line: &[u8], asked: &[u8]) {
     let events_end = run(line, 2, &mut events);
     let out_end = part(&out, size(line, 5));
     replay_run(
+        to,
         line,
         asked,
         &log[..log_end],
         &events[..events_end],
         &mut out[..out_end],
-    );
+    )
 }

@@ -1,7 +1,7 @@
 // Runs of bytes as a line has them: 80*3,00 is 80 80 80 00. What would stand past the end of the room is not written.
 
 ghost use Rattle.std.specs.Prelude.{◌<◌, ◌≤◌, length};
-ghost use Rattle.io.specs.Counts.{IsPrefixLen};
+ghost use Rattle.whole_input.specs.Counts.{IsPrefixLen};
 
 use crate::fields::{digit, digits, field};
 

@@ -4,6 +4,7 @@ use crate::answers::{begins, say_call, say_number, say_unless};
 use crate::digest::digest_of;
 use crate::fields::{digits, field, number, size};
 use crate::runs::{no_bytes, part, room, run};
+use std::io::{self, Write};
 
 fn forward(value: u64) -> i64 {
     if value < 9223372036854775808 {
@@ -37,19 +38,26 @@ fn is_row(times: &[u8], asked: &[u8]) -> bool {
 }
 
 // The row's digest, and whether so many entries were counted and it holds what is asked for.
-fn say_row(entries: u64, times: &[u8], asked: &[u8]) {
-    say_number(digest_of(times));
-    say_unless(entries == number(asked, 4) && is_row(times, asked));
-    io::write_all(1, b"\n");
+fn say_row(to: &mut impl Write, entries: u64, times: &[u8], asked: &[u8]) -> io::Result<()> {
+    say_number(to, digest_of(times))?;
+    say_unless(to, entries == number(asked, 4) && is_row(times, asked))?;
+    to.write_all(b"\n")
 }
 
-fn shift_run(line: &[u8], asked: &[u8], log: &[u8], times: &mut [u8], out: &mut [u8]) {
+fn shift_run(
+    to: &mut impl Write,
+    line: &[u8],
+    asked: &[u8],
+    log: &[u8],
+    times: &mut [u8],
+    out: &mut [u8],
+) -> io::Result<()> {
     let a = vinculampe::vin_shift(log, signed_at(line, field(line, 1)), times, out);
-    say_call(b"shift", a, out, asked);
-    say_row(a.times, times, asked);
+    say_call(to, b"shift", a, out, asked)?;
+    say_row(to, a.times, times, asked)
 }
 
-pub(crate) fn shift_line(line: &[u8], asked: &[u8]) {
+pub(crate) fn shift_line(to: &mut impl Write, line: &[u8], asked: &[u8]) -> io::Result<()> {
     let mut log = no_bytes();
     let mut times = [0; 1024];
     let mut out = room();
@@ -57,10 +65,11 @@ pub(crate) fn shift_line(line: &[u8], asked: &[u8]) {
     let times_end = run(line, 3, &mut times);
     let out_end = part(&out, size(line, 4));
     shift_run(
+        to,
         line,
         asked,
         &log[..log_end],
         &mut times[..times_end],
         &mut out[..out_end],
-    );
+    )
 }

@@ -6,15 +6,23 @@ use crate::plans::numbers;
 use crate::runs::{no_bytes, part, run};
 use crate::words::{say_times, spread, words_part};
 use format::Answer;
+use std::io::{self, Write};
 
-fn slots_words(asked: &[u8], a: Answer, words: &[u32]) {
+fn slots_words(to: &mut impl Write, asked: &[u8], a: Answer, words: &[u32]) -> io::Result<()> {
     let mut bytes = no_bytes();
     let end = spread(words, &mut bytes);
     let made = part(&bytes, end);
-    say_found(b"slots", a, a.bytes % 65536 * 4, &bytes[..made], asked);
+    say_found(to, b"slots", a, a.bytes % 65536 * 4, &bytes[..made], asked)
 }
 
-fn slots_run(line: &[u8], asked: &[u8], capture: &[u8], words: &mut [u32], times: &mut [u8]) {
+fn slots_run(
+    to: &mut impl Write,
+    line: &[u8],
+    asked: &[u8],
+    capture: &[u8],
+    words: &mut [u32],
+    times: &mut [u8],
+) -> io::Result<()> {
     let mut kinds = [0; 32];
     let kinds_end = run(line, 8, &mut kinds);
     let p = numbers(line);
@@ -31,12 +39,12 @@ fn slots_run(line: &[u8], asked: &[u8], capture: &[u8], words: &mut [u32], times
         words,
         times,
     );
-    slots_words(asked, a, words);
-    say_times(a.times, times, asked);
-    io::write_all(1, b"\n");
+    slots_words(to, asked, a, words)?;
+    say_times(to, a.times, times, asked)?;
+    to.write_all(b"\n")
 }
 
-pub(crate) fn slots_line(line: &[u8], asked: &[u8]) {
+pub(crate) fn slots_line(to: &mut impl Write, line: &[u8], asked: &[u8]) -> io::Result<()> {
     let mut capture = no_bytes();
     let mut words = [0xA5A5A5A5u32; 10000];
     let mut times = [0xA5u8; 1024];
@@ -44,10 +52,11 @@ pub(crate) fn slots_line(line: &[u8], asked: &[u8]) {
     let words_end = words_part(&words, size(line, 10));
     let times_end = part(&times, size(line, 11));
     slots_run(
+        to,
         line,
         asked,
         &capture[..capture_end],
         &mut words[..words_end],
         &mut times[..times_end],
-    );
+    )
 }

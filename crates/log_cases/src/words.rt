@@ -1,12 +1,13 @@
 // Words, of four bytes each in a line, and rows of times.
 
 ghost use Rattle.std.specs.Prelude.{◌≤◌};
-ghost use Rattle.io.specs.Counts.{IsPrefixLen};
+ghost use Rattle.whole_input.specs.Counts.{IsPrefixLen};
 
 use crate::answers::{begins, say_number, say_unless};
 use crate::digest::digest_of;
 use crate::fields::number;
 use crate::runs::run;
+use std::io::{self, Write};
 
 // So many words, or all if there are fewer.
 pub(crate) fn words_part(words: &[u32], size: usize) -> usize
@@ -72,16 +73,30 @@ pub(crate) fn spread(words: &[u32], bytes: &mut [u8]) -> usize {
 }
 
 // A row of eight bytes an entry: its digest, and whether so many entries were counted and it begins as asked for, from a field on.
-pub(crate) fn say_row(entries: u64, row: &[u8], asked: &[u8], field: usize)
+pub(crate) fn say_row(
+    to: &mut impl Write,
+    entries: u64,
+    row: &[u8],
+    asked: &[u8],
+    field: usize,
+) -> io::Result<()>
     requires { field ≤ 7 }
 {
     let mut wanted = [0; 1024];
     let end = run(asked, field + 1, &mut wanted);
-    say_number(digest_of(row));
-    say_unless(entries == number(asked, field) && begins(row, &wanted[..end]));
+    say_number(to, digest_of(row))?;
+    say_unless(
+        to,
+        entries == number(asked, field) && begins(row, &wanted[..end]),
+    )
 }
 
 // The row of times, asked for behind the second place.
-pub(crate) fn say_times(entries: u64, times: &[u8], asked: &[u8]) {
-    say_row(entries, times, asked, 5);
+pub(crate) fn say_times(
+    to: &mut impl Write,
+    entries: u64,
+    times: &[u8],
+    asked: &[u8],
+) -> io::Result<()> {
+    say_row(to, entries, times, asked, 5)
 }

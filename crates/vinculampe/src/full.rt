@@ -1,4 +1,4 @@
-// The entry points from C that take the whole plan: the CRC word's label and the fill bus code behind `parity` (document 02, K5).
+// The entry points over bytes that take the whole plan: the CRC word's label and the fill bus code behind `parity` (document 02, K5).
 
 ghost use Rattle.std.specs.Prelude.{false, true, length};
 ghost use Rattle.format.specs.Answer.{Made};
@@ -9,8 +9,7 @@ use compose_from_c::compose_from;
 use format::Answer;
 use read_from_c::read_from;
 
-#[unsafe(no_mangle)]
-pub extern "C" fn vin_compose_full(
+pub fn vin_compose_full(
     words: u32,
     tracks: u32,
     frame_time: u32,
@@ -31,8 +30,7 @@ pub extern "C" fn vin_compose_full(
     )
 }
 
-#[unsafe(no_mangle)]
-pub extern "C" fn vin_read_full(
+pub fn vin_read_full(
     words: u32,
     tracks: u32,
     frame_time: u32,
@@ -54,8 +52,7 @@ pub extern "C" fn vin_read_full(
     )
 }
 
-#[unsafe(no_mangle)]
-pub extern "C" fn vin_read_closed_full(
+pub fn vin_read_closed_full(
     words: u32,
     tracks: u32,
     frame_time: u32,

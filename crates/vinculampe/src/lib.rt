@@ -1,5 +1,5 @@
-// Vinculampe's entry points, from Rattle and from C (document 01, "Programs"): composing and both readings, and what is done with
-// logs alone (document 02).
+// Vinculampe's entry points (document 01, "Programs"): composing and both readings, and what is done with logs alone (document 02).
+// The functions `vin_*` are those that `vinculampe_c` gives to C under the same names.
 #![tactic(auto)]
 
 pub mod full;
@@ -43,8 +43,7 @@ const CRC_LABEL: u32 = 3;
 
 const FILL_BUS: u32 = 0;
 
-#[unsafe(no_mangle)]
-pub extern "C" fn vin_compose(
+pub fn vin_compose(
     words: u32,
     tracks: u32,
     frame_time: u32,
@@ -63,8 +62,7 @@ pub extern "C" fn vin_compose(
     )
 }
 
-#[unsafe(no_mangle)]
-pub extern "C" fn vin_read(
+pub fn vin_read(
     words: u32,
     tracks: u32,
     frame_time: u32,
@@ -84,8 +82,7 @@ pub extern "C" fn vin_read(
     )
 }
 
-#[unsafe(no_mangle)]
-pub extern "C" fn vin_read_closed(
+pub fn vin_read_closed(
     words: u32,
     tracks: u32,
     frame_time: u32,
@@ -105,47 +102,31 @@ pub extern "C" fn vin_read_closed(
     )
 }
 
-#[unsafe(no_mangle)]
-pub extern "C" fn vin_pick(log: &[u8], buses: u16, out: &mut [u8]) -> Answer
+pub fn vin_pick(log: &[u8], buses: u16, out: &mut [u8]) -> Answer
     ensures { Made (picked log.now buses (length out.old)) result out.old out.new }
 {
     pick(log, buses, out)
 }
 
-#[unsafe(no_mangle)]
-pub extern "C" fn vin_join(first: &[u8], second: &[u8], out: &mut [u8]) -> Answer
+pub fn vin_join(first: &[u8], second: &[u8], out: &mut [u8]) -> Answer
     ensures { Made (joined first.now second.now (length out.old)) result out.old out.new }
 {
     join(first, second, out)
 }
 
-#[unsafe(no_mangle)]
-pub extern "C" fn vin_profile(log: &[u8]) -> Answer
+pub fn vin_profile(log: &[u8]) -> Answer
     ensures { Judged log.now result }
 {
     profile(log)
 }
 
-#[unsafe(no_mangle)]
-pub extern "C" fn vin_replay(
-    log: &[u8],
-    events: &[u8],
-    capacity: u32,
-    slots: u32,
-    out: &mut [u8],
-) -> Replayed
+pub fn vin_replay(log: &[u8], events: &[u8], capacity: u32, slots: u32, out: &mut [u8]) -> Replayed
     ensures { Replays (replayed log.now events.now capacity slots (length out.old)) result out.old out.new }
 {
     replay(log, events, capacity, slots, out)
 }
 
-#[unsafe(no_mangle)]
-pub extern "C" fn vin_shift(
-    log: &[u8],
-    microseconds: i64,
-    times: &mut [u8],
-    out: &mut [u8],
-) -> Answer
+pub fn vin_shift(log: &[u8], microseconds: i64, times: &mut [u8], out: &mut [u8]) -> Answer
     ensures { Shifted (shifted log.now (times_from times.old) microseconds (length out.old)) result out.old out.new times.old times.new }
 {
     shift(log, microseconds, times, out)

@@ -1,4 +1,4 @@
-// The entry point from C of a salvage (document 02, K10).
+// The entry point over bytes of a salvage (document 02, K10).
 
 ghost use Rattle.std.specs.Prelude.{length};
 ghost use Rattle.salvage_from_c.specs.Salvaging.{SavesBytes, salvaged_from};
@@ -6,8 +6,7 @@ ghost use Rattle.salvage_from_c.specs.Salvaging.{SavesBytes, salvaged_from};
 use salvage_from_c::salvage_from;
 use salvage_rules::Salvaged;
 
-#[unsafe(no_mangle)]
-pub extern "C" fn vin_salvage(
+pub fn vin_salvage(
     words: u32,
     tracks: u32,
     frame_time: u32,

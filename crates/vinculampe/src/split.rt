@@ -1,4 +1,4 @@
-// The entry points from C of a reading in two operations (document 02, K3): words, and a log from words.
+// The entry points over bytes of a reading in two operations (document 02, K3): words, and a log from words.
 
 ghost use Rattle.std.specs.Prelude.{length};
 ghost use Rattle.read_from_c.specs.Reading.{GivenBytes};
@@ -8,8 +8,7 @@ ghost use Rattle.split_items.specs.Items.{GivenLog};
 use format::Answer;
 use split_from_c::{items_from, words_from};
 
-#[unsafe(no_mangle)]
-pub extern "C" fn vin_read_words(
+pub fn vin_read_words(
     words: u32,
     tracks: u32,
     frame_time: u32,
@@ -31,8 +30,7 @@ pub extern "C" fn vin_read_words(
     )
 }
 
-#[unsafe(no_mangle)]
-pub extern "C" fn vin_read_items(
+pub fn vin_read_items(
     words: u32,
     tracks: u32,
     frame_time: u32,

@@ -1,4 +1,4 @@
-// The entry points from C of a capture as it arrives (document 02, K4): an opening, a feeding and a closing call on 7,168 lent bytes.
+// The entry points over bytes of a capture as it arrives (document 02, K4): an opening, a feeding and a closing call on 7,168 lent bytes.
 
 ghost use Rattle.stream_calls.specs.Calls.{Closes};
 ghost use Rattle.stream_from_c.specs.Streaming.{FeedsBytes, OpensFrom};
@@ -7,8 +7,7 @@ use format::Answer;
 use stream_close::close;
 use stream_from_c::{feed_from, open_from};
 
-#[unsafe(no_mangle)]
-pub extern "C" fn vin_stream_open(
+pub fn vin_stream_open(
     words: u32,
     tracks: u32,
     frame_time: u32,
@@ -26,20 +25,13 @@ pub extern "C" fn vin_stream_open(
     )
 }
 
-#[unsafe(no_mangle)]
-pub extern "C" fn vin_stream_feed(
-    state: &mut [u8],
-    piece: &[u8],
-    log: &mut [u8],
-    times: &mut [u8],
-) -> Answer
+pub fn vin_stream_feed(state: &mut [u8], piece: &[u8], log: &mut [u8], times: &mut [u8]) -> Answer
     ensures { FeedsBytes state.old piece.now result state.new log.old log.new times.old times.new }
 {
     feed_from(state, piece, log, times)
 }
 
-#[unsafe(no_mangle)]
-pub extern "C" fn vin_stream_close(state: &mut [u8], log: &mut [u8]) -> Answer
+pub fn vin_stream_close(state: &mut [u8], log: &mut [u8]) -> Answer
     ensures { Closes state.old result state.new log.old log.new }
 {
     close(state, log)

@@ -9,7 +9,7 @@ invariant-loop-n seed p bus₀ n₀ bus n = (bus < 16) × (n ≤ 16)
 abbrev decreases-loop-n : tie.decreases-loop-n
 decreases-loop-n seed p bus₀ n₀ bus n = 16 - n
 
-draw-bus-requires : tie.Need-draw_bus-requires invariant-loop-n decreases-loop-n
+draw-bus-requires : tie.Need-draw-bus-requires invariant-loop-n decreases-loop-n
 draw-bus-requires c κs = search rules
 
 loop-n-init : tie.Need-loop-n-init invariant-loop-n decreases-loop-n

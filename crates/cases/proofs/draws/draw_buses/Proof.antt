@@ -12,7 +12,7 @@ decreases-loop-bus seed₀ buses q₀ bus₀ seed q bus = buses - bus
 loop-bus-init : tie.Need-loop-bus-init invariant-loop-bus decreases-loop-bus
 loop-bus-init c = search rules
 
-draw-kind-requires : tie.Need-draw_kind-requires invariant-loop-bus decreases-loop-bus
+draw-kind-requires : tie.Need-draw-kind-requires invariant-loop-bus decreases-loop-bus
 draw-kind-requires c κs = search rules
 
 overflow_cast-bus : tie.Need-overflow_cast-bus invariant-loop-bus decreases-loop-bus

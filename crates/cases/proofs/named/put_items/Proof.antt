@@ -26,7 +26,7 @@ loop-left-init c = search rules
 overflow_sub-left : tie.Need-overflow_sub-left invariant-loop-left decreases-loop-left
 overflow_sub-left c = search rules
 
-put-bit-requires : tie.Need-put_bit-requires invariant-loop-left decreases-loop-left
+put-bit-requires : tie.Need-put-bit-requires invariant-loop-left decreases-loop-left
 put-bit-requires c κs = search rules
 
 overflow_add-value : tie.Need-overflow_add-value invariant-loop-left decreases-loop-left

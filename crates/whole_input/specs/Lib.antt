@@ -1,0 +1,2 @@
+-- What the contracts on runs of bytes cite.
+pub mod Counts
