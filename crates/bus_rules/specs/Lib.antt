@@ -1,5 +1,4 @@
 -- What the words on some buses tell (document 02, K14).
 pub mod Buses
 pub mod Laws
-pub mod Promises
 pub mod Cases

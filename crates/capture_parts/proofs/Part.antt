@@ -8,7 +8,7 @@ use lib.ListN.{length, take, drop, length-take, length-drop}
 use Rattle.format.specs.Plan.{group_words, slots, rows, lead}
 use Rattle.format.specs.Group.{Fault, none, found, group_fault, group_slots}
 use Rattle.format.specs.Laws.Limits.{Shape, rows_under, lead_few, room}
-use Rattle.format.specs.Laws.Reader.Named.{words_in}
+use Rattle.format.specs.Laws.Reader.Slots.{words_in}
 use Rattle.format.specs.declared.Plan.{Plan}
 use Rattle.group_read.specs.declared.Fault.{Fault as Found}
 use Rattle.group_read.specs.Row.{dealt_count, Deals}

@@ -9,7 +9,7 @@ use Rattle.format.specs.Reader.{Slot, counted, Ran, bad_at, ran, feed, begun, jo
 use Rattle.format.specs.Notices.{open_fault, first_word_of}
 use Rattle.format.specs.Group.{Fault, none, found, or_else, group_fault, group_time}
 use Rattle.format.specs.Read.{Reading, gives, refuses, Got, got, stopped, onward, finish, slots_from, unless_found}
-use Rattle.format.specs.Laws.Reader.Named.{words_in}
+use Rattle.format.specs.Laws.Reader.Slots.{words_in}
 use Rattle.format.specs.declared.Kind.{Kind}
 use Rattle.format.specs.declared.Held.{Held}
 use Rattle.format.specs.declared.Held.TheVariants.{Nothing}

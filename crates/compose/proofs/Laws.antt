@@ -3,7 +3,7 @@ pub use Rattle.format.specs.Laws.Composed.Length.{words_few, small}
 pub use Rattle.format.specs.Laws.Legal.{Legal, legal_is, logged_sound, timely}
 pub use Rattle.format.specs.Laws.Lists.{blocks_more, map_append, all_map, all_mapped, all_take, all_drop}
 pub use Rattle.format.specs.Laws.Log.Forth.{log_forth}
-pub use Rattle.format.specs.Laws.ThereAndBack.{capture_length}
+pub use Rattle.format.proofs.Laws.ThereAndBack.{capture_length}
 pub use Rattle.format.specs.Laws.Reader.Parts.{words_of, items_hold}
 pub use Rattle.format.specs.Laws.Word.Bytes.{all_bytes}
 pub use Rattle.format.specs.Laws.Word.Parts.{Holds}

@@ -19,7 +19,7 @@ use Rattle.format.specs.declared.Tag.TheVariants.{Untagged}
 use Rattle.format.specs.Laws.Tests.{and_true}
 use Rattle.data_start.specs.declared.Holding.{Holding}
 use Rattle.data_word.specs.Holding.{held_of}
-use Rattle.format.specs.Laws.Reader.Onward.{more_more}
+use Rattle.format.proofs.Laws.Reader.Onward.{more_more}
 pub use Rattle.data_items.proofs.Words.{yes_or_no}
 
 -- nothing is held where nothing is awaited

@@ -20,7 +20,7 @@ use Rattle.format.specs.Laws.Reader.Counted.{counted_next}
 use Rattle.data_items.specs.Row.{top_of}
 use Rattle.data_items.proofs.Words.{other_label, says_bus, says_label}
 use Rattle.data_items.proofs.Items.{flushed}
-use Rattle.format.specs.Laws.Reader.Onward.{more_none, more_more}
+use Rattle.format.proofs.Laws.Reader.Onward.{more_none, more_more}
 
 -- the tag of three words
 abbrev pub tagged : ℕ → ℕ → ℕ → Tag

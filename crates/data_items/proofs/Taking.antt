@@ -25,7 +25,7 @@ use Rattle.log_write.proofs.Writing.{put_bits, put_long, wrote_more}
 use Rattle.data_items.specs.declared.Taken.{Taken}
 use Rattle.data_items.specs.Taken.{Roomy, Second, Took, both_of, last_of}
 use Rattle.data_items.proofs.Row.{Goes}
-use Rattle.format.specs.Laws.Reader.Onward.{more_none, more_more}
+use Rattle.format.proofs.Laws.Reader.Onward.{more_none, more_more}
 
 -- ---- strings put
 

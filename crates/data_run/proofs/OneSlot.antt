@@ -28,7 +28,7 @@ use Rattle.log_write.specs.Pen.{Wrote}
 use Rattle.data_put.specs.Put.{Strings, step_pen, step_out}
 use Rattle.data_put.proofs.Steps.{fed_fits, step_bits, step_long, step_wrote}
 use Rattle.data_run.specs.Pass.{fill_pass, step_pass, word_step, word_pass, word_out, Along}
-use Rattle.format.specs.Laws.Reader.Onward.{more_more}
+use Rattle.format.proofs.Laws.Reader.Onward.{more_more}
 
 -- ---- one word
 

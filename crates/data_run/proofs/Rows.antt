@@ -33,7 +33,7 @@ use Rattle.data_run.specs.Fills.{all_fill, fills_in, on_data, quiet}
 use Rattle.log_write.specs.Pen.{Wrote, words_in}
 use Rattle.data_run.specs.Pass.{word_pass, word_out, taken_from, items_pass, least_of, Along, FromPass, PastFill, RanTo, Sound}
 use Rattle.data_run.proofs.OneSlot.{along_step, along_stop}
-use Rattle.format.specs.Laws.Reader.Onward.{and_then, more_none, more_more, more_then, run_append}
+use Rattle.format.proofs.Laws.Reader.Onward.{and_then, more_none, more_more, more_then, run_append}
 
 -- fill that changes nothing
 

@@ -18,4 +18,3 @@ pub mod Answer
 pub mod Listing
 pub mod Cases
 pub mod Laws
-pub mod Promises

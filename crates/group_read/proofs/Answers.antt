@@ -11,7 +11,7 @@ use Rattle.format.specs.Plan.{group_words, lead, slots, place_of}
 use Rattle.format.specs.Group.{none, found, group_fault, group_slots, group_time}
 use Rattle.format.specs.Laws.Limits.{Shape}
 use Rattle.format.specs.Laws.Lists.{length_list, get_or_list, list_same}
-use Rattle.format.specs.Laws.Reader.Named.{words_in}
+use Rattle.format.specs.Laws.Reader.Slots.{words_in}
 use Rattle.format.specs.declared.Plan.{Plan}
 use Rattle.group_read.specs.declared.Fault.{Fault}
 use Rattle.group_read.specs.Faults.{fault_of}

@@ -10,7 +10,7 @@ use Rattle.format.specs.Plan.{lead, slots, place_of}
 use Rattle.format.specs.Group.{group_slots}
 use Rattle.format.specs.Reader.{Slot}
 use Rattle.format.specs.Laws.Limits.{Shape, lead_few, room}
-use Rattle.format.specs.Laws.Reader.Named.{words_in}
+use Rattle.format.specs.Laws.Reader.Slots.{words_in}
 use Rattle.format.specs.declared.Plan.{Plan}
 use Rattle.group_read.specs.Row.{dealt_count, dealt_words}
 

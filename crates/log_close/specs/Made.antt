@@ -5,7 +5,7 @@ use Rattle.format.specs.Answer.{Made}
 use Rattle.format.specs.Compose.{Composed, refused}
 use Rattle.format.specs.Item.{item_bits}
 use Rattle.format.specs.Log.{Parsed, items, fault}
-use Rattle.format.specs.Promises.{made_one}
+use Rattle.format.proofs.Promises.{made_one}
 use Rattle.format.specs.declared.Answer.{Answer}
 use Rattle.format.specs.declared.Item.{Item}
 use Rattle.log_rules.specs.Pick.{log_in}

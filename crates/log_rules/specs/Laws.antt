@@ -3,7 +3,6 @@ pub mod Tests
 pub mod Onward
 pub mod Checking
 pub mod Logs
-pub mod Pick
 pub mod Ahead
 pub mod Faults
 pub mod Profile

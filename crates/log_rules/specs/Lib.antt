@@ -6,4 +6,3 @@ pub mod Replay
 pub mod Shift
 pub mod Scripts
 pub mod Laws
-pub mod Promises

@@ -22,9 +22,9 @@ use Rattle.format.specs.Laws.Lists.{all_append}
 use Rattle.format.specs.Laws.Word.Bytes.{all_bytes}
 use Rattle.format.specs.Laws.Log.Fields.{Packs, packs, length_bits, length_bytes}
 use Rattle.format.specs.Laws.Log.Sizes.{bits_low, items_low, fields_length}
-use Rattle.format.specs.Laws.Accepted.Exact.{slots_count, slots_low}
-use Rattle.format.specs.Laws.Accepted.Faultless.{accepted_parts}
-use Rattle.format.specs.Laws.Accepted.Together.{data_all}
+use Rattle.format.proofs.Laws.Accepted.Exact.{slots_count, slots_low}
+use Rattle.format.proofs.Laws.Accepted.Faultless.{accepted_parts}
+use Rattle.format.proofs.Laws.Accepted.Together.{data_all}
 use Rattle.format.specs.Laws.Limits.{Shape}
 use Rattle.read.specs.Room.{Enough}
 use Rattle.read_groups.proofs.Misplaced.{yes_or_no}

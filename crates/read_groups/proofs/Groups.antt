@@ -18,7 +18,8 @@ use Rattle.format.specs.declared.Held.TheVariants.{Nothing}
 use Rattle.format.specs.declared.Plan.{Plan}
 use Rattle.format.specs.Laws.Limits.{Shape, free, rows_under, lead_few, room}
 use Rattle.format.specs.Laws.Lists.{flat_map_append}
-use Rattle.format.specs.Laws.Reader.Named.{renamed, run_named, run_in, groups_fresh, slots_counted, words_in}
+use Rattle.format.proofs.Laws.Reader.Named.{renamed, run_named, run_in, groups_fresh, slots_counted}
+use Rattle.format.specs.Laws.Reader.Slots.{words_in}
 use Rattle.group_read.specs.declared.Fault.{Fault as Found}
 use Rattle.group_read.specs.Row.{dealt_count, Deals}
 use Rattle.group_read.proofs.Answers.{answer_none, answer-found, answer_low, answer_words, words_length}
@@ -35,7 +36,7 @@ use Rattle.read_groups.specs.declared.Walk.{Walk}
 use Rattle.read_groups.specs.Misplaced.{fills_over, numbers_of, numbers_on}
 use Rattle.read_groups.specs.Groups.{broken_at, Over, Through, Walked}
 use Rattle.read_groups.proofs.Numbered.{Few, counted_below, counted_within, fills_few, ran_low}
-use Rattle.format.specs.Laws.Reader.Onward.{before_none, before_before}
+use Rattle.format.proofs.Laws.Reader.Onward.{before_none, before_before}
 
 -- ---- from group to group
 

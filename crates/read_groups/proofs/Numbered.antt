@@ -14,7 +14,7 @@ use Rattle.format.specs.Plan.{slots, stored_at}
 use Rattle.format.specs.Reader.{Slot, Ran, bad_at, ran, counted}
 use Rattle.format.specs.Read.{misplaced}
 use Rattle.format.specs.Laws.Lists.{all_map}
-use Rattle.format.specs.Laws.Reader.Named.{named, slots_counted, RanIn}
+use Rattle.format.proofs.Laws.Reader.Named.{named, slots_counted, RanIn}
 use Rattle.format.specs.declared.Plan.{Plan}
 use Rattle.data_run.specs.declared.Pass.{Pass}
 use Rattle.data_run.specs.declared.fill.Fills.{Fills}

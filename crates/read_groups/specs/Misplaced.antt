@@ -4,7 +4,7 @@ use Rattle.format.specs.Lists.{list}
 use Rattle.format.specs.Plan.{slots, group_words}
 use Rattle.format.specs.Reader.{Slot, counted}
 use Rattle.format.specs.Group.{Fault, none, found, group_slots}
-use Rattle.format.specs.Laws.Reader.Named.{words_in}
+use Rattle.format.specs.Laws.Reader.Slots.{words_in}
 use Rattle.format.specs.declared.Plan.{Plan}
 use Rattle.data_run.specs.declared.fill.Fills.{Fills}
 use Rattle.data_run.specs.Fills.{fills_in}

@@ -17,7 +17,7 @@ use Rattle.format.specs.Laws.Legal.{shape_of}
 use Rattle.format.specs.declared.Kind.{Kind}
 use Rattle.format.specs.declared.Plan.{Plan}
 use Rattle.salvage_rules.specs.Salvage.{Entry, Salvage, saves, forgoes, Saved, saved_in, salvage_groups, salvaged, salvage_answer, kept_times, Saves}
-use Rattle.salvage_rules.specs.Promises.{a_time_a_group}
+use Rattle.salvage_rules.proofs.Promises.{a_time_a_group}
 use Rattle.salvage_rules.specs.declared.Salvaged.{Salvaged}
 use Rattle.from_c.specs.Numbers.{time_bytes}
 use Rattle.salvage_from_c.specs.Salvaging.{SavesBytes}

@@ -13,7 +13,8 @@ use Rattle.format.specs.Plan.{group_words, slots, stored_at}
 use Rattle.format.specs.Reader.{Slot, counted}
 use Rattle.format.specs.Group.{Fault, none, found, group_fault, group_time, group_slots}
 use Rattle.format.specs.Laws.Limits.{Shape, free}
-use Rattle.format.specs.Laws.Reader.Named.{named, slots_counted, words_in}
+use Rattle.format.proofs.Laws.Reader.Named.{named, slots_counted}
+use Rattle.format.specs.Laws.Reader.Slots.{words_in}
 use Rattle.format.specs.declared.Kind.{Kind}
 use Rattle.format.specs.declared.Plan.{Plan}
 use Rattle.format.specs.declared.Item.{Item}

@@ -9,7 +9,7 @@ use lib.ListN.{length, take, drop, length-append}
 use Rattle.format.specs.Plan.{group_words, slots}
 use Rattle.format.specs.Group.{Fault, none, found, group_fault, group_time, group_slots}
 use Rattle.format.specs.Laws.Limits.{Shape, free}
-use Rattle.format.specs.Laws.Reader.Named.{words_in}
+use Rattle.format.specs.Laws.Reader.Slots.{words_in}
 use Rattle.format.specs.declared.Kind.{Kind}
 use Rattle.format.specs.declared.Plan.{Plan}
 use Rattle.salvage_rules.specs.Salvage.{entry_number, lost_group}

@@ -2,7 +2,7 @@
 use Rattle.std.specs.Prelude.{ℕ, zero, suc, ◌+◌, ◌*◌, ◌≤◌, cond, List}
 use Rattle.format.specs.Plan.{group_words, slots}
 use Rattle.format.specs.Group.{Fault, none, found, group_fault, group_time, group_slots}
-use Rattle.format.specs.Laws.Reader.Named.{words_in}
+use Rattle.format.specs.Laws.Reader.Slots.{words_in}
 use Rattle.format.specs.declared.Kind.{Kind}
 use Rattle.format.specs.declared.Plan.{Plan}
 use Rattle.salvage_run.specs.Tape.{drop_group, on_row, put_at, Sound, start_pass, Tape, tape}

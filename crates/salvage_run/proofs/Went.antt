@@ -20,9 +20,9 @@ use Rattle.format.specs.declared.Held.{Held}
 use Rattle.format.specs.declared.Held.TheVariants.{Nothing, Taggable, Half, TagHigh, TagLow, Answering}
 use Rattle.format.specs.Laws.Lists.{flat_map_append, map_append}
 use Rattle.format.specs.Laws.Front.{Front, front_more}
-use Rattle.format.specs.Laws.Reader.Named.{named}
+use Rattle.format.proofs.Laws.Reader.Named.{named}
 use Rattle.salvage_rules.specs.Salvage.{Piece, gap, datum, data_pieces, Entry, lost_group, lost_word, Saved, first, held_words, last_of, finished, unfinished, tried, salvage_word, salvage, entry_number}
-use Rattle.salvage_rules.specs.Laws.Salvage.Account.{first_twice}
+use Rattle.salvage_rules.proofs.Laws.Salvage.Account.{first_twice}
 use Rattle.data_start.specs.declared.Step.{Step}
 use Rattle.data_start.specs.Holding.{flat}
 use Rattle.data_word.specs.Holding.{held_of, Sane}

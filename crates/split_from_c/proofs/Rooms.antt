@@ -13,7 +13,7 @@ use Rattle.format.specs.Read.{Reading, gives, refuses, slots_from, unless_found}
 use Rattle.format.specs.Laws.Tests.{and_true}
 use Rattle.format.specs.Laws.Limits.{groups_most, least_group_bytes}
 use Rattle.format.specs.Laws.Legal.{shape_of}
-use Rattle.format.specs.Laws.Reader.Named.{words_in}
+use Rattle.format.specs.Laws.Reader.Slots.{words_in}
 use Rattle.format.specs.declared.Kind.{Kind}
 use Rattle.format.specs.declared.Plan.{Plan}
 use Rattle.capture_rules.specs.Split.{groups_fault, frame_times, words_read, words_roomed}

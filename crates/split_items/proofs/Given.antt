@@ -15,9 +15,9 @@ use Rattle.format.specs.Notices.{first_open, first_word_of, open_fault}
 use Rattle.format.specs.Plan.{legal}
 use Rattle.format.specs.Reader.{Slot, counted, places_of, run, Ran}
 use Rattle.format.specs.Read.{Reading, Got, gives, refuses, got, stopped, onward, finish, unless_found}
-use Rattle.format.specs.Laws.Accepted.Together.{data_all}
-use Rattle.format.specs.Laws.Reader.Named.{words_in}
-use Rattle.format.specs.Laws.Reader.Words.{parts_said}
+use Rattle.format.proofs.Laws.Accepted.Together.{data_all}
+use Rattle.format.specs.Laws.Reader.Slots.{words_in}
+use Rattle.format.proofs.Laws.Reader.Words.{parts_said}
 use Rattle.format.specs.Lists.{All}
 use Rattle.format.specs.declared.Answer.{Answer}
 use Rattle.format.specs.declared.Kind.{Kind}
@@ -26,7 +26,7 @@ use Rattle.format.specs.declared.Held.TheVariants.{Nothing}
 use Rattle.format.specs.declared.Plan.{Plan}
 use Rattle.capture_rules.specs.Split.{items_read, items_settled, log_roomed}
 use Rattle.capture_rules.specs.Laws.Split.Places.{run_numbers_lem}
-use Rattle.capture_rules.specs.Laws.Split.Whole.{counted_small}
+use Rattle.capture_rules.proofs.Laws.Split.Whole.{counted_small}
 use Rattle.log_close.specs.Made.{Closable}
 use Rattle.log_rules.specs.Pick.{log_in}
 use Rattle.log_write.specs.Pen.{closed_size}

@@ -12,14 +12,14 @@ use Rattle.format.specs.Lists.{All}
 use Rattle.format.specs.Reader.{Slot, Ran, bad_at, ran, run, begun, counted}
 use Rattle.format.specs.Read.{Got, got, stopped, before, onward, finish}
 use Rattle.format.specs.Laws.Reader.Counted.{counted_append, counted_none, counted_one, drop_next}
-use Rattle.format.specs.Laws.Reader.Onward.{and_then}
+use Rattle.format.proofs.Laws.Reader.Onward.{and_then}
 use Rattle.format.specs.declared.Kind.{Kind}
 use Rattle.format.specs.declared.Item.{Item}
 use Rattle.format.specs.declared.Held.{Held}
 use Rattle.format.specs.declared.Held.TheVariants.{Nothing}
 use Rattle.capture_rules.specs.Split.{run_numbers}
 use Rattle.capture_rules.specs.Laws.Split.Places.{Small, numbers_after}
-use Rattle.capture_rules.specs.Laws.Split.Whole.{counted_small}
+use Rattle.capture_rules.proofs.Laws.Split.Whole.{counted_small}
 use Rattle.data_items.specs.Row.{Words}
 use Rattle.data_start.specs.declared.Step.{Step}
 use Rattle.data_word.specs.Holding.{held_of}

@@ -12,8 +12,8 @@ use Rattle.format.specs.Group.{Fault, none, found, group_time}
 use Rattle.format.specs.Lists.{list}
 use Rattle.format.specs.Plan.{group_words, legal, slots, times_needed}
 use Rattle.format.specs.Read.{Reading, gives, refuses, slots_from, unless_found}
-use Rattle.format.specs.Laws.Accepted.Exact.{slots_count}
-use Rattle.format.specs.Laws.Reader.Named.{words_in}
+use Rattle.format.proofs.Laws.Accepted.Exact.{slots_count}
+use Rattle.format.specs.Laws.Reader.Slots.{words_in}
 use Rattle.format.specs.declared.Kind.{Kind}
 use Rattle.format.specs.declared.Plan.{Plan}
 use Rattle.capture_rules.specs.Split.{groups_fault, frame_times, words_read, words_roomed}

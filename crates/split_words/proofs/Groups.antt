@@ -15,8 +15,8 @@ use Rattle.format.specs.Read.{slots_from}
 use Rattle.format.specs.Reader.{Slot}
 use Rattle.format.specs.Laws.Front.{Front, front_none, front_part}
 use Rattle.format.specs.Laws.Lists.{map_append}
-use Rattle.format.specs.Laws.Reader.Named.{words_in}
-use Rattle.format.specs.Laws.Accepted.Exact.{slots_count}
+use Rattle.format.specs.Laws.Reader.Slots.{words_in}
+use Rattle.format.proofs.Laws.Accepted.Exact.{slots_count}
 use Rattle.format.specs.Laws.Tests.{clash}
 use Rattle.format.specs.declared.Plan.{Plan}
 use Rattle.capture_rules.specs.Split.{groups_fault}

@@ -8,7 +8,7 @@ ghost use Rattle.format.specs.Group.{none};
 ghost use Rattle.format.specs.Plan.{group_words, slots, times_needed};
 ghost use Rattle.format.specs.Read.{slots_from, unless_found};
 ghost use Rattle.format.specs.Laws.Limits.{Shape};
-ghost use Rattle.format.specs.Laws.Reader.Named.{words_in};
+ghost use Rattle.format.specs.Laws.Reader.Slots.{words_in};
 ghost use Rattle.capture_rules.specs.Split.{groups_fault, words_read, words_roomed};
 ghost use Rattle.group_read.specs.Row.{dealt_count};
 ghost use Rattle.split_words.specs.Fault.{FirstFault};

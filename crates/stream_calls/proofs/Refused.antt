@@ -16,7 +16,7 @@ use Rattle.format.specs.Laws.Tests.{and_true, clash}
 use Rattle.format.specs.declared.Answer.{Answer}
 use Rattle.stream_rules.specs.Stream.{Call, Flow, State, answered, closed, count_of, entries_for, failed, fed_by, fed_on, feed_bytes, feedable, fits, group_size, is_open_state, keeps, most_bytes, refused_by, still, working}
 use Rattle.stream_rules.specs.Laws.Stream.Feed.{feed_part}
-use Rattle.stream_rules.specs.Laws.Stream.Kept.{fed_works}
+use Rattle.stream_rules.proofs.Laws.Stream.Kept.{fed_works}
 use Rattle.stream_state.specs.Layout.{is_state, state_at, state_bytes}
 use Rattle.stream_state.specs.Laws.Bytes.{bytes_state_back, passed}
 use Rattle.stream_state.specs.AtWork.{AtWork, work_in}

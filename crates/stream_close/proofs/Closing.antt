@@ -15,8 +15,8 @@ use Rattle.stream_group.specs.Took.{carried}
 use Rattle.stream_rules.specs.Stream as rules
 use Rattle.stream_rules.specs.Stream.{Call, State, Working, close_on, closed, closed_by, closed_with, closing_at, count_of, failed, fits, group_size, is_open_state, refused_by, working}
 use Rattle.stream_rules.specs.Laws.Stream.Fits.{waits_ok}
-use Rattle.stream_rules.specs.Laws.Stream.Kept.{close_works}
-use Rattle.stream_rules.specs.Laws.Stream.Room.{close_few}
+use Rattle.stream_rules.proofs.Laws.Stream.Kept.{close_works}
+use Rattle.stream_rules.proofs.Laws.Stream.Room.{close_few}
 use Rattle.stream_state.specs.AtWork.{AtWork, table_at, work_in}
 use Rattle.stream_state.specs.Layout.{is_state, number_at, state_at, state_bytes}
 use Rattle.stream_state.specs.Laws.Bytes.{bytes_state_back, passed}

@@ -16,8 +16,8 @@ use Rattle.format.specs.Laws.Limits.{Shape, group_least}
 use Rattle.format.specs.declared.Answer.{Answer}
 use Rattle.from_c.specs.Numbers.{time_bytes}
 use Rattle.stream_rules.specs.Stream.{Call, State, Working, answered, closed, count_of, entries_for, failed, fed_by, fed_on, feed_bytes, feedable, fits, group_size, is_open_state, most_bytes, refused_by, working}
-use Rattle.stream_rules.specs.Laws.Stream.Kept.{Fit, fits_is}
-use Rattle.stream_rules.specs.Laws.Stream.Room.{entries_enough}
+use Rattle.stream_rules.proofs.Laws.Stream.Kept.{Fit, fits_is}
+use Rattle.stream_rules.proofs.Laws.Stream.Room.{entries_enough}
 use Rattle.stream_state.specs.Layout.{is_state, state_at}
 use Rattle.stream_calls.specs.Calls.{Feeds, Leaves, Outcome, feeding, outcome_of, unread}
 use Rattle.stream_from_c.specs.Streaming.{FeedsBytes, LeavesBytes}

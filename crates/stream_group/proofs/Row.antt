@@ -17,7 +17,8 @@ use Rattle.format.specs.Reader.{Slot, Ran, bad_at, ran, counted, run}
 use Rattle.format.specs.Group.{none, found, group_fault, group_slots}
 use Rattle.format.specs.Laws.Legal.{Legal}
 use Rattle.format.specs.Laws.Limits.{Shape, dealt_most, group_least, lead_few, room}
-use Rattle.format.specs.Laws.Reader.Named.{RanIn, named, renamed, run_in, run_named, words_in}
+use Rattle.format.proofs.Laws.Reader.Named.{RanIn, named, renamed, run_in, run_named}
+use Rattle.format.specs.Laws.Reader.Slots.{words_in}
 use Rattle.format.specs.declared.Kind.{Kind}
 use Rattle.format.specs.declared.Item.{Item}
 use Rattle.format.specs.declared.Held.{Held}

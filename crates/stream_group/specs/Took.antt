@@ -5,7 +5,7 @@ use mathlib.Core.List.{List, ◌++◌, flat_map}
 use Rattle.format.specs.Plan.{lead, group_words, place_of}
 use Rattle.format.specs.Item.{item_bits}
 use Rattle.format.specs.Reader.{counted, run}
-use Rattle.format.specs.Laws.Reader.Named.{renamed}
+use Rattle.format.proofs.Laws.Reader.Named.{renamed}
 use Rattle.format.specs.declared.Kind.{Kind}
 use Rattle.format.specs.declared.Item.{Item}
 use Rattle.format.specs.declared.Plan.{Plan}

@@ -20,8 +20,8 @@ use Rattle.format.specs.declared.Answer.{Answer}
 use Rattle.format.specs.declared.Kind.{Kind}
 use Rattle.stream_rules.specs.Stream.{Flow, State, Working, answered, count_of, entries_for, failed, feed_bytes, fits, flowed, group_size, keeps, most_bytes, number_of, place_in, second_in, still, working}
 use Rattle.stream_rules.specs.Laws.Stream.Feed.{count_in, feed_append, feed_count, feed_failed, feed_part}
-use Rattle.stream_rules.specs.Laws.Stream.Kept.{Fit, feed_fits, fits_is, is_fits}
-use Rattle.stream_rules.specs.Laws.Stream.Room.{entries_enough, room_enough}
+use Rattle.stream_rules.proofs.Laws.Stream.Kept.{Fit, feed_fits, fits_is, is_fits}
+use Rattle.stream_rules.proofs.Laws.Stream.Room.{entries_enough, room_enough}
 use Rattle.stream_state.specs.Layout.{state_bytes}
 use Rattle.stream_state.specs.AtWork.{AtWork, table_at, work_in}
 use Rattle.stream_state.specs.Parts.{kinds_at}

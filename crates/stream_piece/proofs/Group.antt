@@ -29,8 +29,8 @@ use Rattle.stream_group.specs.declared.Took.{Took}
 use Rattle.stream_rules.specs.Stream.{Brought, Flow, State, Working, brings, feed_bytes, fits, group_size, held_fits, most_bytes, place_fits, rest_bits, stops, take_group, taken, waits_fit, whole_bytes, working}
 use Rattle.stream_rules.specs.Laws.Stream.Code.{pen_parts}
 use Rattle.stream_rules.specs.Laws.Stream.Feed.{feed_group}
-use Rattle.stream_rules.specs.Laws.Stream.Kept.{Fit, fits_is}
-use Rattle.stream_rules.specs.Laws.Stream.Room.{feed_weight, owed_few}
+use Rattle.stream_rules.proofs.Laws.Stream.Kept.{Fit, fits_is}
+use Rattle.stream_rules.proofs.Laws.Stream.Room.{feed_weight, owed_few}
 use Rattle.stream_piece.specs.Along.{Goes, Ready, gone_on, laid, reached, stopped_by, work_of}
 use Rattle.stream_piece.specs.declared.Along.{Along}
 use Rattle.stream_piece.proofs.Laid.{laid_none, written}

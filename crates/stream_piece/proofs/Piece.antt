@@ -12,7 +12,7 @@ use Rattle.format.specs.declared.Plan.{Plan}
 use Rattle.data_word.specs.Holding.{Sane}
 use Rattle.stream_rules.specs.Stream.{Flow, State, failed, feed_bytes, fits, flowed, group_size, most_bytes, still, working}
 use Rattle.stream_rules.specs.Laws.Stream.Feed.{count_in, feed_append, feed_count, feed_failed}
-use Rattle.stream_rules.specs.Laws.Stream.Kept.{feed_fits}
+use Rattle.stream_rules.proofs.Laws.Stream.Kept.{feed_fits}
 use Rattle.stream_piece.specs.Along.{Goes, Ready, Takes, laid, reached, work_of}
 use Rattle.stream_piece.specs.declared.Along.{Along}
 use Rattle.stream_piece.proofs.Group.{reached_work}

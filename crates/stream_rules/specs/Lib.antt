@@ -2,4 +2,3 @@
 pub mod Stream
 pub mod StateNumbers
 pub mod Laws
-pub mod Promises

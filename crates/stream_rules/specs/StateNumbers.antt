@@ -4,7 +4,7 @@ use Rattle.format.specs.Bits.{bit, bits_of, num_of}
 use Rattle.format.specs.Word.{word_for, part_of, Part}
 use Rattle.format.specs.Reader.{Fed, bad, fed}
 use Rattle.stream_rules.specs.Stream.{State, closed, failed, working, Working, fits}
-use Rattle.format.specs.Laws.Reader.Forth.{held_parts}
+use Rattle.format.specs.Laws.Reader.Held.{held_parts}
 use Rattle.stream_rules.specs.Laws.Stream.Held.{refed}
 use Rattle.format.specs.declared.Kind.{Kind}
 use Rattle.format.specs.declared.Kind.TheVariants.{Unused, Mil1553, Arinc429}

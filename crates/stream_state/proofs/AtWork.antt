@@ -11,11 +11,12 @@ use Rattle.format.specs.Laws.Word.Parts.{Holds}
 use Rattle.format.specs.Laws.Legal.{legal_is}
 use Rattle.format.specs.Laws.Lists.{length_list}
 use Rattle.format.specs.Lists.{All, nil, cons, list}
-use Rattle.format.specs.Laws.Reader.Forth.{held_parts, HeldOk}
+use Rattle.format.proofs.Laws.Reader.Forth.{HeldOk}
+use Rattle.format.specs.Laws.Reader.Held.{held_parts}
 use Rattle.stream_rules.specs.Stream.{State, closed, failed, working, Working, fits, held_fits}
 use Rattle.stream_rules.specs.StateNumbers.{held_from}
 use Rattle.stream_rules.specs.Laws.Stream.Fits.{held_ok}
-use Rattle.stream_rules.specs.Laws.Stream.Numbers.{held_holds}
+use Rattle.stream_rules.proofs.Laws.Stream.Numbers.{held_holds}
 use Rattle.data_start.specs.Holding.{flat}
 use Rattle.data_word.specs.Holding.{BaseFits, Fits, held_of}
 use Rattle.data_word.proofs.Flat.{flat_is_sane, held_of_flat}

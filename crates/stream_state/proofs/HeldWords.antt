@@ -8,7 +8,7 @@ use lib.Dec.{eqb}
 use borrow.Author.Tests.{eqb-true, eqb-false, eq-eqb, ne_eqb, le-leb, le-ltb, lt-leb, lt-ltb}
 use Rattle.format.specs.Word.{word_of}
 use Rattle.format.specs.Reader.{base_bus}
-use Rattle.format.specs.Laws.Reader.Forth.{held_parts}
+use Rattle.format.specs.Laws.Reader.Held.{held_parts}
 use Rattle.data_start.specs.declared.Holding.{Holding}
 use Rattle.data_start.specs.Holding.{flat}
 use Rattle.data_word.specs.Holding.{Fits, Sane, base_of, held_of}

@@ -21,14 +21,14 @@ use Rattle.format.specs.Laws.Front.{Front, front_long, front_part}
 use Rattle.format.specs.Laws.Lists.{flat_map_append}
 use Rattle.from_c.specs.Numbers.{time_bytes}
 use Rattle.from_c.specs.Laws.{length_time, length_times}
-use Rattle.format.specs.Laws.Reader.Forth.{held_parts}
+use Rattle.format.specs.Laws.Reader.Held.{held_parts}
 use Rattle.data_start.specs.Holding.{flat}
 use Rattle.data_start.specs.declared.Holding.{Holding}
 use Rattle.data_word.specs.Holding.{held_of}
 use Rattle.data_word.proofs.Flat.{flat_is_sane, nothing_is_held}
 use Rattle.stream_rules.specs.StateNumbers.{four_words, kind_number}
 use Rattle.stream_rules.specs.Stream.{failed, fits, fresh, working, Working}
-use Rattle.stream_rules.specs.Laws.Stream.Kept.{opened_fits}
+use Rattle.stream_rules.proofs.Laws.Stream.Kept.{opened_fits}
 use Rattle.stream_state.specs.Layout.{row_bytes, state_bytes, zeros_behind}
 use Rattle.stream_state.specs.Stand.{working_of}
 use Rattle.stream_state.specs.Storing.{Storable, front_row, stand_row, waiting_bytes}

@@ -6,7 +6,7 @@ use Rattle.format.specs.Plan.{kind_on}
 use Rattle.from_c.specs.Numbers.{are_kinds, is_choice, kind_of, plan_from}
 use Rattle.stream_rules.specs.Stream.{State, Working, failed, fits, group_size, held_fits, is_arinc, most_bytes}
 use Rattle.stream_rules.specs.StateNumbers.{four_words, held_from, same_row}
-use Rattle.format.specs.Laws.Reader.Forth.{held_parts}
+use Rattle.format.specs.Laws.Reader.Held.{held_parts}
 use Rattle.format.specs.declared.Kind.{Kind}
 use Rattle.format.specs.declared.Plan.{Plan}
 use Rattle.stream_state.specs.declared.Buses.{Buses}

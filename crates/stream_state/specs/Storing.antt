@@ -1,7 +1,7 @@
 -- What is stored into the lent bytes (document 02, K4): a state at work by its numbers, and a piece behind the bytes that wait.
 use Rattle.std.specs.Prelude.{ℕ, ◌+◌, ◌/◌, ◌%◌, ◌^◌, ◌<◌, true, cond, ◌≡◌, List, [], ◌∷◌, ◌++◌, map, length, replicate, eqb}
 use Rattle.format.specs.Bits.{bit}
-use Rattle.format.specs.Laws.Reader.Forth.{held_parts}
+use Rattle.format.specs.Laws.Reader.Held.{held_parts}
 use Rattle.from_c.specs.Numbers.{time_bytes}
 use Rattle.data_word.specs.Holding.{Sane, held_of}
 use Rattle.stream_rules.specs.Stream.{State, closed, failed, working, Working, fits, group_size, keeps}

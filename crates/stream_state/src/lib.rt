@@ -9,7 +9,7 @@ ghost use Rattle.format.specs.Item.{sided};
 ghost use Rattle.format.specs.Lists.{list};
 ghost use Rattle.format.specs.Plan.{legal};
 ghost use Rattle.format.specs.Word.{word_of};
-ghost use Rattle.format.specs.Laws.Reader.Forth.{held_parts};
+ghost use Rattle.format.specs.Laws.Reader.Held.{held_parts};
 ghost use Rattle.data_word.specs.Holding.{Sane, held_of};
 ghost use Rattle.format.specs.Laws.Limits.{Shape};
 ghost use Rattle.format.specs.Answer.{over};

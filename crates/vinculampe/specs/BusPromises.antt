@@ -9,7 +9,7 @@ use Rattle.format.specs.declared.Plan.{Plan}
 use Rattle.from_c.specs.Numbers.{kind_of, plan_from}
 use Rattle.read_from_c.specs.Reading.{GivenBytes, reading_from}
 use Rattle.bus_rules.specs.Buses.{ReadsTo, said_on}
-use Rattle.bus_rules.specs.Promises as buses
+use Rattle.bus_rules.proofs.Promises as buses
 use Rattle.vinculampe.specs.Calls.{VinPick}
 use Rattle.vinculampe.specs.Laws.{gives_from, named_sixteen, reading_refused_from}
 use Rattle.vinculampe.specs.Scripts.{vin_picks}

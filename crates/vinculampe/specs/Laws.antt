@@ -26,7 +26,7 @@ use Rattle.from_c.specs.Numbers.{kind_of, named, plan_from, times_from}
 use Rattle.from_c.specs.Laws.{sixteen}
 use Rattle.compose_from_c.specs.Composing.{composed_bytes, composed_from, ragged, ragged_parsed}
 use Rattle.read_from_c.specs.Reading.{reading_from}
-use Rattle.format.specs.Promises.{composed_as_before, reading_as_before}
+use Rattle.format.proofs.Promises.{composed_as_before, reading_as_before}
 use Rattle.vinculampe.specs.Before as was
 use Rattle.format.specs.Laws.Before.{legal_same}
 

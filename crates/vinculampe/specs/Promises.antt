@@ -18,10 +18,10 @@ use Rattle.format.specs.declared.Kind.{Kind}
 use Rattle.format.specs.declared.Plan.{Plan}
 use Rattle.format.specs.Lists.{All, Bytes}
 use Rattle.format.specs.Read.{Reading, reading, gives, refuses, groups_in}
-use Rattle.format.specs.Laws.Exactly as Exactly
-use Rattle.format.specs.Laws.ThereAndBack.{made_fits}
+use Rattle.format.proofs.Laws.Exactly as Exactly
+use Rattle.format.proofs.Laws.ThereAndBack.{made_fits}
 use Rattle.format.specs.Laws.Second.{answer_only}
-use Rattle.format.specs.Promises as format
+use Rattle.format.proofs.Promises as format
 use Rattle.format.specs.declared.Answer.{Answer}
 use Rattle.from_c.specs.Numbers.{kind_of, named, plan_from, time_bytes, times_from}
 use Rattle.from_c.specs.Laws as Times
@@ -31,7 +31,7 @@ use Rattle.read_from_c.specs.Reading as Reading-from
 use Rattle.log_rules.specs.Profile.{Judged, profiled}
 use Rattle.log_rules.specs.Replay.{Replay, Replays}
 use Rattle.log_rules.specs.Shift.{in_limits, shifted}
-use Rattle.log_rules.specs.Promises as logs
+use Rattle.log_rules.proofs.Promises as logs
 use Rattle.log_rules.specs.Laws.Second.{profile_none, replay_none, shift_none}
 use Rattle.log_rules.specs.declared.Replayed.{Replayed}
 use Rattle.log_shift.specs.Shifted.{Shifted}

@@ -14,9 +14,9 @@ use Rattle.from_c.specs.Numbers.{kind_of, named, plan_from, time_bytes}
 use Rattle.from_c.specs.Laws.{length_times}
 use Rattle.read_from_c.specs.Reading.{reading_from}
 use Rattle.salvage_rules.specs.Salvage.{Entry, Salvage, saves, forgoes, salvaged, entry_number}
-use Rattle.salvage_rules.specs.Promises as salvage
-use Rattle.salvage_rules.specs.Laws.Salvage.Call.{Apart, SalvageOf}
-use Rattle.salvage_rules.specs.Laws.Salvage.Named.{entry_of}
+use Rattle.salvage_rules.proofs.Promises as salvage
+use Rattle.salvage_rules.proofs.Laws.Salvage.Call.{Apart, SalvageOf}
+use Rattle.salvage_rules.proofs.Laws.Salvage.Named.{entry_of}
 use Rattle.salvage_rules.specs.Laws.Salvage.Refusals.{Refused, plan_illegal, not_whole, log_long, times_many, report_long, answer_none}
 use Rattle.salvage_rules.specs.declared.Salvaged.{Salvaged}
 use Rattle.salvage_from_c.specs.Salvaging.{SavesBytes, salvaged_from}

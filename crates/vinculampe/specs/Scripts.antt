@@ -17,7 +17,7 @@ use Rattle.log_rules.specs.Pick.{joined, picked}
 use Rattle.log_rules.specs.Scripts.{PicksTo, JoinsTo, ShiftsTo}
 use Rattle.log_rules.specs.Shift.{moved, moves, shifted}
 use Rattle.log_rules.specs.Laws.Logs.{log_bytes}
-use Rattle.log_rules.specs.Laws.Pick.{pick_from, pick_gives}
+use Rattle.log_rules.proofs.Laws.Pick.{pick_from, pick_gives}
 use Rattle.log_rules.specs.Laws.Shift.{Passes, moved_sum, shift_from}
 use Rattle.log_rules.specs.Laws.Succeeds.{join_number, pick_number, shift_number}
 use Rattle.log_shift.specs.Shifted.{Shifted}

@@ -10,8 +10,8 @@ use Rattle.format.specs.Read.{Reading, reading, gives, refuses, groups_in}
 use Rattle.format.specs.declared.Kind.{Kind}
 use Rattle.format.specs.declared.Plan.{Plan}
 use Rattle.capture_rules.specs.Split.{words_read, items_read, in_capture}
-use Rattle.capture_rules.specs.Promises as split
-use Rattle.capture_rules.specs.Laws.Split.Whole.{Meets, same}
+use Rattle.capture_rules.proofs.Promises as split
+use Rattle.capture_rules.proofs.Laws.Split.Whole.{Meets, same}
 use Rattle.from_c.specs.Numbers.{kind_of, named, plan_from}
 use Rattle.read_from_c.specs.Reading.{reading_from}
 use Rattle.split_from_c.specs.Splitting.{words_from, items_from}

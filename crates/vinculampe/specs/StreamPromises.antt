@@ -17,9 +17,9 @@ use Rattle.format.specs.declared.Plan.{Plan}
 use Rattle.from_c.specs.Laws.{sixteen}
 use Rattle.from_c.specs.Numbers.{kind_of, named, plan_from}
 use Rattle.read_from_c.specs.Reading.{reading_from}
-use Rattle.stream_rules.specs.Promises as rules
+use Rattle.stream_rules.proofs.Promises as rules
 use Rattle.stream_rules.specs.Stream.{Call, Flow, State, Streamed, Working, close_on, closed, closed_by, closed_with, closing_at, count_of, entries_for, failed, fed_by, fed_on, feedable, fits, is_open_state, most_bytes, opened, opened_number, refused_by, streamed, working}
-use Rattle.stream_rules.specs.Laws.Stream.Pieces.{Cut, NoneRefused, capture_of, feed_all, fed_with, whole}
+use Rattle.stream_rules.proofs.Laws.Stream.Pieces.{Cut, NoneRefused, capture_of, feed_all, fed_with, whole}
 use Rattle.stream_state.specs.Layout.{is_state, state_at, state_bytes}
 use Rattle.stream_state.specs.Laws.Bytes.{bytes_state_back, passed, state_bytes_back, state_bytes_pass}
 use Rattle.stream_calls.specs.Calls.{Outcome, closing, feeding, opening, outcome_of, unread}

@@ -16,12 +16,12 @@ use Rattle.format.specs.Laws.Log.Back.{Logged}
 use Rattle.format.specs.Laws.Log.Forth.{log_forth}
 use Rattle.format.specs.Laws.Log.Sizes.{in_time_lem}
 use Rattle.format.specs.Laws.Legal.{logged_lawful}
-use Rattle.format.specs.Laws.Reader.Reads.{Whole, whole, reads}
-use Rattle.format.specs.Laws.Reader.Back.{parts_back, none}
+use Rattle.format.proofs.Laws.Reader.Reads.{Whole, whole, reads}
+use Rattle.format.proofs.Laws.Reader.Back.{parts_back, none}
 use Rattle.format.specs.Laws.Accepted.Given.{ReadOf, read_by, given_bytes}
-use Rattle.format.specs.Laws.Accepted.Together.{given_parses, given_parts}
+use Rattle.format.proofs.Laws.Accepted.Together.{given_parses, given_parts}
 use Rattle.log_rules.specs.Laws.Logs.{LogOf, log_new, all_keep, keep_append}
-use Rattle.log_rules.specs.Laws.Pick.{pick_gives}
+use Rattle.log_rules.proofs.Laws.Pick.{pick_gives}
 use Rattle.bus_rules.specs.Buses.{ReadsTo, said_on, says_on}
 use Rattle.format.specs.declared.Kind.{Kind}
 use Rattle.format.specs.declared.Plan.{Plan}

@@ -1,6 +1,4 @@
 -- What follows from the two operations of K3.
 pub mod Places
 pub mod Faults
-pub mod Whole
 pub mod Second
-pub mod Large

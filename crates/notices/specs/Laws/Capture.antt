@@ -11,10 +11,11 @@ use Rattle.format.specs.Reader.{Slot, counted, places_of}
 use Rattle.format.specs.Read.{got, read_groups, slots_from, open_in}
 use Rattle.format.specs.Notices.{first_open, first_word_of}
 use Rattle.format.specs.Laws.Lists.{map_append, length_list}
-use Rattle.format.specs.Laws.Reader.Named.{named, words_in}
-use Rattle.format.specs.Laws.Accepted.Faultless.{accepted_parts}
-use Rattle.format.specs.Laws.Accepted.Exact.{slots_low, slots_named}
-use Rattle.format.specs.Laws.Accepted.Together.{data_all}
+use Rattle.format.proofs.Laws.Reader.Named.{named}
+use Rattle.format.specs.Laws.Reader.Slots.{words_in}
+use Rattle.format.proofs.Laws.Accepted.Faultless.{accepted_parts}
+use Rattle.format.proofs.Laws.Accepted.Exact.{slots_low, slots_named}
+use Rattle.format.proofs.Laws.Accepted.Together.{data_all}
 use Rattle.format.specs.declared.Kind.{Kind}
 use Rattle.format.specs.declared.Plan.{Plan}
 use Rattle.format.specs.declared.Item.{Item}

@@ -13,15 +13,15 @@ use Rattle.format.specs.Group.{group_slots}
 use Rattle.format.specs.Reader.{Slot, counted}
 use Rattle.format.specs.Read.{slots_from}
 use Rattle.format.specs.Laws.Lists.{map_append}
-use Rattle.format.specs.Laws.Reader.Named.{words_in}
+use Rattle.format.specs.Laws.Reader.Slots.{words_in}
 use Rattle.format.specs.Laws.Reader.Counted.{counted_append}
-use Rattle.format.specs.Laws.Accepted.Exact.{slots_low, slots_count}
+use Rattle.format.proofs.Laws.Accepted.Exact.{slots_low, slots_count}
 use Rattle.format.specs.declared.Kind.{Kind}
 use Rattle.format.specs.declared.Plan.{Plan}
 use Rattle.notices.specs.Roles.{Role, neither, notice, word, lacked, open_row, role_in, roles_in}
 use Rattle.notices.specs.Table.{Notes, no_notes, noted, notes_of, earliest_of, RowNoted}
 use Rattle.notices.specs.Laws.Rows.{all_words, open_most, table_open}
-use Rattle.format.specs.Laws.Accepted.Tidy.{slots_length}
+use Rattle.format.proofs.Laws.Accepted.Tidy.{slots_length}
 
 -- the number of the earliest open notice among the data words of n groups, one up; 0 for none
 abbrev pub open_number : List Kind → Plan → List ℕ → ℕ → ℕ

@@ -12,8 +12,8 @@ use Rattle.format.specs.Reader.{data_of, places_of, counted}
 use Rattle.format.specs.Notices.{first_open, first_word_of}
 use Rattle.format.specs.Laws.Lists.{all_map}
 use Rattle.format.specs.Laws.Notices.{Answered, first_within, words_before}
-use Rattle.format.specs.Laws.Reader.Words.{words_said}
-use Rattle.format.specs.Laws.Composed.Read.{words_data}
+use Rattle.format.proofs.Laws.Reader.Words.{words_said}
+use Rattle.format.proofs.Laws.Composed.Read.{words_data}
 use Rattle.format.specs.declared.Kind.{Kind}
 use Rattle.format.specs.declared.Item.{Item}
 use Rattle.notices.specs.Roles.{open_row, roles_in}

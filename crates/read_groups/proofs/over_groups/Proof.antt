@@ -9,7 +9,7 @@ use Rattle.format.specs.Plan.{group_words, slots, lead}
 use Rattle.format.specs.Group.{none, group_fault, group_slots}
 use Rattle.format.specs.Reader.{counted}
 use Rattle.format.specs.Laws.Limits.{Shape, group_most, most_group_words, slots_most, lead_few}
-use Rattle.format.specs.Laws.Reader.Named.{words_in}
+use Rattle.format.specs.Laws.Reader.Slots.{words_in}
 use Rattle.format.specs.Laws.Word.Bytes.{all_bytes}
 use Rattle.format.specs.declared.Plan.{Plan}
 use Rattle.group_read.proofs.Answers.{words_length, words_low}

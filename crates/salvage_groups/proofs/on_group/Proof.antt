@@ -11,7 +11,7 @@ use Prim.Native.Nat.{◌+◌, ◌*◌, ◌^◌, ◌≤◌}
 use Rattle.salvage_run.specs.Tape.{Sound}
 use Rattle.capture_parts.proofs.Part.{dealt_all, part_of}
 use Rattle.group_read.proofs.Answers.{words_length, words_low}
-use Rattle.format.specs.Laws.Reader.Named.{words_in}
+use Rattle.format.specs.Laws.Reader.Slots.{words_in}
 use Rattle.format.specs.Laws.Limits.{lead_few, slots_most}
 use Rattle.format.specs.Group.{none, group_fault, group_slots, group_time}
 use lib.ListN.{take, drop, get_or}

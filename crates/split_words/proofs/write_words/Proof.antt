@@ -9,7 +9,7 @@ use Rattle.format.specs.Group.{none, group_fault, group_slots}
 use Rattle.format.specs.Read.{slots_from}
 use Rattle.format.specs.Laws.Front.{Front, front_long}
 use Rattle.format.specs.Laws.Limits.{Shape, group_most, most_group_words, slots_most, lead_few}
-use Rattle.format.specs.Laws.Reader.Named.{words_in}
+use Rattle.format.specs.Laws.Reader.Slots.{words_in}
 use Rattle.format.specs.declared.Plan.{Plan}
 use Rattle.capture_rules.specs.Split.{groups_fault}
 use Rattle.group_read.proofs.Answers.{words_length}

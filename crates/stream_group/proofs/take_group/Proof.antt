@@ -7,7 +7,7 @@ use lib.ListN.{length, get_or, take, drop}
 use Rattle.format.specs.Plan.{group_words, lead, slots}
 use Rattle.format.specs.Group.{group_slots}
 use Rattle.format.specs.Laws.Limits.{Shape, lead_few, slots_most, group_most}
-use Rattle.format.specs.Laws.Reader.Named.{words_in}
+use Rattle.format.specs.Laws.Reader.Slots.{words_in}
 use Rattle.group_read.proofs.Answers.{words_length, words_low}
 use Rattle.group_read.proofs.Numbers.{number_none, number_found, place_low}
 use Rattle.stream_group.proofs.Row.{at_low, dealt_in, group_stops, group_took, own_words, took_stops}

@@ -19,7 +19,7 @@ use Rattle.format.specs.declared.Plan.{Plan}
 use Rattle.stream_rules.specs.Stream.{whole_bytes, rest_bits, Tale, start, stream_groups, streamed, tale_log, tale_times}
 use Rattle.stream_rules.specs.Laws.Stream.Bits.{packed_append}
 use Rattle.salvage_rules.specs.Salvage.{Entry, lost_group, lost_word, Saved, salvage_groups, salvaged, saves, kept_times}
-use Rattle.salvage_rules.specs.Laws.Salvage.Call as Call
+use Rattle.salvage_rules.proofs.Laws.Salvage.Call as Call
 use Rattle.stream_salvage.specs.Laws.Shared.{AtGap, Shared, behind, shared, time}
 
 -- the log of items behind others begins with the whole bytes of these

@@ -3,7 +3,7 @@ use mathlib.Core.List.{map}
 use native.Mathlib.Omega.{arith}
 use lib.ListN.{length, length-map}
 use Rattle.format.specs.Laws.Front.{front_none, front_part}
-use Rattle.format.specs.Laws.Reader.Forth.{held_parts}
+use Rattle.format.specs.Laws.Reader.Held.{held_parts}
 use Rattle.data_word.specs.Holding.{held_of}
 use Rattle.stream_rules.specs.StateNumbers.{four_words, kind_number}
 use Rattle.from_c.specs.Laws.{length_times}

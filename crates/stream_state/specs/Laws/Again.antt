@@ -4,7 +4,8 @@ use Rattle.std.proofs.Common.{arith, ap, ap₂, sym, ◌∙◌, lt-ltb, ltb-true
 use Rattle.format.specs.Lists.{All, nil, cons}
 use Rattle.format.specs.Word.{Part, part_of, word_for, word_of, bus_of, label_of, info_of, sent}
 use Rattle.format.specs.Reader.{Fed, bad, fed, feed, holds}
-use Rattle.format.specs.Laws.Reader.Forth.{Fits, HeldOk, held_parts}
+use Rattle.format.proofs.Laws.Reader.Forth.{Fits, HeldOk}
+use Rattle.format.specs.Laws.Reader.Held.{held_parts}
 use Rattle.format.specs.Laws.Tests.{and_true, clash}
 use Rattle.format.specs.Laws.Word.Parts.{Holds, part_back, part_forth, part_holds}
 use Rattle.format.specs.declared.Kind.{Kind}
@@ -15,7 +16,7 @@ use Rattle.stream_rules.specs.Stream.{held_fits}
 use Rattle.stream_rules.specs.StateNumbers.{four_words, held_from, held_of, same_row}
 use Rattle.stream_rules.specs.Laws.Stream.Fits.{held_ok, ok_held}
 use Rattle.stream_rules.specs.Laws.Stream.Held.{RefedOk, held_back, only_held, refed, refed_ok}
-use Rattle.stream_rules.specs.Laws.Stream.Numbers.{held_four, held_holds, row_same, same_row_lem}
+use Rattle.stream_rules.proofs.Laws.Stream.Numbers.{held_four, held_holds, row_same, same_row_lem}
 use Rattle.stream_state.specs.Parts.{are_zeros, held_passes}
 use Rattle.stream_state.specs.Again.{again}
 use Rattle.stream_state.specs.Laws.Row.{zeros_are}

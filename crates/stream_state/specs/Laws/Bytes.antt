@@ -4,7 +4,7 @@ use Rattle.std.proofs.Common.{ap, ◌∙◌, eq-eqb, eqb-true}
 use Rattle.format.specs.Laws.Tests.{and_true}
 use Rattle.stream_rules.specs.Stream.{State, fits}
 use Rattle.stream_rules.specs.StateNumbers.{state_of, same_row}
-use Rattle.stream_rules.specs.Laws.Stream.Numbers.{row_same, same_row_lem, state_back}
+use Rattle.stream_rules.proofs.Laws.Stream.Numbers.{row_same, same_row_lem, state_back}
 use Rattle.stream_state.specs.Layout.{is_state, state_at, state_bytes}
 use Rattle.stream_state.specs.Laws.Small.{fits_said}
 

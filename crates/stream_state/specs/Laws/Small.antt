@@ -11,14 +11,14 @@ use Rattle.format.specs.Laws.Legal.{Legal, legal_is}
 use Rattle.format.specs.Laws.Limits.{Shape, group_least, group_most}
 use Rattle.format.specs.Laws.Lists.{all_append, all_of}
 use Rattle.format.specs.Laws.Log.Fields.{num_low}
-use Rattle.format.specs.Laws.Reader.Forth.{held_parts}
+use Rattle.format.specs.Laws.Reader.Held.{held_parts}
 use Rattle.format.specs.Laws.Tests.{and_true, bit_low}
 use Rattle.format.specs.Laws.Word.Parts.{Holds}
 use Rattle.stream_rules.specs.Stream.{State, closed, failed, working, Working, carry_fits, fits, held_fits, most_bytes, place_fits, second_fits, waits_fit}
 use Rattle.stream_rules.specs.StateNumbers.{four_words, kind_number, numbers_of}
 use Rattle.stream_rules.specs.Laws.Stream.Fits.{held_ok, NumberOk, zeroth, slotted, PlaceOk, zeroth_place, placed, WaitOk, empty, waits, WaitsOk, last, next, place_ok, waits_ok}
-use Rattle.stream_rules.specs.Laws.Stream.Kept.{Fit, fits_is, bits_ok}
-use Rattle.stream_rules.specs.Laws.Stream.Numbers.{held_holds}
+use Rattle.stream_rules.proofs.Laws.Stream.Kept.{Fit, fits_is, bits_ok}
+use Rattle.stream_rules.proofs.Laws.Stream.Numbers.{held_holds}
 use Rattle.stream_state.specs.Layout.{number_at, row_at, row_bytes, stamped, zeros_behind}
 use Rattle.stream_state.specs.Laws.Row.{row_back, count_back, behind, behind_gap, row_long, stage_said}
 use Rattle.format.specs.declared.Kind.{Kind}

@@ -15,12 +15,12 @@ use Rattle.from_c.specs.Numbers.{are_kinds, half_at, is_choice, kind_of, plan_fr
 use Rattle.format.specs.Laws.Legal.{legal_is}
 use Rattle.format.specs.Laws.Limits.{Shape, group_most}
 use Rattle.format.specs.Laws.Log.Fields.{num_bits, num_low}
-use Rattle.format.specs.Laws.Reader.Forth.{held_parts}
+use Rattle.format.specs.Laws.Reader.Held.{held_parts}
 use Rattle.stream_rules.specs.Stream.{State, Working, working, count_of, fits, group_size, held_fits, most_bytes, place_fits, waits_fit}
 use Rattle.stream_rules.specs.StateNumbers.{four_words, held_from, kind_from, kind_number, numbers_of, state_of, same_row}
 use Rattle.stream_rules.specs.Laws.Stream.Fits.{both}
-use Rattle.stream_rules.specs.Laws.Stream.Kept.{Fit, bits_are, bits_ok}
-use Rattle.stream_rules.specs.Laws.Stream.Numbers.{row_same, same_row_lem}
+use Rattle.stream_rules.proofs.Laws.Stream.Kept.{Fit, bits_are, bits_ok}
+use Rattle.stream_rules.proofs.Laws.Stream.Numbers.{row_same, same_row_lem}
 use Rattle.format.specs.declared.Kind.{Kind}
 use Rattle.format.specs.declared.Kind.TheVariants.{Unused, Mil1553, Arinc429}
 use Rattle.stream_state.specs.Layout.{stage_of, stamped, zeros_behind, number_at, row_at, row_bytes, state_at, state_bytes, is_state}

@@ -17,7 +17,7 @@ use Rattle.format.specs.Laws.Lists.{all_list, all_flat}
 use Rattle.format.specs.Laws.Legal.{Legal}
 use Rattle.format.specs.Laws.Limits.{long, room, free}
 use Rattle.format.specs.Laws.Composed.Frames.{place_low}
-use Rattle.format.specs.Laws.Composed.Slots.{slot_in}
+use Rattle.format.proofs.Laws.Composed.Slots.{slot_in}
 use Rattle.format.specs.declared.Plan.{Plan}
 use Rattle.format.specs.declared.Kind.{Kind}
 

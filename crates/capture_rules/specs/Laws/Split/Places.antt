@@ -8,7 +8,7 @@ use Rattle.capture_rules.specs.Split.{run_numbers}
 use Rattle.format.specs.declared.Kind.{Kind}
 use Rattle.format.specs.declared.Item.{Item}
 use Rattle.format.specs.declared.Held.{Held}
-use Rattle.format.specs.Laws.Reader.Onward.{and_then, more_none, join_then}
+use Rattle.format.proofs.Laws.Reader.Onward.{and_then, more_none, join_then}
 
 -- ---- numbers of 24 bits
 

@@ -10,7 +10,7 @@ use Rattle.capture_rules.specs.Split.{groups_fault, frame_times, words_roomed, w
 use Rattle.format.specs.declared.Kind.{Kind}
 use Rattle.format.specs.declared.Plan.{Plan}
 use Rattle.format.specs.declared.Held.TheVariants.{Nothing}
-use Rattle.format.specs.Laws.Reader.Named.{words_in}
+use Rattle.format.specs.Laws.Reader.Slots.{words_in}
 
 words_roomed_only : (p : Plan) (c : List ℕ) (n wordRoom time_room : ℕ) → ReadOnly (words_roomed p c n wordRoom time_room)
 words_roomed_only p c n wordRoom time_room =

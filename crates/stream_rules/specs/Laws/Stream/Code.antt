@@ -15,7 +15,7 @@ use Rattle.stream_rules.specs.Laws.Stream.Bits.{whole_append, rest_append, whole
 use Rattle.format.specs.declared.Kind.{Kind}
 use Rattle.format.specs.declared.Plan.{Plan}
 use Rattle.format.specs.declared.Held.{Held}
-use Rattle.format.specs.Laws.Reader.Named.{named, renamed, run_named}
+use Rattle.format.proofs.Laws.Reader.Named.{named, renamed, run_named}
 
 -- ---- a place in the group's own bytes, and in the capture: 0, which no data word has, stands for the first word of what was held before
 

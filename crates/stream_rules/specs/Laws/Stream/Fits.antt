@@ -26,8 +26,9 @@ use Rattle.format.specs.Laws.Lists.{all_list, all_map, all_append, all_flat}
 use Rattle.format.specs.Laws.Legal.{Legal, legal_is}
 use Rattle.format.specs.Laws.Limits.{long, room}
 use Rattle.format.specs.Laws.Composed.Frames.{place_low}
-use Rattle.format.specs.Laws.Composed.Slots.{slot_in}
-use Rattle.format.specs.Laws.Reader.Forth.{BaseOk, HeldOk, Fits, Good, feed_good, held_parts}
+use Rattle.format.proofs.Laws.Composed.Slots.{slot_in}
+use Rattle.format.proofs.Laws.Reader.Forth.{BaseOk, HeldOk, Fits, Good, feed_good}
+use Rattle.format.specs.Laws.Reader.Held.{held_parts}
 use Rattle.capture_rules.specs.Laws.Split.Faults.{In, FaultIn, fault_in}
 use Rattle.format.specs.declared.Kind.{Kind}
 use Rattle.format.specs.declared.Kind.TheVariants.{Unused, Mil1553, Arinc429}
@@ -40,7 +41,7 @@ use Rattle.format.specs.declared.Base.TheVariants as base
 use Rattle.format.specs.declared.Held.{Held}
 use Rattle.format.specs.declared.Held.TheVariants.{Nothing, Taggable, Half, TagHigh, TagLow, Answering}
 use Rattle.format.specs.declared.Plan.{Plan}
-use Rattle.format.specs.Laws.Reader.Named.{RanIn, run_in, named}
+use Rattle.format.proofs.Laws.Reader.Named.{RanIn, run_in, named}
 
 -- both tests
 pub both : {a b : Bool} → a ≡ true → b ≡ true → (a && b) ≡ true

@@ -8,7 +8,8 @@ use Rattle.format.specs.Word.{Part, part}
 use Rattle.format.specs.Item.{high_label, low_label, channel_of, sided}
 use Rattle.format.specs.Plan.{kind_on}
 use Rattle.format.specs.Reader.{Fed, bad, fed, feed, starts, holds, base_bus}
-use Rattle.format.specs.Laws.Reader.Forth.{BaseOk, HeldOk, base_parts, held_parts, Fits, Good, feed_good}
+use Rattle.format.proofs.Laws.Reader.Forth.{BaseOk, HeldOk, Fits, Good, feed_good}
+use Rattle.format.specs.Laws.Reader.Held.{base_parts, held_parts}
 use Rattle.format.specs.declared.Kind.{Kind}
 use Rattle.format.specs.declared.Kind.TheVariants.{Mil1553, Arinc429}
 use Rattle.format.specs.declared.Item.{Item}

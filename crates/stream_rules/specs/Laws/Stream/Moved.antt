@@ -21,11 +21,11 @@ use Rattle.format.specs.Laws.Lists.{list_same, map_append}
 use Rattle.format.specs.Laws.Legal.{Legal}
 use Rattle.format.specs.Laws.Limits.{long, room}
 use Rattle.format.specs.Laws.Composed.Frames.{place_low}
-use Rattle.format.specs.Laws.Composed.Slots.{slot_in}
+use Rattle.format.proofs.Laws.Composed.Slots.{slot_in}
 use Rattle.stream_rules.specs.Laws.Stream.Fits.{lead_in, slots_named}
 use Rattle.format.specs.declared.Kind.{Kind}
 use Rattle.format.specs.declared.Plan.{Plan}
-use Rattle.format.specs.Laws.Reader.Named.{named}
+use Rattle.format.proofs.Laws.Reader.Named.{named}
 
 -- ---- faults that are moved
 

@@ -1,0 +1,5 @@
+pub mod Account
+pub mod Call
+pub mod Named
+pub mod Places
+pub mod Plain

@@ -1,0 +1,2 @@
+-- What rests on the definitions of specs/: theorems that an edit of a definition makes false.
+pub mod Promises
