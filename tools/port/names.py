@@ -14,8 +14,10 @@ import re
 import sys
 
 TOKEN = re.compile(r"[^\s(){}\[\].;,@\"«»`|⌜⌝]+")
-DECLARED = re.compile(r"^(  )?(?:(?:abbrev|unfoldable|pub|opaque) )*(record |data )?([^\s(){}.;,@\"«»:]+)((?: [({].*?)?) : (.*)$")
+DECLARED = re.compile(r"^( *)(?:(?:abbrev|unfoldable|pub|opaque) )*(record |data )?([^\s(){}.;,@\"«»:]+)((?: [({].*?)?) : (.*)$")
 OF_A_GOAL = re.compile(r"^(tie|goal)\.\S+")
+# A step's label that a lemma shares: behind a dot it stays.
+LABELS = {"command-base"}
 # What stands in the pages as a word of the tool's, not as a lemma.
 WORDS = {"fill-bus", "fill_bus"}
 A_FACT = re.compile(r"(^|→ )Type 0$")
@@ -117,6 +119,8 @@ def main(argv):
 
     # `_lem` is a lemma's own: not of a step's label, behind a dot, nor of a function or a folder.
     def word(it):
+        if it[0] in LABELS and it.string[it.start() - 1 : it.start()] == ".":
+            return it[0]
         new = it[0] if it[0] in kept else rows.get(it[0], it[0])
         if new == it[0] and not path.endswith((".antt", ".rt")) and it[0] not in kept | there and snake(it[0]) in there and it[0][0].islower():
             new = snake(it[0])

@@ -12,7 +12,7 @@ use Rattle.format.specs.Laws.Reader.Slots.{words_in}
 use Rattle.format.specs.declared.Plan.{Plan}
 use Rattle.group_read.specs.declared.Fault.{Fault as Found}
 use Rattle.group_read.specs.Row.{dealt_count, Deals}
-use Rattle.group_read.proofs.Answers.{answer_none, answer-found, answer_low, answer_words}
+use Rattle.group_read.proofs.Answers.{answer_none, answer_found, answer_low, answer_words}
 
 module _ (p : Plan) (s : Shape p) where
   pub dealt_few : dealt_count p ≤ group_words p
@@ -60,15 +60,15 @@ module _ (p : Plan) (s : Shape p) where
       pub dealt_none : r.number ≡ 0 → group_fault p c (g * group_words p) ≡ none
       dealt_none z = answer_none p c (g * group_words p) (g * (3 * group_words p)) _ s begins sized d.fault z
 
-      pub dealt-found : (r.number ≡ 0 → ⊥) → group_fault p c (g * group_words p) ≡ found r.number (g * group_words p + r.place)
-      dealt-found z = answer-found p c (g * group_words p) (g * (3 * group_words p)) _ s begins sized d.fault z
+      pub dealt_found : (r.number ≡ 0 → ⊥) → group_fault p c (g * group_words p) ≡ found r.number (g * group_words p + r.place)
+      dealt_found z = answer_found p c (g * group_words p) (g * (3 * group_words p)) _ s begins sized d.fault z
 
-      pub none-dealt : group_fault p c (g * group_words p) ≡ none → r.number ≡ 0
-      none-dealt e = go r.number refl
+      pub none_dealt : group_fault p c (g * group_words p) ≡ none → r.number ≡ 0
+      none_dealt e = go r.number refl
         where
           go : (k : ℕ) → r.number ≡ k → k ≡ 0
           go zero z = refl
-          go (suc k) z = not_both e (dealt-found (λ y. absurd (omega (arith, y, z))))
+          go (suc k) z = not_both e (dealt_found (λ y. absurd (omega (arith, y, z))))
 
       pub dealt_low : r.place < group_words p
       dealt_low = answer_low p c (g * group_words p) (g * (3 * group_words p)) _ s begins sized d.fault

@@ -46,14 +46,14 @@ module _ (p : Plan) (times : List ℕ) (room : ℕ) (ws : List ℕ) where
   times_wrong h = rw (ne_eqb (length times) need h)
 
   module _ (number : length times ≡ need) where
-    pub time-late : (first_late 0 times ≡ length times → ⊥) → compose_words p times room ws ≡ refused 5 (first_late 0 times)
+    pub time_late : (first_late 0 times ≡ length times → ⊥) → compose_words p times room ws ≡ refused 5 (first_late 0 times)
     unfolding compose_words
-    time-late h = rw (eq-eqb (length times) need number, ne_eqb (first_late 0 times) (length times) h)
+    time_late h = rw (eq-eqb (length times) need number, ne_eqb (first_late 0 times) (length times) h)
 
     module _ (size : first_late 0 times ≡ length times) where
-      pub room-short : room < bytes → compose_words p times room ws ≡ refused 6 bytes
+      pub room_short : room < bytes → compose_words p times room ws ≡ refused 6 bytes
       unfolding compose_words
-      room-short h = rw (eq-eqb (length times) need number, eq-eqb (first_late 0 times) (length times) size, lt-leb bytes room h)
+      room_short h = rw (eq-eqb (length times) need number, eq-eqb (first_late 0 times) (length times) size, lt-leb bytes room h)
 
       pub all_made : bytes ≤ room → compose_words p times room ws ≡ made (capture_of p times ws)
       unfolding compose_words
@@ -80,14 +80,14 @@ module _ (p : Plan) (ks : List Kind) (log times : List ℕ) (room : ℕ) where
   log_whole : legal p ks ≡ true → (is : List Item) → parsed (on_plan ks) log ≡ items is → All (Sound ks p.parity) is
       → composed p ks log times room ≡ compose_laid p ks times room (flat_map item_words is)
   unfolding composed
-  log_whole e is g sound = rw (e, g) (laid-whole is (all_map (λ i s. unsent-sound p.parity i s) sound))
+  log_whole e is g sound = rw (e, g) (laid_whole is (all_map (λ i s. unsent_sound p.parity i s) sound))
     where
-      unsent-sound : (parity : Bool) (i : Item) → Sound ks parity i → Sound ks false i
-      unsent-sound true i s = record { lawful = s.lawful; bus = omega (arith, s.bus) }
-      unsent-sound false i s = s
+      unsent_sound : (parity : Bool) (i : Item) → Sound ks parity i → Sound ks false i
+      unsent_sound true i s = record { lawful = s.lawful; bus = omega (arith, s.bus) }
+      unsent_sound false i s = s
 
-      laid-whole : (is : List Item) → All (Sound ks false) is → compose_parsed p times room (items is) ≡ compose_laid p ks times room (flat_map item_words is)
-      laid-whole is sound = go (eqb (open_word ks (flat_map item_words is)) 0) refl
+      laid_whole : (is : List Item) → All (Sound ks false) is → compose_parsed p times room (items is) ≡ compose_laid p ks times room (flat_map item_words is)
+      laid_whole is sound = go (eqb (open_word ks (flat_map item_words is)) 0) refl
         where
           go : (b : Bool) → eqb (open_word ks (flat_map item_words is)) 0 ≡ b
               → compose_parsed p times room (items is)

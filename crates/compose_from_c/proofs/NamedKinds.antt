@@ -17,6 +17,6 @@ module _ (words tracks time crc parity label code : ℕ) (kinds : List ℕ) wher
 
   module _ (p : Plan) (ks : List Kind) (e : named time crc parity kinds ≡ true)
       (a : p ≡ plan_from words tracks time crc parity label code) (b : ks ≡ map kind_of kinds) where
-    pub composed-named : (log times : List ℕ) (room : ℕ) → composed_from words tracks time crc parity label code kinds log times room ≡ composed_bytes p ks log times room
+    pub composed_named : (log times : List ℕ) (room : ℕ) → composed_from words tracks time crc parity label code kinds log times room ≡ composed_bytes p ks log times room
     unfolding composed_from
-    composed-named log times room = rw (e, a, b)
+    composed_named log times room = rw (e, a, b)

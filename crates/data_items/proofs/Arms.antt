@@ -33,8 +33,8 @@ use Rattle.data_items.specs.Taken.{Here, Opened, Took}
 use Rattle.data_items.proofs.Words.{bus_is, bus_low, info_is, info_low, label_is, label_low}
 use Rattle.data_items.proofs.Row.{Goes, goes_bare, goes_tag, tagged}
 use Rattle.data_items.proofs.First.{answer_of, channel, command_starts, command_of, goes_arinc, goes_command, goes_status, syllable_starts}
-use Rattle.data_items.proofs.Strings.{Both, Says, arinc-bits, arinc-tag-bits, command-bits, command-tag-bits, status_bits}
-use Rattle.data_items.proofs.Spot.{Spot, alone-here, alone-taken, bus_here, info_here, kind_here, label_here, says_here, top_below}
+use Rattle.data_items.proofs.Strings.{Both, Says, arinc_bits, arinc_tag_bits, command_bits, command_tag_bits, status_bits}
+use Rattle.data_items.proofs.Spot.{Spot, alone_here, alone_taken, bus_here, info_here, kind_here, label_here, says_here, top_below}
 use Rattle.data_items.proofs.Taking.{put_puts, puts_then, took_item, took_none}
 
 -- ---- what may have a tag
@@ -121,49 +121,49 @@ module _ {tops : ℕ} {row : List ℕ} {t : Taken} {word top : ℕ} {out : List 
   -- ---- a command
 
   module _ {r : Step} (l : 8 ≤ top % 16) (m : top % 16 % 4 ≡ 3) (e : (g : Holding) → r ≡ begun g 0 0 (starts Mil1553 (top / 16) (top % 16) (word % 65536))) where
-    abbrev pub the-command : Base
-    the-command = command_of (bus_of parity w) (label_of w) (info_of w)
+    abbrev pub the_command : Base
+    the_command = command_of (bus_of parity w) (label_of w) (info_of w)
 
-    command-base : r.held.base ≡ number_of 0 (item_fields (with_tag the-command Untagged))
-    command-base =
+    command_base : r.held.base ≡ number_of 0 (item_fields (with_tag the_command Untagged))
+    command_base =
         let f = command_starts (bus_of parity w) (info_of w) (label_of w) (rw (label_here h) at l) (label_low w) (rw (label_here h) at m) in
-        let s : r ≡ begun (flat Nothing) 0 0 (fed [] (Taggable the-command)) = e (flat Nothing) ∙ rw (bus_here h, label_here h, info_here h)
+        let s : r ≡ begun (flat Nothing) 0 0 (fed [] (Taggable the_command)) = e (flat Nothing) ∙ rw (bus_here h, label_here h, info_here h)
         (ap (begun (flat Nothing) 0 0) f) in
         ap (λ (s : Step). s.held.base) s
 
-    pub command-says : Says 26 r.held.base (with_tag the-command Untagged)
-    command-says = subst (λ (v : ℕ). Says 26 v (with_tag the-command Untagged)) (sym command-base)
-        (command-bits (bus_of parity w) (bus_low parity w h.low) (eqb (label_of w) 11) (info_of w) (info_low w))
+    pub command_says : Says 26 r.held.base (with_tag the_command Untagged)
+    command_says = subst (λ (v : ℕ). Says 26 v (with_tag the_command Untagged)) (sym command_base)
+        (command_bits (bus_of parity w) (bus_low parity w h.low) (eqb (label_of w) 11) (info_of w) (info_low w))
 
-    pub command-tag-says : (a b u : ℕ) → info_of u < 10000 → Both 26 (r.held.base + 65536) 46 (tag_of a b u) (with_tag the-command (tagged a b u))
-    command-tag-says a b u low =
-        subst (λ (v : ℕ). Both 26 (v + 65536) 46 (tag_of a b u) (with_tag the-command (tagged a b u))) (sym command-base)
-        (command-tag-bits (bus_of parity w) (bus_low parity w h.low) (eqb (label_of w) 11) (info_of w) (info_low w) a b u low)
+    pub command_tag_says : (a b u : ℕ) → info_of u < 10000 → Both 26 (r.held.base + 65536) 46 (tag_of a b u) (with_tag the_command (tagged a b u))
+    command_tag_says a b u low =
+        subst (λ (v : ℕ). Both 26 (v + 65536) 46 (tag_of a b u) (with_tag the_command (tagged a b u))) (sym command_base)
+        (command_tag_bits (bus_of parity w) (bus_low parity w h.low) (eqb (label_of w) 11) (info_of w) (info_low w) a b u low)
 
-    pub command-goes : {ks : List Kind} → kind_on ks (bus_of parity word) ≡ Mil1553 → Goes ks parity row t.slot (t.slot + 1) [] (Taggable the-command) t.slot
-    command-goes {ks} k = goes_command ks parity row t.slot (omega (arith, here.five)) (kind_here h ks k) (rw (label_here h) at l) (rw (label_here h) at m)
+    pub command_goes : {ks : List Kind} → kind_on ks (bus_of parity word) ≡ Mil1553 → Goes ks parity row t.slot (t.slot + 1) [] (Taggable the_command) t.slot
+    command_goes {ks} k = goes_command ks parity row t.slot (omega (arith, here.five)) (kind_here h ks k) (rw (label_here h) at l) (rw (label_here h) at m)
 
-    pub command-marked : r.held.base + 65536 < 2 ^ 26
-    command-marked = (command-tag-says 0 0 0 zero_low).first_fits
+    pub command_marked : r.held.base + 65536 < 2 ^ 26
+    command_marked = (command_tag_says 0 0 0 zero_low).first_fits
 
     module _ (ks : List Kind) (k : kind_on ks (bus_of parity word) ≡ Mil1553) {then : ℕ} (o : then ≡ top_of parity (get_or row (t.slot + 1) 0)) where
-      pub command-bare : {out' : List ℕ} {pen' : Pen} → (then ≡ top / 16 * 16 + 7 → ⊥) → is_fill (get_or row (t.slot + 1) 0) ≡ false
+      pub command_bare : {out' : List ℕ} {pen' : Pen} → (then ≡ top / 16 * 16 + 7 → ⊥) → is_fill (get_or row (t.slot + 1) 0) ≡ false
           → (pen' ≡ pen_put t.pen r.held.base 26) × (out' ≡ pen_in out t.pen r.held.base 26) → Took ks parity row t out
           (record { slot = t.slot + 1; pen = pen' }) out'
-      command-bare n nf p =
-          bare_taken the-command (t.slot + 1) 26 (command-goes k) (omega arith) (omega arith) (omega (arith, here.five)) nf (λ y. n (o ∙ rw (bus_here h) y))
-          command-says (omega arith) p
+      command_bare n nf p =
+          bare_taken the_command (t.slot + 1) 26 (command_goes k) (omega arith) (omega arith) (omega (arith, here.five)) nf (λ y. n (o ∙ rw (bus_here h) y))
+          command_says (omega arith) p
 
-      pub command-tagged : {is : Bool} {tag : ℕ} {out₁ out₂ : List ℕ} {p q : Pen} → then ≡ top / 16 * 16 + 7 → is ≡ tag_at parity row (t.slot + 1) (top / 16 * 16 + 7) →
+      pub command_tagged : {is : Bool} {tag : ℕ} {out₁ out₂ : List ℕ} {p q : Pen} → then ≡ top / 16 * 16 + 7 → is ≡ tag_at parity row (t.slot + 1) (top / 16 * 16 + 7) →
           is ≡ true
           → tag ≡ tag_of (get_or row (t.slot + 1) 0) (get_or row (t.slot + 1 + 1) 0) (get_or row (t.slot + 1 + 2) 0)
           → (p ≡ pen_put t.pen (r.held.base + 65536) 26) × (out₁ ≡ pen_in out t.pen (r.held.base + 65536) 26)
           → (q ≡ pen_put p tag 46) × (out₂ ≡ pen_in out₁ p tag 46) → Took ks parity row t out (record { slot = t.slot + 1 + 3; pen = q }) out₂
-      command-tagged i a b f p q =
+      command_tagged i a b f p q =
           let j : ℕ = t.slot + 1 in
           let z = rw (bus_here h) at (sym a ∙ b) in
-          tag_taken the-command j 26 (command-goes k) (omega arith) (omega arith) (omega (arith, here.five)) (sym o ∙ i ∙ rw (bus_here h) refl) z
-          (command-tag-says (get_or row j 0) (get_or row (j + 1) 0) (get_or row (j + 2) 0) (tag_low parity row j (top / 16 * 16 + 7) (sym a ∙ b))) (omega arith) p (rw f at q)
+          tag_taken the_command j 26 (command_goes k) (omega arith) (omega arith) (omega (arith, here.five)) (sym o ∙ i ∙ rw (bus_here h) refl) z
+          (command_tag_says (get_or row j 0) (get_or row (j + 1) 0) (get_or row (j + 2) 0) (tag_low parity row j (top / 16 * 16 + 7) (sym a ∙ b))) (omega arith) p (rw f at q)
 
   -- ---- an ARINC word
 
@@ -171,52 +171,52 @@ module _ {tops : ℕ} {row : List ℕ} {t : Taken} {word top : ℕ} {out : List 
     abbrev pub second : ℕ
     second = get_or row (t.slot + 1) 0
 
-    abbrev pub the-arinc : Base
-    the-arinc = base.Arinc (bus_of parity w) (channel (label_of w)) (info_of w * 2 ^ 16 + info_of second)
+    abbrev pub the_arinc : Base
+    the_arinc = base.Arinc (bus_of parity w) (channel (label_of w)) (info_of w * 2 ^ 16 + info_of second)
 
-    channel-low : channel (label_of w) < 4
-    channel-low = omega (arith, label_low w)
+    channel_low : channel (label_of w) < 4
+    channel_low = omega (arith, label_low w)
 
     word_low : info_of w * 2 ^ 16 + info_of second < 2 ^ 32
     word_low = omega (arith, info_low w, info_low second)
 
-    pub arinc-base : r.held.base * 65536 + second % 65536 ≡ number_of 0 (item_fields (with_tag the-arinc Untagged))
+    pub arinc_base : r.held.base * 65536 + second % 65536 ≡ number_of 0 (item_fields (with_tag the_arinc Untagged))
     unfolding item_fields
-    arinc-base =
+    arinc_base =
         let f = syllable_starts (bus_of parity w) (info_of w) (label_of w) (rw (label_here h) at l) (label_low w) (rw (label_here h) at m) in
         let s : r ≡ begun (flat Nothing) 0 0 (fed [] (Half (bus_of parity w) (channel (label_of w)) (info_of w))) = e (flat Nothing) ∙ rw
         (bus_here h, label_here h, info_here h) (ap (begun (flat Nothing) 0 0) f) in
         omega (arith, ap (λ (s : Step). s.held.base) s, info_is second)
 
-    pub arinc-says : {v : ℕ} → v ≡ r.held.base * 65536 + second % 65536 → Says 43 v (with_tag the-arinc Untagged)
-    arinc-says i =
-        subst (λ (v : ℕ). Says 43 v (with_tag the-arinc Untagged)) (sym (i ∙ arinc-base))
-        (arinc-bits (bus_of parity w) (bus_low parity w h.low) (channel (label_of w)) (info_of w * 2 ^ 16 + info_of second) channel-low word_low)
+    pub arinc_says : {v : ℕ} → v ≡ r.held.base * 65536 + second % 65536 → Says 43 v (with_tag the_arinc Untagged)
+    arinc_says i =
+        subst (λ (v : ℕ). Says 43 v (with_tag the_arinc Untagged)) (sym (i ∙ arinc_base))
+        (arinc_bits (bus_of parity w) (bus_low parity w h.low) (channel (label_of w)) (info_of w * 2 ^ 16 + info_of second) channel_low word_low)
 
-    pub arinc-tag-says : (a b u : ℕ) → info_of u < 10000 → {v : ℕ} → v ≡ r.held.base * 65536 + second % 65536 → Both 43 (v + 4294967296) 46 (tag_of a b u)
-        (with_tag the-arinc (tagged a b u))
-    arinc-tag-says a b u low i =
-        subst (λ (v : ℕ). Both 43 (v + 4294967296) 46 (tag_of a b u) (with_tag the-arinc (tagged a b u))) (sym (i ∙ arinc-base))
-        (arinc-tag-bits (bus_of parity w) (bus_low parity w h.low) (channel (label_of w)) (info_of w * 2 ^ 16 + info_of second) channel-low word_low a b u low)
+    pub arinc_tag_says : (a b u : ℕ) → info_of u < 10000 → {v : ℕ} → v ≡ r.held.base * 65536 + second % 65536 → Both 43 (v + 4294967296) 46 (tag_of a b u)
+        (with_tag the_arinc (tagged a b u))
+    arinc_tag_says a b u low i =
+        subst (λ (v : ℕ). Both 43 (v + 4294967296) 46 (tag_of a b u) (with_tag the_arinc (tagged a b u))) (sym (i ∙ arinc_base))
+        (arinc_tag_bits (bus_of parity w) (bus_low parity w h.low) (channel (label_of w)) (info_of w * 2 ^ 16 + info_of second) channel_low word_low a b u low)
 
-    pub arinc-goes : {ks : List Kind} → kind_on ks (bus_of parity word) ≡ Arinc429 → top_of parity second + 1 ≡ top
-        → Goes ks parity row t.slot (t.slot + 2) [] (Taggable the-arinc) t.slot
-    arinc-goes {ks} k s = goes_arinc ks parity row t.slot (omega (arith, here.five)) (kind_here h ks k) (rw (label_here h) at l) (rw (label_here h) at m)
+    pub arinc_goes : {ks : List Kind} → kind_on ks (bus_of parity word) ≡ Arinc429 → top_of parity second + 1 ≡ top
+        → Goes ks parity row t.slot (t.slot + 2) [] (Taggable the_arinc) t.slot
+    arinc_goes {ks} k s = goes_arinc ks parity row t.slot (omega (arith, here.five)) (kind_here h ks k) (rw (label_here h) at l) (rw (label_here h) at m)
         (s ∙ says_here h)
 
-    pub arinc-marked : {v : ℕ} → v ≡ r.held.base * 65536 + second % 65536 → v + 4294967296 < 2 ^ 43
-    arinc-marked i = (arinc-tag-says 0 0 0 zero_low i).first_fits
+    pub arinc_marked : {v : ℕ} → v ≡ r.held.base * 65536 + second % 65536 → v + 4294967296 < 2 ^ 43
+    arinc_marked i = (arinc_tag_says 0 0 0 zero_low i).first_fits
 
     module _ (ks : List Kind) (k : kind_on ks (bus_of parity word) ≡ Arinc429) {v low : ℕ} (i : v ≡ r.held.base * 65536 + second % 65536) (s : low ≡ top_of parity second)
         (s' : low + 1 ≡ top)
         {then : ℕ} (o : then ≡ top_of parity (get_or row (t.slot + 2) 0)) where
-      goes : Goes ks parity row t.slot (t.slot + 2) [] (Taggable the-arinc) t.slot
-      goes = arinc-goes k (rw s at s')
+      goes : Goes ks parity row t.slot (t.slot + 2) [] (Taggable the_arinc) t.slot
+      goes = arinc_goes k (rw s at s')
 
-      pub arinc-bare : {out' : List ℕ} {pen' : Pen} → (then ≡ top / 16 * 16 + 7 → ⊥) → is_fill (get_or row (t.slot + 2) 0) ≡ false
+      pub arinc_bare : {out' : List ℕ} {pen' : Pen} → (then ≡ top / 16 * 16 + 7 → ⊥) → is_fill (get_or row (t.slot + 2) 0) ≡ false
           → (pen' ≡ pen_put t.pen v 43) × (out' ≡ pen_in out t.pen v 43) → Took ks parity row t out (record { slot = t.slot + 2; pen = pen' }) out'
-      arinc-bare n nf p =
-          bare_taken the-arinc (t.slot + 2) 43 goes (omega arith) (omega arith) (omega (arith, here.five)) nf (λ y. n (o ∙ rw (bus_here h) y)) (arinc-says i)
+      arinc_bare n nf p =
+          bare_taken the_arinc (t.slot + 2) 43 goes (omega arith) (omega arith) (omega (arith, here.five)) nf (λ y. n (o ∙ rw (bus_here h) y)) (arinc_says i)
           (omega arith) p
 
       pub arinc_tagged : {is : Bool} {tag : ℕ} {out₁ out₂ : List ℕ} {p q : Pen} → then ≡ top / 16 * 16 + 7 → is ≡ tag_at parity row (t.slot + 2) (top / 16 * 16 + 7) → is
@@ -227,8 +227,8 @@ module _ {tops : ℕ} {row : List ℕ} {t : Taken} {word top : ℕ} {out : List 
       arinc_tagged e₁ a b f p q =
           let j : ℕ = t.slot + 2 in
           let z = rw (bus_here h) at (sym a ∙ b) in
-          tag_taken the-arinc j 43 goes (omega arith) (omega arith) (omega (arith, here.five)) (sym o ∙ e₁ ∙ rw (bus_here h) refl) z
-          (arinc-tag-says (get_or row j 0) (get_or row (j + 1) 0) (get_or row (j + 2) 0) (tag_low parity row j (top / 16 * 16 + 7) (sym a ∙ b)) i) (omega arith) p (rw f at q)
+          tag_taken the_arinc j 43 goes (omega arith) (omega arith) (omega (arith, here.five)) (sym o ∙ e₁ ∙ rw (bus_here h) refl) z
+          (arinc_tag_says (get_or row j 0) (get_or row (j + 1) 0) (get_or row (j + 2) 0) (tag_low parity row j (top / 16 * 16 + 7) (sym a ∙ b)) i) (omega arith) p (rw f at q)
 
   -- ---- a response and its status
 
@@ -240,25 +240,25 @@ module _ {tops : ℕ} {row : List ℕ} {t : Taken} {word top : ℕ} {out : List 
     abbrev number : ℕ
     number = (((32 + top / 16) * 2 + (3 - then % 16 / 4)) * 131072 + 65536 + status % 65536) * 16384 + word % 65536
 
-    status-label : then % 16 ≡ label_of status
-    status-label = label_is parity status then e
+    status_label : then % 16 ≡ label_of status
+    status_label = label_is parity status then e
 
-    pub status-says : Says 40 number (answer_of (bus_of parity w) (info_of w) (label_of status) (info_of status))
-    status-says =
-        let q : label_of status % 4 ≡ 2 = omega (arith, status-label) in
-        rw (bus_here h, status-label, info_here h, info_is status)
+    pub status_says : Says 40 number (answer_of (bus_of parity w) (info_of w) (label_of status) (info_of status))
+    status_says =
+        let q : label_of status % 4 ≡ 2 = omega (arith, status_label) in
+        rw (bus_here h, status_label, info_here h, info_is status)
         (status_bits (bus_of parity w) (bus_low parity w h.low) (info_of w) (label_of status) (info_of status) (rw (info_here h) at low) (info_low status)
-        (rw status-label at l) (label_low status) q)
+        (rw status_label at l) (label_low status) q)
 
-    pub status-taken : (ks : List Kind) → kind_on ks (bus_of parity word) ≡ Mil1553 → {out' : List ℕ} {pen' : Pen}
+    pub status_taken : (ks : List Kind) → kind_on ks (bus_of parity word) ≡ Mil1553 → {out' : List ℕ} {pen' : Pen}
         → (pen' ≡ pen_put t.pen number 40) × (out' ≡ pen_in out t.pen number 40) → Took ks parity row t out (record { slot = t.slot + 2; pen = pen' }) out'
-    status-taken ks k p =
+    status_taken ks k p =
         let z : t.slot + 1 + 1 ≡ t.slot + 2 = omega arith in
-        let q : label_of status % 4 ≡ 2 = omega (arith, status-label) in
+        let q : label_of status % 4 ≡ 2 = omega (arith, status_label) in
         let d : bus_of parity status ≡ bus_of parity w = sym (bus_is parity status then e) ∙ b ∙ bus_here h in
         took_item
-        (goes_status ks parity row t.slot (omega (arith, here.five)) (kind_here h ks k) (sym (label_here h) ∙ m) (rw (info_here h) at low) d (rw status-label at l) q)
-        z (omega arith) (omega (arith, here.five)) (put_puts (omega arith) status-says.fits p) status-says.is (omega arith)
+        (goes_status ks parity row t.slot (omega (arith, here.five)) (kind_here h ks k) (sym (label_here h) ∙ m) (rw (info_here h) at low) d (rw status_label at l) q)
+        z (omega arith) (omega (arith, here.five)) (put_puts (omega arith) status_says.fits p) status_says.is (omega arith)
 
   -- ---- an error notice
 
@@ -282,9 +282,9 @@ module _ {tops : ℕ} {row : List ℕ} {t : Taken} {word top : ℕ} {out : List 
     abbrev first : r.first_width ≡ 0
     first = ap (λ (s : Step). s.first_width) notice_is
 
-    pub notice-fits : r.second < 2 ^ 18
-    notice-fits = subst (λ (n : ℕ). r.second < 2 ^ n) width (alone-here h begins good none first).fits
+    pub notice_fits : r.second < 2 ^ 18
+    notice_fits = subst (λ (n : ℕ). r.second < 2 ^ n) width (alone_here h begins good none first).fits
 
-    pub notice-taken : (ks : List Kind) → kind_on ks (bus_of parity word) ≡ Arinc429 → {out' : List ℕ} {pen' : Pen}
+    pub notice_taken : (ks : List Kind) → kind_on ks (bus_of parity word) ≡ Arinc429 → {out' : List ℕ} {pen' : Pen}
         → (pen' ≡ pen_put t.pen r.second 18) × (out' ≡ pen_in out t.pen r.second 18) → Took ks parity row t out (record { slot = t.slot + 1; pen = pen' }) out'
-    notice-taken ks k p = alone-taken h begins good none first ks k (omega (arith, width)) (rw width p)
+    notice_taken ks k p = alone_taken h begins good none first ks k (omega (arith, width)) (rw width p)

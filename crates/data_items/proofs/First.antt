@@ -147,13 +147,13 @@ pub record Alone (kind : Kind) (bus label info : ℕ) (r : Step) : Type 0 where
 
 no_opener : (k : Kind) (bus info : ℕ) (items : List Item) (h : Held) → starts k bus 1 info ≡ fed items h → ⊥
 unfolding starts
-no_opener k bus info items h e = clash (sym (ap isBad e) ∙ none k)
+no_opener k bus info items h e = clash (sym (ap is_bad e) ∙ none k)
   where
-    isBad : Fed → Bool
-    isBad bad = true
-    isBad (fed is x) = false
+    is_bad : Fed → Bool
+    is_bad bad = true
+    is_bad (fed is x) = false
 
-    none : (k : Kind) → isBad (starts k bus 1 info) ≡ true
+    none : (k : Kind) → is_bad (starts k bus 1 info) ≡ true
     none Unused = refl
     none Mil1553 = refl
     none Arinc429 = refl

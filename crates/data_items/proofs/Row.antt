@@ -108,14 +108,14 @@ module _ (ks : List Kind) (parity : Bool) (row : List ℕ) where
   tag_micro x high low bus label info b l u = rw (eq-eqb label 5 l, eq-eqb bus (base_bus x) b, lt-ltb info 10000 u) refl
 
   module _ (x : Base) (j l : ℕ) (e : top_of parity (word j) ≡ base_bus x * 16 + l) (u : l < 16) where
-    tag-bus : bus_of parity (word j) ≡ base_bus x
-    tag-bus = says_bus parity (word j) (base_bus x) l e u
+    tag_bus : bus_of parity (word j) ≡ base_bus x
+    tag_bus = says_bus parity (word j) (base_bus x) l e u
 
-    tag-label : label_of (word j) ≡ l
-    tag-label = says_label parity (word j) (base_bus x) l e u
+    tag_label : label_of (word j) ≡ l
+    tag_label = says_label parity (word j) (base_bus x) l e u
 
-    tag-data : 2 ≤ l → is_fill (word j) ≡ false
-    tag-data h = other_label (word j) (λ z. absurd (omega (arith, tag-label, z)))
+    tag_data : 2 ≤ l → is_fill (word j) ≡ false
+    tag_data h = other_label (word j) (λ z. absurd (omega (arith, tag_label, z)))
 
   pub goes_tag : {i j s : ℕ} (x : Base) → Goes i j [] (Taggable x) s → j + 3 ≤ length row → top_of parity (word j) ≡ base_bus x * 16 + 7
       → top_of parity (word (j + 1)) ≡ base_bus x * 16 + 6 → top_of parity (word (j + 2)) ≡ base_bus x * 16 + 5 → info_of (word (j + 2)) < 10000
@@ -124,11 +124,11 @@ module _ (ks : List Kind) (parity : Bool) (row : List ℕ) where
       let k : j + 1 + 1 ≡ j + 2 = omega arith in
       let m : j + 2 + 1 ≡ j + 3 = omega arith in
       let hi : Goes i (j + 1) [] (TagHigh x (info_of (word j))) s =
-      goes_word [] (TagHigh x (info_of (word j))) (j + 1) s g refl (omega arith) (tag-data x j 7 a (omega arith) (omega arith))
-      (tag_high x _ _ _ (tag-bus x j 7 a (omega arith)) (tag-label x j 7 a (omega arith))) (λ n. refl) in
+      goes_word [] (TagHigh x (info_of (word j))) (j + 1) s g refl (omega arith) (tag_data x j 7 a (omega arith) (omega arith))
+      (tag_high x _ _ _ (tag_bus x j 7 a (omega arith)) (tag_label x j 7 a (omega arith))) (λ n. refl) in
       let lo : Goes i (j + 2) [] (TagLow x (info_of (word j)) (info_of (word (j + 1)))) s =
-      goes_word [] (TagLow x (info_of (word j)) (info_of (word (j + 1)))) (j + 2) s hi k (omega arith) (tag-data x (j + 1) 6 b (omega arith) (omega arith))
-      (tag_low x _ _ _ _ (tag-bus x (j + 1) 6 b (omega arith)) (tag-label x (j + 1) 6 b (omega arith))) (λ n. refl) in
+      goes_word [] (TagLow x (info_of (word j)) (info_of (word (j + 1)))) (j + 2) s hi k (omega arith) (tag_data x (j + 1) 6 b (omega arith) (omega arith))
+      (tag_low x _ _ _ _ (tag_bus x (j + 1) 6 b (omega arith)) (tag_label x (j + 1) 6 b (omega arith))) (λ n. refl) in
       goes_word (with_tag x (tagged (word j) (word (j + 1)) (word (j + 2))) ∷ []) Nothing (j + 3) (j + 2) lo m (omega arith)
-      (tag-data x (j + 2) 5 c (omega arith) (omega arith))
-      (tag_micro x _ _ _ _ _ (tag-bus x (j + 2) 5 c (omega arith)) (tag-label x (j + 2) 5 c (omega arith)) u) (λ n. refl)
+      (tag_data x (j + 2) 5 c (omega arith) (omega arith))
+      (tag_micro x _ _ _ _ _ (tag_bus x (j + 2) 5 c (omega arith)) (tag_label x (j + 2) 5 c (omega arith)) u) (λ n. refl)

@@ -59,17 +59,17 @@ module _ {parity : Bool} {row : List ℕ} {slot word top : ℕ} (h : Spot parity
 
   module _ {kind : Kind} {r : Step} (e : r ≡ begun (flat Nothing) 0 0 (starts kind (top / 16) (top % 16) (word % 65536))) (good : r.bad ≡ false)
       (none : r.held.awaits ≡ 0) (first : r.first_width ≡ 0) where
-    pub alone-here : Alone kind (bus_of parity w) (label_of w) (info_of w) r
-    alone-here =
+    pub alone_here : Alone kind (bus_of parity w) (label_of w) (info_of w) r
+    alone_here =
         alone_of kind (bus_of parity w) (label_of w) (info_of w) r (e ∙ rw (bus_here, label_here, info_here) refl) good none first (bus_low parity w h.low) (label_low w)
         (info_low w)
 
     -- it was put
-    pub alone-taken : (ks : List Kind) → kind_on ks (bus_of parity word) ≡ kind → r.second_width ≤ 32 → {pen : Pen} {out out' : List ℕ} {pen' : Pen}
+    pub alone_taken : (ks : List Kind) → kind_on ks (bus_of parity word) ≡ kind → r.second_width ≤ 32 → {pen : Pen} {out out' : List ℕ} {pen' : Pen}
         → (pen' ≡ pen_put pen r.second r.second_width) × (out' ≡ pen_in out pen r.second r.second_width)
         → Took ks parity row (record { slot = slot; pen = pen }) out (record { slot = slot + 1; pen = pen' }) out'
-    alone-taken ks k few p =
-        let a = alone-here in
+    alone_taken ks k few p =
+        let a = alone_here in
         took_item (goes_alone ks parity row slot kind h.within (kind_here ks k) a) refl (omega arith) (omega (arith, h.within))
         (put_puts (omega arith) a.fits p) a.bits (omega arith)
 
@@ -77,8 +77,8 @@ module _ {parity : Bool} {row : List ℕ} {slot word top : ℕ} (h : Spot parity
 
   module _ (ks : List Kind) {opening : ℕ} (o : opening ≡ opens (kind_on ks (top / 16)) (top % 16)) (l : 8 ≤ opening) {r : Step}
       (e : r ≡ single_of opening (top / 16) (word % 65536)) where
-    single-begins : r ≡ begun (flat Nothing) 0 0 (starts (kind_on ks (top / 16)) (top / 16) (top % 16) (word % 65536))
-    single-begins =
+    single_begins : r ≡ begun (flat Nothing) 0 0 (starts (kind_on ks (top / 16)) (top / 16) (top % 16) (word % 65536))
+    single_begins =
         let s : openers.Says (kind_on ks (top / 16)) (top % 16) opening = rw o (openers.opens_says (kind_on ks (top / 16)) (top % 16) (omega arith)) in
         e ∙ s.single l (flat Nothing) (top / 16) (word % 65536)
 
@@ -91,25 +91,25 @@ module _ {parity : Bool} {row : List ℕ} {slot word top : ℕ} (h : Spot parity
     abbrev first : r.first_width ≡ 0
     first = ap (λ (s : Step). s.first_width) e
 
-    pub single-short : r.second_width ≤ 27
-    single-short = let z : r.second_width ≡ 24 + opening % 4 = ap (λ (s : Step). s.second_width) e in omega arith
+    pub single_short : r.second_width ≤ 27
+    single_short = let z : r.second_width ≡ 24 + opening % 4 = ap (λ (s : Step). s.second_width) e in omega arith
 
-    pub single-fits : r.second < 2 ^ r.second_width
-    single-fits = (alone-here single-begins good none first).fits
+    pub single_fits : r.second < 2 ^ r.second_width
+    single_fits = (alone_here single_begins good none first).fits
 
-    pub single-second : Second r
-    single-second = record { fits = single-fits; short = single-short }
+    pub single_second : Second r
+    single_second = record { fits = single_fits; short = single_short }
 
-    pub single-alone : Alone (kind_on ks (top / 16)) (bus_of parity w) (label_of w) (info_of w) r
-    single-alone = alone-here single-begins good none first
+    pub single_alone : Alone (kind_on ks (top / 16)) (bus_of parity w) (label_of w) (info_of w) r
+    single_alone = alone_here single_begins good none first
 
-    pub single-goes : Goes ks parity row slot (slot + 1) single-alone.items Nothing slot
-    single-goes = goes_alone ks parity row slot (kind_on ks (top / 16)) h.within (kind_here ks (ap (kind_on ks) (sym (bus_is parity word top h.says)))) single-alone
+    pub single_goes : Goes ks parity row slot (slot + 1) single_alone.items Nothing slot
+    single_goes = goes_alone ks parity row slot (kind_on ks (top / 16)) h.within (kind_here ks (ap (kind_on ks) (sym (bus_is parity word top h.says)))) single_alone
 
-    pub single-taken : {pen : Pen} {out out' : List ℕ} {pen' : Pen} → (pen' ≡ pen_put pen r.second r.second_width) ×
+    pub single_taken : {pen : Pen} {out out' : List ℕ} {pen' : Pen} → (pen' ≡ pen_put pen r.second r.second_width) ×
         (out' ≡ pen_in out pen r.second r.second_width)
         → Took ks parity row (record { slot = slot; pen = pen }) out (record { slot = slot + 1; pen = pen' }) out'
-    single-taken p = alone-taken single-begins good none first ks (ap (kind_on ks) (sym (bus_is parity word top h.says))) (omega (arith, single-short)) p
+    single_taken p = alone_taken single_begins good none first ks (ap (kind_on ks) (sym (bus_is parity word top h.says))) (omega (arith, single_short)) p
 
 -- two words, each an item
 module _ {parity : Bool} {row : List ℕ} {slot word top word' top' : ℕ} (h : Spot parity row slot word top) (h' : Spot parity row (slot + 1) word' top') (ks : List Kind)
@@ -121,14 +121,14 @@ module _ {parity : Bool} {row : List ℕ} {slot word top word' top' : ℕ} (h : 
       (out' ≡ pen_in out pen (both_of one two) (one.second_width + two.second_width))
       → Took ks parity row (record { slot = slot; pen = pen }) out (record { slot = slot + 2; pen = pen' }) out'
   two_taken p =
-      let a = single-alone h ks o l e in
-      let b = single-alone h' ks o' l' e' in
-      let f : Second one = single-second h ks o l e in
-      let g : Second two = single-second h' ks o' l' e' in
+      let a = single_alone h ks o l e in
+      let b = single_alone h' ks o' l' e' in
+      let f : Second one = single_second h ks o l e in
+      let g : Second two = single_second h' ks o' l' e' in
       let z : slot + 1 + 1 ≡ slot + 2 = omega arith in
       let k : Goes ks parity row slot (slot + 2) (a.items ++ b.items) Nothing (slot + 1) =
       subst (λ (n : ℕ). Goes ks parity row slot n (a.items ++ b.items) Nothing (slot + 1)) z
-      (goes_then ks parity row (single-goes h ks o l e) (single-goes h' ks o' l' e')) in
+      (goes_then ks parity row (single_goes h ks o l e) (single_goes h' ks o' l' e')) in
       took_item k z (omega arith) (omega (arith, h'.within)) (put_puts (omega (arith, f.short, g.short)) (both_fits one two f g) p)
       (both_bits one two f g ∙ ap₂ (λ (x y : List ℕ). x ++ y) a.bits b.bits ∙ sym (flat_map_append item_bits a.items b.items))
       (omega (arith, f.short, g.short))

@@ -55,14 +55,14 @@ both_at e f s = rw (e, f) s
 
 module _ (bus : ℕ) (b : bus < 16) where
   module _ (side : Bool) (info : ℕ) (l : info < 2 ^ 16) where
-    pub command-bits : Says 26 (number_of 0 (item_fields (with_tag (base.Command bus side info) Untagged))) (with_tag (base.Command bus side info) Untagged)
+    pub command_bits : Says 26 (number_of 0 (item_fields (with_tag (base.Command bus side info) Untagged))) (with_tag (base.Command bus side info) Untagged)
     unfolding item_fields flat_map
-    command-bits = one_string (with_tag (base.Command bus side info) Untagged) (omega arith, (b, (bit_low side, (omega arith, (l, tt)))))
+    command_bits = one_string (with_tag (base.Command bus side info) Untagged) (omega arith, (b, (bit_low side, (omega arith, (l, tt)))))
 
-    pub command-tag-bits : (h m u : ℕ) → info_of u < 10000
+    pub command_tag_bits : (h m u : ℕ) → info_of u < 10000
         → Both 26 (number_of 0 (item_fields (with_tag (base.Command bus side info) Untagged)) + 65536) 46 (tag_of h m u) (with_tag (base.Command bus side info) (tagged h m u))
     unfolding item_fields flat_map info_of
-    command-tag-bits h m u low =
+    command_tag_bits h m u low =
         both_at (omega arith) (omega arith)
         (two_strings (with_tag (base.Command bus side info) (tagged h m u)) 5 (
           omega arith,
@@ -70,14 +70,14 @@ module _ (bus : ℕ) (b : bus < 16) where
         ))
 
   module _ (c word : ℕ) (k : c < 4) (l : word < 2 ^ 32) where
-    pub arinc-bits : Says 43 (number_of 0 (item_fields (with_tag (base.Arinc bus c word) Untagged))) (with_tag (base.Arinc bus c word) Untagged)
+    pub arinc_bits : Says 43 (number_of 0 (item_fields (with_tag (base.Arinc bus c word) Untagged))) (with_tag (base.Arinc bus c word) Untagged)
     unfolding item_fields flat_map
-    arinc-bits = one_string (with_tag (base.Arinc bus c word) Untagged) (omega arith, (b, (omega arith, (omega arith, (l, tt)))))
+    arinc_bits = one_string (with_tag (base.Arinc bus c word) Untagged) (omega arith, (b, (omega arith, (omega arith, (l, tt)))))
 
-    pub arinc-tag-bits : (h m u : ℕ) → info_of u < 10000
+    pub arinc_tag_bits : (h m u : ℕ) → info_of u < 10000
         → Both 43 (number_of 0 (item_fields (with_tag (base.Arinc bus c word) Untagged)) + 4294967296) 46 (tag_of h m u) (with_tag (base.Arinc bus c word) (tagged h m u))
     unfolding item_fields flat_map info_of
-    arinc-tag-bits h m u low =
+    arinc_tag_bits h m u low =
         both_at (omega arith) (omega arith)
         (two_strings (with_tag (base.Arinc bus c word) (tagged h m u)) 5 (
           omega arith,

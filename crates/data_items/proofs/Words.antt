@@ -86,11 +86,11 @@ module _ (parity : Bool) (row : List ℕ) (slot awaits : ℕ) {a : ℕ} (e : a �
     first_holds : eqb (top_of parity (get_or row (slot + 1) 0) + 1) awaits ≡ true
     first_holds = eq-eqb _ _ (rw e at o)
 
-    pub tag-second : (b + 2 ≡ awaits → ⊥) → false ≡ tag_at parity row slot awaits
-    tag-second n = rw (first_holds, ne_eqb (top_of parity (get_or row (slot + 2) 0) + 2) awaits (λ z. n (rw f z))) refl
+    pub tag_second : (b + 2 ≡ awaits → ⊥) → false ≡ tag_at parity row slot awaits
+    tag_second n = rw (first_holds, ne_eqb (top_of parity (get_or row (slot + 2) 0) + 2) awaits (λ z. n (rw f z))) refl
 
-    pub tag-third : b + 2 ≡ awaits → ltb (get_or row (slot + 2) 0 % 65536) 10000 ≡ tag_at parity row slot awaits
-    tag-third q = rw (first_holds, eq-eqb (top_of parity (get_or row (slot + 2) 0) + 2) awaits (rw f at q)) refl
+    pub tag_third : b + 2 ≡ awaits → ltb (get_or row (slot + 2) 0 % 65536) 10000 ≡ tag_at parity row slot awaits
+    tag_third q = rw (first_holds, eq-eqb (top_of parity (get_or row (slot + 2) 0) + 2) awaits (rw f at q)) refl
 
 pub tag_fits : (a b u : ℕ) → tag_of a b u < 2 ^ 46
 tag_fits a b u = omega arith

@@ -144,8 +144,8 @@ module _ (ks : List Kind) (parity : Bool) where
     front_long : length (take e row) ≡ e
     front_long = length-take-le e row within
 
-    rest-split : (n i : ℕ) → i ≤ e → counted (n + i) (drop i row) ≡ counted (n + i) (drop i (take e row)) ++ counted (n + e) (drop e row)
-    rest-split n i h =
+    rest_split : (n i : ℕ) → i ≤ e → counted (n + i) (drop i row) ≡ counted (n + i) (drop i (take e row)) ++ counted (n + e) (drop e row)
+    rest_split n i h =
         let z : n + i + length (drop i (take e row)) ≡ n + e = rw (length-drop i (take e row), front_long) (omega arith) in
         ap (λ (l : List ℕ). counted (n + i) (drop i l)) (sym (take-append-drop e row))
         ∙ ap (counted (n + i)) (drop-append-le i (take e row) (drop e row) (rw front_long h))
@@ -154,23 +154,23 @@ module _ (ks : List Kind) (parity : Bool) where
     abbrev front : ℕ → ℕ → List Slot
     front n i = counted (n + i) (drop i (take e row))
 
-    run-front : (n i old : ℕ) → i ≤ e → run ks parity (counted (n + i) (drop i row)) Nothing old ≡ and_then (run ks parity (front n i) Nothing old)
+    run_front : (n i old : ℕ) → i ≤ e → run ks parity (counted (n + i) (drop i row)) Nothing old ≡ and_then (run ks parity (front n i) Nothing old)
         (λ h p. run ks parity (counted (n + e) (drop e row)) h p)
-    run-front n i old h =
-        ap (λ (ss : List Slot). run ks parity ss Nothing old) (rest-split n i h) ∙ run_append ks parity (front n i) (counted (n + e) (drop e row)) Nothing old
+    run_front n i old h =
+        ap (λ (ss : List Slot). run ks parity ss Nothing old) (rest_split n i h) ∙ run_append ks parity (front n i) (counted (n + e) (drop e row)) Nothing old
 
     -- what was taken from the front of a row was taken from the row
-    pub took-front : {t t' : Taken} {out out' : List ℕ} → Took ks parity (take e row) t out t' out' → Took ks parity row t out t' out'
-    took-front {t} {t'} {out} {out'} k =
+    pub took_front : {t t' : Taken} {out out' : List ℕ} → Took ks parity (take e row) t out t' out' → Took ks parity row t out t' out'
+    took_front {t} {t'} {out} {out'} k =
         let r : t'.slot ≤ e = rw front_long at k.room in
         record {
           items = k.items;
           is = λ n old.
               let last : ℕ = last_of n old t.slot t'.slot in
               let go : Held → ℕ → Ran = λ h p. run ks parity (counted (n + e) (drop e row)) h p in
-              run-front n t.slot old (omega (arith, k.onward)) ∙ ap (λ (x : Ran). and_then x go) (k.is n old)
+              run_front n t.slot old (omega (arith, k.onward)) ∙ ap (λ (x : Ran). and_then x go) (k.is n old)
               ∙ more_then k.items (run ks parity (front n t'.slot) Nothing last) go
-              ∙ ap (more k.items) (sym (run-front n t'.slot last r));
+              ∙ ap (more k.items) (sym (run_front n t'.slot last r));
           unfilled = λ m a b. ap is_fill (sym (get_or-take e row m 0 (omega arith))) ∙ k.unfilled m a b;
           onward = k.onward;
           room = omega arith;
@@ -209,7 +209,7 @@ front_roomy row x i {e} {n} out h s few a b =
 pub from_front : (ks : List Kind) (parity : Bool) (row : List ℕ) (x : Pass) (i : ℕ) {e : ℕ} {out out' : List ℕ} {t : Taken} → e ≤ length row → x.held.awaits ≡ 0
     → Took ks parity (take e row) (taken_from x i) out t out' → FromPass ks parity row x i out t out'
 from_front ks parity row x i {e} h a k =
-    let w = took-front ks parity row e h k in
+    let w = took_front ks parity row e h k in
     record { some = λ l. (a, w); none = λ l. w.none (omega (arith, w.onward, l)); room = w.room }
 
 pub from_none : {ks : List Kind} {parity : Bool} {row : List ℕ} {x : Pass} {i : ℕ} {out : List ℕ} → i ≤ length row → FromPass ks parity row x i out (taken_from x i) out
@@ -331,28 +331,28 @@ module _ (ks : List Kind) (parity : Bool) (code : ℕ) (low : code < buses parit
         let q = quiet_is blank x.fills i w e in
         rw (q.0, fill_sent parity code low, fill_bus parity code low, eq-eqb code code refl, q.1, q.2, ← good) refl
 
-    quiet-out : (out : List ℕ) → out ≡ word_out ks parity w x out
+    quiet_out : (out : List ℕ) → out ≡ word_out ks parity w x out
     unfolding word_out
-    quiet-out out = let q = quiet_is blank x.fills i w e in rw (q.0, fill_sent parity code low) refl
+    quiet_out out = let q = quiet_is blank x.fills i w e in rw (q.0, fill_sent parity code low) refl
 
   module _ (row : List ℕ) (from : ℕ) (x₀ : Pass) (out₀ : List ℕ) (words : Words row) where
     abbrev Here : ℕ → Pass → List ℕ → Type 0
     Here = Passed ks parity code row from x₀ out₀
 
-    passed-quiet : (i : ℕ) {x : Pass} {out : List ℕ} → i < length row → Here i x out → quiet blank x.fills i (get_or row i 0) ≡ true → Here (i + 1) x out
-    passed-quiet i {x} {out} h a q =
+    passed_quiet : (i : ℕ) {x : Pass} {out : List ℕ} → i < length row → Here i x out → quiet blank x.fills i (get_or row i 0) ≡ true → Here (i + 1) x out
+    passed_quiet i {x} {out} h a q =
         passed_more ks parity code row from x₀ out₀ i h (words i h) a
-        (quiet_pass i (get_or row i 0) x q (from + i) a.brought.sound.good, quiet-out i (get_or row i 0) x q out) a.brought.sound.good
+        (quiet_pass i (get_or row i 0) x q (from + i) a.brought.sound.good, quiet_out i (get_or row i 0) x q out) a.brought.sound.good
 
-    passed-quiets : (n i : ℕ) {x : Pass} {out : List ℕ} → i + n ≤ length row → Here i x out → ((k : ℕ) → i ≤ k → k < i + n → quiet blank x.fills k (get_or row k 0) ≡ true)
+    passed_quiets : (n i : ℕ) {x : Pass} {out : List ℕ} → i + n ≤ length row → Here i x out → ((k : ℕ) → i ≤ k → k < i + n → quiet blank x.fills k (get_or row k 0) ≡ true)
         → Here (i + n) x out
-    passed-quiets zero i {x} {out} h a q = let z : i ≡ i + 0 = omega arith in subst (λ (k : ℕ). Here k x out) z a
-    passed-quiets (suc n) i {x} {out} h a q =
+    passed_quiets zero i {x} {out} h a q = let z : i ≡ i + 0 = omega arith in subst (λ (k : ℕ). Here k x out) z a
+    passed_quiets (suc n) i {x} {out} h a q =
         let z : i + 1 + n ≡ i + suc n = omega arith in
         subst (λ (k : ℕ). Here k x out) z
-        (passed-quiets n (i + 1) (omega arith) (passed-quiet i (omega arith) a (q i (omega arith) (omega arith))) (λ k l u. q k (omega arith) (omega arith)))
+        (passed_quiets n (i + 1) (omega arith) (passed_quiet i (omega arith) a (q i (omega arith) (omega arith))) (λ k l u. q k (omega arith) (omega arith)))
 
-    pub passed-fill : (i r : ℕ) {x : Pass} {out : List ℕ} → Here i x out → PastFill blank row x.fills i r → Here r x out
-    passed-fill i r {x} {out} a f =
+    pub passed_fill : (i r : ℕ) {x : Pass} {out : List ℕ} → Here i x out → PastFill blank row x.fills i r → Here r x out
+    passed_fill i r {x} {out} a f =
         let z : i + (r - i) ≡ r = omega (arith, f.onward) in
-        subst (λ (k : ℕ). Here k x out) z (passed-quiets (r - i) i (omega (arith, f.room)) a (λ k l u. f.quiets k l (omega (arith, f.onward))))
+        subst (λ (k : ℕ). Here k x out) z (passed_quiets (r - i) i (omega (arith, f.room)) a (λ k l u. f.quiets k l (omega (arith, f.onward))))

@@ -170,13 +170,13 @@ pub word_stands : {p : Plan} {ks : List Kind} {c times : List ℕ} {is : List It
     → word_at c (g * group_words p + place_of p (lead p + i)) ≡ sent p.parity (get_or (flat_map item_words is) (g * slots p + i) (fill p.fill_bus))
 word_stands m g i h k =
     let q = composed_of m in
-    rw q.1 at (Stands.slot-stands q.0 g h i k)
+    rw q.1 at (Stands.slot_stands q.0 g h i k)
 
 -- "With CRC, the last word of every frame is the CRC word" of those before it
 pub check_stands : {p : Plan} {ks : List Kind} {c times : List ℕ} {is : List Item} → ComposedAs p ks c times is
     → (g t : ℕ) → g < groups_in p c → t < p.tracks → p.crc ≡ true
     → word_at c (g * group_words p + t * p.words + (p.words - 1)) ≡ check_word p.parity p.crc_label (list (word_at c) (g * group_words p + t * p.words) (p.words - 1))
-check_stands m g t h k e = Stands.check-at (composed_of m).0 g h t k e
+check_stands m g t h k e = Stands.check_at (composed_of m).0 g h t k e
 
 -- ---- A half belongs to its other half
 

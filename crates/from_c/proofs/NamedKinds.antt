@@ -34,8 +34,8 @@ pub kinds_so_far : (s : List ℕ) (i : ℕ) (good : Bool) {now : Bool} → i < l
 kinds_so_far s i good h e n = e ∙ ap (λ (b : Bool). good && b) (kind_next s i h) ∙ and_and good (leb (get_or s i 0) 2) (are_kinds (drop (i + 1) s)) ∙ sym (ap (λ (b : Bool). b && are_kinds (drop (i + 1) s)) n)
 
 pub kinds_all : (s : List ℕ) (i : ℕ) (good : Bool) → length s ≤ i → are_kinds s ≡ (good && are_kinds (drop i s)) → good ≡ are_kinds s
-kinds_all s i good h e = sym (e ∙ ap (λ (b : Bool). good && b) (kinds_end s i h) ∙ and-true' good)
+kinds_all s i good h e = sym (e ∙ ap (λ (b : Bool). good && b) (kinds_end s i h) ∙ and_true' good)
   where
-    and-true' : (b : Bool) → (b && true) ≡ b
-    and-true' true = refl
-    and-true' false = refl
+    and_true' : (b : Bool) → (b && true) ≡ b
+    and_true' true = refl
+    and_true' false = refl

@@ -37,16 +37,16 @@ module _ (p : Plan) (c : List ℕ) (at b k : ℕ) (h : Shape p) (o : b ≡ 3 * a
   part_time_is = part_time p c at h ∙ ap (λ (g : List ℕ). group_time p g 0) own
 
   module _ {r : Fault} (e : r ≡ fault_of (group_fault p part 0)) where
-    fault-is : group_fault p c at ≡ moved at (group_fault p part 0)
-    fault-is = part_fault p c at h ∙ ap (λ (g : List ℕ). moved at (group_fault p g 0)) own
+    fault_is : group_fault p c at ≡ moved at (group_fault p part 0)
+    fault_is = part_fault p c at h ∙ ap (λ (g : List ℕ). moved at (group_fault p g 0)) own
 
     pub answer_none : r.number ≡ 0 → group_fault p c at ≡ none
     unfolding moved
-    answer_none z = fault-is ∙ ap (moved at) (number_none p part h e z)
+    answer_none z = fault_is ∙ ap (moved at) (number_none p part h e z)
 
-    pub answer-found : (r.number ≡ 0 → ⊥) → group_fault p c at ≡ found r.number (at + r.place)
+    pub answer_found : (r.number ≡ 0 → ⊥) → group_fault p c at ≡ found r.number (at + r.place)
     unfolding moved
-    answer-found z = fault-is ∙ ap (moved at) (number_found p part h e z)
+    answer_found z = fault_is ∙ ap (moved at) (number_found p part h e z)
 
     pub answer_low : r.place < group_words p
     answer_low = place_low p part h e

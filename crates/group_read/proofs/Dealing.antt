@@ -96,8 +96,8 @@ module _ (p : Plan) (g old : List ℕ) where
     rest_from : list (λ i. get_or row i 0) (dealt_count p) (length (drop (dealt_count p) old)) ≡ drop (dealt_count p) old
     rest_from = list_is (λ i. get_or row i 0) (drop (dealt_count p) old) (dealt_count p) (λ i h. d.behind (dealt_count p + i) (omega arith) ∙ sym (get_or-drop (dealt_count p) old i 0))
 
-    pub deal-behind : drop (dealt_count p) row ≡ drop (dealt_count p) old
-    deal-behind =
+    pub deal_behind : drop (dealt_count p) row ≡ drop (dealt_count p) old
+    deal_behind =
         let e : length (drop (dealt_count p) row) ≡ length (drop (dealt_count p) old) =
         length-drop (dealt_count p) row ∙ ap (λ (n : ℕ). n - dealt_count p) d.long ∙ sym (length-drop (dealt_count p) old) in
         sym (list_is (λ i. get_or row i 0) (drop (dealt_count p) row) (dealt_count p) (λ i h. sym (get_or-drop (dealt_count p) row i 0)))
@@ -113,9 +113,9 @@ module _ (p : Plan) (g old : List ℕ) where
         let o : s % p.tracks * p.words + (s / p.tracks + 1) ≡ s % p.tracks * p.words + s / p.tracks + 1 = omega arith in
         ap (λ (n : ℕ). get_or row n 0) (sym w) ∙ d.done (s % p.tracks) (s / p.tracks) (omega arith) k ∙ ap (word_at g) o
 
-    pub deal-over : p.tracks ≤ t → 1 ≤ p.tracks → dealt_count p ≤ length old → row ≡ dealt_words p g ++ drop (dealt_count p) old
+    pub deal_over : p.tracks ≤ t → 1 ≤ p.tracks → dealt_count p ≤ length old → row ≡ dealt_words p g ++ drop (dealt_count p) old
     unfolding dealt_words
-    deal-over h i n =
+    deal_over h i n =
         let f : ℕ → ℕ = λ i. get_or row i 0 in
         let m : ℕ = length (drop (dealt_count p) old) in
         let z : 0 + dealt_count p ≡ dealt_count p = omega arith in

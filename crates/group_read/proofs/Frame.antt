@@ -68,54 +68,54 @@ module _ (p : Plan) (g : List ℕ) (t : ℕ) (h : Shape p) (l : t < p.tracks) wh
     here : w ≡ word_at g (0 + t * p.words)
     here = e ∙ ap (word_at g) (sym from_0)
 
-    pub sync-bad : (w ≡ y → ⊥) → rest_of_tracks p g 0 t ≡ found 9 (t * p.words)
-    sync-bad n = search.sync-bad p g 0 t l some_words here z n ∙ ap (found 9) from_0
+    pub sync_bad : (w ≡ y → ⊥) → rest_of_tracks p g 0 t ≡ found 9 (t * p.words)
+    sync_bad n = search.sync_bad p g 0 t l some_words here z n ∙ ap (found 9) from_0
 
-    sync-good : w ≡ y → rest_of_tracks p g 0 t ≡ rest_of_track p g 0 t 1
-    sync-good n = search.sync-good p g 0 t l some_words here z n
+    sync_good : w ≡ y → rest_of_tracks p g 0 t ≡ rest_of_track p g 0 t 1
+    sync_good n = search.sync_good p g 0 t l some_words here z n
 
     -- the sync word is right
-    pub inside-sync : {o s : Sum} → group_fault p g 0 ≡ rest_of_tracks p g 0 t → w ≡ y → Sums [] o → Summed p.crc o (w ∷ []) s → Inside p g t 1 t s
-    inside-sync {o} {s} f n a b = record {
+    pub inside_sync : {o s : Sum} → group_fault p g 0 ≡ rest_of_tracks p g 0 t → w ≡ y → Sums [] o → Summed p.crc o (w ∷ []) s → Inside p g t 1 t s
+    inside_sync {o} {s} f n a b = record {
       track = l;
       past = omega arith;
       within = omega arith;
       slot_is = omega arith;
       small = b.small;
       check = check_of_sync p.crc g (t * p.words) e (summed_one p.crc b ∙ ap (λ (r : ℕ). cond p.crc (next_check r w) r) (check_none a));
-      fault = f ∙ sync-good n;
+      fault = f ∙ sync_good n;
     }
 
   module _ (j check word number : ℕ) (low : 1 ≤ j) (i : j < p.words) (e : check ≡ check_so_far p.crc g (t * p.words) j)
       (z : word ≡ word_at g (t * p.words + j)) (s : number ≡ word_number p.parity (p.crc && eqb (j + 1) p.words) p.crc_label check word) where
-    check-here : check ≡ check_so_far p.crc g (0 + t * p.words) j
-    check-here = e ∙ ap (λ (n : ℕ). check_so_far p.crc g n j) (sym from_0)
+    check_here : check ≡ check_so_far p.crc g (0 + t * p.words) j
+    check_here = e ∙ ap (λ (n : ℕ). check_so_far p.crc g n j) (sym from_0)
 
-    word-here : word ≡ word_at g (0 + t * p.words + j)
-    word-here = z ∙ ap (λ (n : ℕ). word_at g (n + j)) (sym from_0)
+    word_here : word ≡ word_at g (0 + t * p.words + j)
+    word_here = z ∙ ap (λ (n : ℕ). word_at g (n + j)) (sym from_0)
 
-    word-bad : (number ≡ 0 → ⊥) → rest_of_track p g 0 t j ≡ found number (t * p.words + j)
-    word-bad n = search.word-bad p g 0 t j check word number low i check-here word-here s n ∙ ap (λ (x : ℕ). found number (x + j)) from_0
+    word_bad : (number ≡ 0 → ⊥) → rest_of_track p g 0 t j ≡ found number (t * p.words + j)
+    word_bad n = search.word_bad p g 0 t j check word number low i check_here word_here s n ∙ ap (λ (x : ℕ). found number (x + j)) from_0
 
     word_good : number ≡ 0 → rest_of_track p g 0 t j ≡ rest_of_track p g 0 t (j + 1)
-    word_good n = search.word_good p g 0 t j check word number low i check-here word-here s n
+    word_good n = search.word_good p g 0 t j check word number low i check_here word_here s n
 
   -- a dealt word, by its parity
   module _ (j w : ℕ) (low : 1 ≤ j) (i : j ≤ rows p) (z : w ≡ word_at g (t * p.words + j)) where
     abbrev so_far : ℕ
     so_far = check_so_far p.crc g (t * p.words) j
 
-    odd-at : {number : ℕ} → number ≡ number_unless (not p.parity || is_odd w) 10 → number ≡ 0 → rest_of_track p g 0 t j ≡ rest_of_track p g 0 t (j + 1)
-    odd-at {number} o n = word_good j so_far w number low (omega (arith, rows_under p h)) refl z (dealt_number p j so_far w h i o) n
+    odd_at : {number : ℕ} → number ≡ number_unless (not p.parity || is_odd w) 10 → number ≡ 0 → rest_of_track p g 0 t j ≡ rest_of_track p g 0 t (j + 1)
+    odd_at {number} o n = word_good j so_far w number low (omega (arith, rows_under p h)) refl z (dealt_number p j so_far w h i o) n
 
-    even-at : {number : ℕ} → number ≡ number_unless (not p.parity || is_odd w) 10 → (number ≡ 0 → ⊥) → rest_of_track p g 0 t j ≡ found number (t * p.words + j)
-    even-at {number} o n = word-bad j so_far w number low (omega (arith, rows_under p h)) refl z (dealt_number p j so_far w h i o) n
+    even_at : {number : ℕ} → number ≡ number_unless (not p.parity || is_odd w) 10 → (number ≡ 0 → ⊥) → rest_of_track p g 0 t j ≡ found number (t * p.words + j)
+    even_at {number} o n = word_bad j so_far w number low (omega (arith, rows_under p h)) refl z (dealt_number p j so_far w h i o) n
 
-    odd-word : (not p.parity || is_odd w) ≡ true → rest_of_track p g 0 t j ≡ rest_of_track p g 0 t (j + 1)
-    odd-word o = odd-at {number = 0} (sym (ap (λ (x : Bool). number_unless x 10) o)) refl
+    odd_word : (not p.parity || is_odd w) ≡ true → rest_of_track p g 0 t j ≡ rest_of_track p g 0 t (j + 1)
+    odd_word o = odd_at {number = 0} (sym (ap (λ (x : Bool). number_unless x 10) o)) refl
 
-    even-word : (not p.parity || is_odd w) ≡ false → rest_of_track p g 0 t j ≡ found 10 (t * p.words + j)
-    even-word o = even-at {number = 10} (sym (ap (λ (x : Bool). number_unless x 10) o)) (λ x. absurd (omega arith))
+    even_word : (not p.parity || is_odd w) ≡ false → rest_of_track p g 0 t j ≡ found 10 (t * p.words + j)
+    even_word o = even_at {number = 10} (sym (ap (λ (x : Bool). number_unless x 10) o)) (λ x. absurd (omega arith))
 
 -- ---- from position to position
 
@@ -132,38 +132,38 @@ module _ (p : Plan) (g : List ℕ) (h : Shape p) {t j slot : ℕ} {s : Sum} (a :
     two_good o =
         let b = both_odd p.parity (is_odd one) (is_odd two) o in
         let z : j + 1 + 1 ≡ j + 2 = omega arith in
-        odd-word p g t h a.track j one a.past (omega arith) e b.0
-        ∙ odd-word p g t h a.track (j + 1) two (omega arith) (omega arith) behind b.1
+        odd_word p g t h a.track j one a.past (omega arith) e b.0
+        ∙ odd_word p g t h a.track (j + 1) two (omega arith) (omega arith) behind b.1
         ∙ ap (rest_of_track p g 0 t) z
 
-    pub inside-two : {r : Sum} → (not p.parity || is_odd one && is_odd two) ≡ true → Summed p.crc s (one ∷ two ∷ []) r
+    pub inside_two : {r : Sum} → (not p.parity || is_odd one && is_odd two) ≡ true → Summed p.crc s (one ∷ two ∷ []) r
         → Inside p g t (j + 2) (slot + 2 * p.tracks) r
-    inside-two {r} o b = record {
+    inside_two {r} o b = record {
       track = a.track;
       past = omega arith;
       within = omega arith;
-      slot_is = two-further p.tracks t j slot a.past a.slot_is;
+      slot_is = two_further p.tracks t j slot a.past a.slot_is;
       small = b.small;
       check = check_of_two p.crc g first j e behind a.check (summed_two p.crc b);
       fault = a.fault ∙ two_good o;
     }
       where
-        two-further : (T t j slot : ℕ) → 1 ≤ j → slot ≡ (j - 1) * T + t → slot + 2 * T ≡ (j + 2 - 1) * T + t
-        two-further T t j slot l e =
+        two_further : (T t j slot : ℕ) → 1 ≤ j → slot ≡ (j - 1) * T + t → slot + 2 * T ≡ (j + 2 - 1) * T + t
+        two_further T t j slot l e =
             let z : j + 2 - 1 ≡ j - 1 + 2 = omega arith in
             let y : slot + 2 * T ≡ (j - 1 + 2) * T + t = omega arith in
             y ∙ ap (λ (r : ℕ). r * T + t) (sym z)
 
     -- the first of them that is even
-    pub inside-even : {q : ℕ} → (not p.parity || is_odd one && is_odd two) ≡ false → q ≡ even_place p.parity one (first + j) → group_fault p g 0 ≡ found 10 q
-    inside-even o z = a.fault ∙ go (not p.parity || is_odd one) refl ∙ ap (found 10) (sym z)
+    pub inside_even : {q : ℕ} → (not p.parity || is_odd one && is_odd two) ≡ false → q ≡ even_place p.parity one (first + j) → group_fault p g 0 ≡ found 10 q
+    inside_even o z = a.fault ∙ go (not p.parity || is_odd one) refl ∙ ap (found 10) (sym z)
       where
         go : (b : Bool) → (not p.parity || is_odd one) ≡ b → rest_of_track p g 0 t j ≡ found 10 (even_place p.parity one (first + j))
-        go false x = even-word p g t h a.track j one a.past (omega arith) e x ∙ ap (λ (b : Bool). found 10 (cond b (first + j + 1) (first + j))) (sym x)
+        go false x = even_word p g t h a.track j one a.past (omega arith) e x ∙ ap (λ (b : Bool). found 10 (cond b (first + j + 1) (first + j))) (sym x)
         go true x =
             let y : first + (j + 1) ≡ first + j + 1 = omega arith in
-            odd-word p g t h a.track j one a.past (omega arith) e x
-            ∙ even-word p g t h a.track (j + 1) two (omega arith) (omega arith) behind (second_even p.parity (is_odd one) (is_odd two) o x)
+            odd_word p g t h a.track j one a.past (omega arith) e x
+            ∙ even_word p g t h a.track (j + 1) two (omega arith) (omega arith) behind (second_even p.parity (is_odd one) (is_odd two) o x)
             ∙ ap (found 10) y ∙ ap (λ (b : Bool). found 10 (cond b (first + j + 1) (first + j))) (sym x)
 
   -- one dealt word
@@ -176,7 +176,7 @@ module _ (p : Plan) (g : List ℕ) (h : Shape p) {t j slot : ℕ} {s : Sum} (a :
       slot_is = further p.tracks t j slot a.past a.slot_is;
       small = b.small;
       check = check_of_more p.crc g first j e a.check (summed_one p.crc b);
-      fault = a.fault ∙ odd-at p g t h a.track j w a.past l e o n;
+      fault = a.fault ∙ odd_at p g t h a.track j w a.past l e o n;
     }
       where
         further : (T t j slot : ℕ) → 1 ≤ j → slot ≡ (j - 1) * T + t → slot + T ≡ (j + 1 - 1) * T + t
@@ -185,8 +185,8 @@ module _ (p : Plan) (g : List ℕ) (h : Shape p) {t j slot : ℕ} {s : Sum} (a :
             let y : slot + T ≡ (j - 1 + 1) * T + t = omega arith in
             y ∙ ap (λ (r : ℕ). r * T + t) (sym z)
 
-    pub inside-bad : (number ≡ 0 → ⊥) → group_fault p g 0 ≡ found number (first + j)
-    inside-bad n = a.fault ∙ even-at p g t h a.track j w a.past l e o n
+    pub inside_bad : (number ≡ 0 → ⊥) → group_fault p g 0 ≡ found number (first + j)
+    inside_bad n = a.fault ∙ even_at p g t h a.track j w a.past l e o n
 
 -- ---- the frame's last word
 
@@ -204,37 +204,37 @@ module _ (p : Plan) (g : List ℕ) (h : Shape p) {t j slot : ℕ} {s : Sum} (a :
   last = t * p.words + (p.words - 1)
 
   module _ (c : p.crc ≡ true) where
-    at-end : j + 1 ≡ p.words
-    at-end = omega (arith, rows_checked p h c)
+    at_end : j + 1 ≡ p.words
+    at_end = omega (arith, rows_checked p h c)
 
     place_is : last ≡ t * p.words + j
-    place_is = let y : p.words - 1 ≡ j = omega (arith, at-end) in ap (λ (n : ℕ). t * p.words + n) y
+    place_is = let y : p.words - 1 ≡ j = omega (arith, at_end) in ap (λ (n : ℕ). t * p.words + n) y
 
     number_is : number ≡ word_number p.parity (p.crc && eqb (j + 1) p.words) p.crc_label (check_of_sum s) (word_at g last)
-    number_is = e ∙ last_with p.parity p.crc p.crc_label (check_of_sum s) (word_at g last) c ∙ rw (c, eq-eqb (j + 1) p.words at-end) refl
+    number_is = e ∙ last_with p.parity p.crc p.crc_label (check_of_sum s) (word_at g last) c ∙ rw (c, eq-eqb (j + 1) p.words at_end) refl
 
-    last-good : number ≡ 0 → rest_of_track p g 0 t j ≡ rest_of_tracks p g 0 (t + 1)
-    last-good n =
-        word_good p g t h a.track j (check_of_sum s) (word_at g last) number a.past (omega (arith, at-end)) a.check (ap (word_at g) place_is) number_is n
-        ∙ track_over p g 0 t (j + 1) (omega (arith, at-end))
+    last_good : number ≡ 0 → rest_of_track p g 0 t j ≡ rest_of_tracks p g 0 (t + 1)
+    last_good n =
+        word_good p g t h a.track j (check_of_sum s) (word_at g last) number a.past (omega (arith, at_end)) a.check (ap (word_at g) place_is) number_is n
+        ∙ track_over p g 0 t (j + 1) (omega (arith, at_end))
 
-    last-bad : (number ≡ 0 → ⊥) → rest_of_track p g 0 t j ≡ found number last
-    last-bad n =
-        word-bad p g t h a.track j (check_of_sum s) (word_at g last) number a.past (omega (arith, at-end)) a.check (ap (word_at g) place_is) number_is n
+    last_bad : (number ≡ 0 → ⊥) → rest_of_track p g 0 t j ≡ found number last
+    last_bad n =
+        word_bad p g t h a.track j (check_of_sum s) (word_at g last) number a.past (omega (arith, at_end)) a.check (ap (word_at g) place_is) number_is n
         ∙ ap (found number) (sym place_is)
 
   pub frame_good : number ≡ 0 → group_fault p g 0 ≡ rest_of_tracks p g 0 (t + 1)
   frame_good n = a.fault ∙ go p.crc refl
     where
       go : (crc : Bool) → p.crc ≡ crc → rest_of_track p g 0 t j ≡ rest_of_tracks p g 0 (t + 1)
-      go true c = last-good c n
+      go true c = last_good c n
       go false c = track_over p g 0 t j (omega (arith, rows_plain p h c, z))
 
   pub frame_bad : (number ≡ 0 → ⊥) → group_fault p g 0 ≡ found number last
   frame_bad n = a.fault ∙ go p.crc refl
     where
       go : (crc : Bool) → p.crc ≡ crc → rest_of_track p g 0 t j ≡ found number last
-      go true c = last-bad c n
+      go true c = last_bad c n
       go false c = absurd (n (e ∙ last_without p.parity p.crc p.crc_label (check_of_sum s) (word_at g last) c))
 
 -- ---- the track's dealt words are over: they have no fault, and stand in the row

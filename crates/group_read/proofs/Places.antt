@@ -11,15 +11,15 @@ use Rattle.group_read.specs.Row.{dealt_count}
 module _ (p : Plan) (h : Shape p) where
   -- of a dealt word, its track's words and its row
   module _ (s : ℕ) (l : s < dealt_count p) where
-    track-of : s % p.tracks < p.tracks
-    track-of = mod-lt s h.tracks_least
+    track_of : s % p.tracks < p.tracks
+    track_of = mod-lt s h.tracks_least
 
     row_of : s / p.tracks < rows p
     row_of = let k : s < rows p * p.tracks = omega arith in (div-lt_iff_lt-mul h.tracks_least).1 k
 
     pub digits_in : s % p.tracks * p.words + s / p.tracks + 1 < group_words p
     digits_in =
-        let m : s % p.tracks + 1 ≤ p.tracks = omega (arith, track-of) in
+        let m : s % p.tracks + 1 ≤ p.tracks = omega (arith, track_of) in
         omega (arith, mul-le-mul_right p.words m, row_of, rows_under p h)
 
     pub place_in : place_of p s < group_words p

@@ -155,22 +155,22 @@ module _ (p : Plan) (c : List ℕ) (at : ℕ) where
   track_over t j h = let e : p.words - j ≡ 0 = omega arith in rw e
 
   module _ (t : ℕ) where
-    sync-first : t < p.tracks → 0 < p.words → rest_of_tracks t ≡ or_else (unless (eqb (word_at c (at + t * p.words)) sync) 9 (at + t * p.words)) (rest_of_track t 1)
-    sync-first h k = rest_track t h ∙ rest_word t 0 k ∙ ap (λ (f : Fault). or_else f (rest_of_track t 1)) (fault_sync p c (at + t * p.words))
+    sync_first : t < p.tracks → 0 < p.words → rest_of_tracks t ≡ or_else (unless (eqb (word_at c (at + t * p.words)) sync) 9 (at + t * p.words)) (rest_of_track t 1)
+    sync_first h k = rest_track t h ∙ rest_word t 0 k ∙ ap (λ (f : Fault). or_else f (rest_of_track t 1)) (fault_sync p c (at + t * p.words))
 
-    pub sync-bad : {w s : ℕ} → t < p.tracks → 0 < p.words → w ≡ word_at c (at + t * p.words) → s ≡ sync → (w ≡ s → ⊥) → rest_of_tracks t ≡ found 9 (at + t * p.words)
-    sync-bad {w} {s} h k e z n = sync-first h k ∙ rw (← e, ← z, ne_eqb w s n)
+    pub sync_bad : {w s : ℕ} → t < p.tracks → 0 < p.words → w ≡ word_at c (at + t * p.words) → s ≡ sync → (w ≡ s → ⊥) → rest_of_tracks t ≡ found 9 (at + t * p.words)
+    sync_bad {w} {s} h k e z n = sync_first h k ∙ rw (← e, ← z, ne_eqb w s n)
 
-    pub sync-good : {w s : ℕ} → t < p.tracks → 0 < p.words → w ≡ word_at c (at + t * p.words) → s ≡ sync → w ≡ s → rest_of_tracks t ≡ rest_of_track t 1
-    sync-good {w} {s} h k e z n = sync-first h k ∙ rw (← e, ← z, eq-eqb w s n)
+    pub sync_good : {w s : ℕ} → t < p.tracks → 0 < p.words → w ≡ word_at c (at + t * p.words) → s ≡ sync → w ≡ s → rest_of_tracks t ≡ rest_of_track t 1
+    sync_good {w} {s} h k e z n = sync_first h k ∙ rw (← e, ← z, eq-eqb w s n)
 
     module _ (j check word number : ℕ) (low : 1 ≤ j) (h : j < p.words) (e : check ≡ check_so_far p.crc c (at + t * p.words) j)
         (z : word ≡ word_at c (at + t * p.words + j)) (s : number ≡ word_number p.parity (p.crc && eqb (j + 1) p.words) p.crc_label check word) where
       word_first : rest_of_track t j ≡ or_else (numbered number (at + t * p.words + j)) (rest_of_track t (j + 1))
       word_first = rest_word t j h ∙ rw (s, e, z) (ap (λ (f : Fault). or_else f (rest_of_track t (j + 1))) (fault_number p c (at + t * p.words) j low))
 
-      pub word-bad : (number ≡ 0 → ⊥) → rest_of_track t j ≡ found number (at + t * p.words + j)
-      word-bad n = word_first ∙ rw (numbered_bad number (at + t * p.words + j) n)
+      pub word_bad : (number ≡ 0 → ⊥) → rest_of_track t j ≡ found number (at + t * p.words + j)
+      word_bad n = word_first ∙ rw (numbered_bad number (at + t * p.words + j) n)
 
       pub word_good : number ≡ 0 → rest_of_track t j ≡ rest_of_track t (j + 1)
       word_good n = word_first ∙ rw n

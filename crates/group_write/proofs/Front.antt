@@ -89,32 +89,32 @@ module _ (p : Plan) (t l a b n : ℕ) (times words : List ℕ) (q : Parted p.tra
     abbrev blank : ℕ
     blank = fill p.fill_bus
 
-    in-timed : (r : ℕ) → r < a → row_word p times t r ≡ row_word p (take l times ++ words) t r
-    in-timed r h = ap (sent p.parity) (sym (dealt_time blank words l times (r * p.tracks + t) blank (omega (arith, q.timed, mul-le-mul_right p.tracks h)) (omega (arith, q.few))))
+    in_timed : (r : ℕ) → r < a → row_word p times t r ≡ row_word p (take l times ++ words) t r
+    in_timed r h = ap (sent p.parity) (sym (dealt_time blank words l times (r * p.tracks + t) blank (omega (arith, q.timed, mul-le-mul_right p.tracks h)) (omega (arith, q.few))))
 
-    past-timed : (r : ℕ) → a ≤ r → row_word p (take l times ++ words) t r ≡ sent p.parity (get_or words (r * p.tracks + t - l) blank)
-    past-timed r h = ap (sent p.parity) (dealt_past blank words l times (r * p.tracks + t) (omega (arith, q.timed, mul-le-mul_right p.tracks h)) (omega (arith, q.few)))
+    past_timed : (r : ℕ) → a ≤ r → row_word p (take l times ++ words) t r ≡ sent p.parity (get_or words (r * p.tracks + t - l) blank)
+    past_timed r h = ap (sent p.parity) (dealt_past blank words l times (r * p.tracks + t) (omega (arith, q.timed, mul-le-mul_right p.tracks h)) (omega (arith, q.few)))
 
-    in-data : (i : ℕ) → row_word p words (a * p.tracks + t - l) i ≡ row_word p (take l times ++ words) t (a + i)
-    in-data i =
+    in_data : (i : ℕ) → row_word p words (a * p.tracks + t - l) i ≡ row_word p (take l times ++ words) t (a + i)
+    in_data i =
         let at : i * p.tracks + (a * p.tracks + t - l) ≡ (a + i) * p.tracks + t - l = omega (arith, q.timed) in
-        ap (λ (s : ℕ). sent p.parity (get_or words s blank)) at ∙ sym (past-timed (a + i) (omega arith))
+        ap (λ (s : ℕ). sent p.parity (get_or words s blank)) at ∙ sym (past_timed (a + i) (omega arith))
 
-    in-fill : (r : ℕ) → b ≤ r → sent p.parity blank ≡ row_word p (take l times ++ words) t r
-    in-fill r h =
+    in_fill : (r : ℕ) → b ≤ r → sent p.parity blank ≡ row_word p (take l times ++ words) t r
+    in_fill r h =
         let past : length words ≤ r * p.tracks + t - l = omega (arith, q.dealt, mul-le-mul_right p.tracks h) in
-        sym (past-timed r (omega (arith, q.order)) ∙ ap (sent p.parity) (get_or-eq_default words blank past))
+        sym (past_timed r (omega (arith, q.order)) ∙ ap (sent p.parity) (get_or-eq_default words blank past))
 
     -- the sync word and the three runs
-    pub front-runs : (k j : ℕ) → a + k ≡ b → b + j ≡ n
+    pub front_runs : (k j : ℕ) → a + k ≡ b → b + j ≡ n
         → (((sync ∷ []) ++ sent_rows p times t a) ++ sent_rows p words (a * p.tracks + t - l) k) ++ same_rows (sent p.parity blank) j ≡ front p (take l times ++ words) t n
     unfolding front
-    front-runs k j ek ej =
+    front_runs k j ek ej =
         let f : ℕ → ℕ = row_word p (take l times ++ words) t in
         ap (λ ws. sync ∷ ws)
         (ap₂ ◌++◌
-        (ap₂ ◌++◌ (list_same (row_word p times t) f a 0 0 (λ i h. in-timed (0 + i) (omega arith)))
-        (list_same (row_word p words (a * p.tracks + t - l)) f k 0 a (λ i h. ap (row_word p words (a * p.tracks + t - l)) (zero-add i) ∙ in-data i) ∙ ap (λ (i : ℕ). list f i k) (sym (zero-add a)))
+        (ap₂ ◌++◌ (list_same (row_word p times t) f a 0 0 (λ i h. in_timed (0 + i) (omega arith)))
+        (list_same (row_word p words (a * p.tracks + t - l)) f k 0 a (λ i h. ap (row_word p words (a * p.tracks + t - l)) (zero-add i) ∙ in_data i) ∙ ap (λ (i : ℕ). list f i k) (sym (zero-add a)))
         ∙ sym (list_split f 0 a k) ∙ ap (list f 0) ek)
-        (list_same (λ r. sent p.parity blank) f j 0 b (λ i h. in-fill (b + i) (omega arith)) ∙ ap (λ (i : ℕ). list f i j) (sym (zero-add b)))
+        (list_same (λ r. sent p.parity blank) f j 0 b (λ i h. in_fill (b + i) (omega arith)) ∙ ap (λ (i : ℕ). list f i j) (sym (zero-add b)))
         ∙ sym (list_split f 0 b j) ∙ ap (list f 0) ej)

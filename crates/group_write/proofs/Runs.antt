@@ -75,22 +75,22 @@ module _ (p : Plan) (ws : List ℕ) (first n : ℕ) (before : Sum) (d : List ℕ
     pub two_in : row + 1 < n → s + p.tracks < length ws
     two_in h = omega (arith, q.at, run_in p ws first (row + 1) run h)
 
-    one-is : (v : ℕ) → row < n → v ≡ sent p.parity (get_or ws s 0) → v ≡ row_word p ws first row
-    one-is v h e = run_word p ws first row s v (one_in h) q.at e
+    one_is : (v : ℕ) → row < n → v ≡ sent p.parity (get_or ws s 0) → v ≡ row_word p ws first row
+    one_is v h e = run_word p ws first row s v (one_in h) q.at e
 
     two_is : (v : ℕ) → row + 1 < n → v ≡ sent p.parity (get_or ws (s + p.tracks) 0) → v ≡ row_word p ws first (row + 1)
     two_is v h e = run_word p ws first (row + 1) (s + p.tracks) v (two_in h) (omega (arith, q.at)) e
 
     pub one_written : {xs : List ℕ} (v : ℕ) → row < n → v ≡ sent p.parity (get_or ws s 0) → xs ≡ take (3 * row) out ++ (bytes_of v ++ drop (3 * row + 3) out)
         → Written (sent_rows p ws first (row + 1)) (row + 1) d xs
-    one_written v h e x = written_row (row_word p ws first) row v q.bytes (one-is v h e) (omega (arith, run.room)) x
+    one_written v h e x = written_row (row_word p ws first) row v q.bytes (one_is v h e) (omega (arith, run.room)) x
 
     pub put_one : {xs : List ℕ} {t : Sum} (v : ℕ) → row < n → v ≡ sent p.parity (get_or ws s 0) → xs ≡ take (3 * row) out ++ (bytes_of v ++ drop (3 * row + 3) out)
         → Added sum (v ∷ []) t → Put p ws first n before d (row + 1) (s + p.tracks) t xs
     put_one v h e x a = record {
       within = omega arith;
       at = omega (arith, q.at);
-      sums = summed_row (row_word p ws first) true row v q.sums (one-is v h e) (summed_true refl a);
+      sums = summed_row (row_word p ws first) true row v q.sums (one_is v h e) (summed_true refl a);
       bytes = one_written v h e x;
     }
 
@@ -102,7 +102,7 @@ module _ (p : Plan) (ws : List ℕ) (first n : ℕ) (before : Sum) (d : List ℕ
         record {
           within = omega arith;
           at = omega (arith, q.at);
-          sums = summed_two_rows (row_word p ws first) true row v w q.sums (one-is v (omega arith) e) (two_is w h g) (summed_true refl a);
+          sums = summed_two_rows (row_word p ws first) true row v w q.sums (one_is v (omega arith) e) (two_is w h g) (summed_true refl a);
           bytes = rw two at (written_row (row_word p ws first) (row + 1) w (one_written v (omega arith) e x) (two_is w h g) (omega (arith, run.room)) y);
         }
 

@@ -106,47 +106,47 @@ module _ (first second : List ℕ) (is js : List Item) (a : LogOf first is) (b :
     fits : bytes ≤ length both
     fits = omega (arith, both_long, (ends_of b).0)
 
-    its-bits : bytes_bits (take bytes both) ≡ take (bytes * 8) (bits ++ replicate 11 0)
-    its-bits =
+    its_bits : bytes_bits (take bytes both) ≡ take (bytes * 8) (bits ++ replicate 11 0)
+    its_bits =
         let h : bytes * 8 ≤ length (bytes_bits both) = omega (arith, fits, length_bytes both) in
         let l : length (bits ++ replicate 11 0) ≡ m + n + 11 = length-append bits (replicate 11 0) ∙ ap₂ ◌+◌ bits_long (length-replicate {A = ℕ} 11 0) in
         let g : bytes * 8 ≤ length (bits ++ replicate 11 0) = omega arith in
         sym (bytes_take bytes both) ∙ sym (take-append-le (bytes * 8) (bytes_bits both) (bits_of (m % 8) 0) h)
         ∙ ap (take (bytes * 8)) both_bits ∙ take-append-le (bytes * 8) (bits ++ replicate 11 0) (replicate rest 0) g
 
-    pub both-log : take bytes both ≡ log_of (is ++ js)
+    pub both_log : take bytes both ≡ log_of (is ++ js)
     unfolding log_of
-    both-log =
+    both_log =
         let x : List ℕ = bits ++ replicate 11 0 in
-        let e : x ≡ bytes_bits (take bytes both) ++ drop (bytes * 8) x = sym (take-append-drop (bytes * 8) x) ∙ ap (λ (l : List ℕ). l ++ drop (bytes * 8) x) (sym its-bits) in
+        let e : x ≡ bytes_bits (take bytes both) ++ drop (bytes * 8) x = sym (take-append-drop (bytes * 8) x) ∙ ap (λ (l : List ℕ). l ++ drop (bytes * 8) x) (sym its_bits) in
         let z : length (take bytes both) ≡ (length bits + 11) / 8 = length-take-le bytes both fits ∙ size ∙ ap (λ (k : ℕ). (k + 11) / 8) (sym bits_long) in
         let f : flat_map item_bits (is ++ js) ≡ bits = flat_map_append item_bits is js in
         packed_is bits (take bytes both) (drop (bytes * 8) x) (all_append (items_low is) (items_low js))
         (all_take bytes (all_append (all_take (m / 8) (log_bytes a)) (later_small (m % 8) (get_or first (m / 8) 0 / 2 ^ (8 - m % 8)) (second ++ 0 ∷ [])))) e z
         ∙ rw f refl
 
-    pub both-size : bytes ≡ length (log_of (is ++ js))
-    both-size = sym (length-take-le bytes both fits) ∙ ap (λ (l : List ℕ). length l) both-log
+    pub both_size : bytes ≡ length (log_of (is ++ js))
+    both_size = sym (length-take-le bytes both fits) ∙ ap (λ (l : List ℕ). length l) both_log
 
 -- ---- the answers
 
 pub joins_beyond : (first second : List ℕ) (m n bytes : ℕ) (out : List ℕ) (r : Answer) → bytes ≡ (m + n + 11) / 8 → 32768 < bytes → r ≡ refusal 6 bytes 0
     → Joins first m second n r out out
 joins_beyond first second m n bytes out r e h a is js f g x y =
-    made_beyond (is ++ js) bytes (both-size first second is js f g bytes (e ∙ ap₂ (λ (i j : ℕ). (i + j + 11) / 8) x y)) (length out) out r h a
+    made_beyond (is ++ js) bytes (both_size first second is js f g bytes (e ∙ ap₂ (λ (i j : ℕ). (i + j + 11) / 8) x y)) (length out) out r h a
 
 pub joins_short : (first second : List ℕ) (m n bytes : ℕ) (out : List ℕ) (r : Answer) → bytes ≡ (m + n + 11) / 8 → bytes ≤ 32768 → length out < bytes → r ≡ refusal 6 bytes 0
     → Joins first m second n r out out
 joins_short first second m n bytes out r e h l a is js f g x y =
-    made_short (is ++ js) bytes (both-size first second is js f g bytes (e ∙ ap₂ (λ (i j : ℕ). (i + j + 11) / 8) x y)) (length out) out r h l a
+    made_short (is ++ js) bytes (both_size first second is js f g bytes (e ∙ ap₂ (λ (i j : ℕ). (i + j + 11) / 8) x y)) (length out) out r h l a
 
 pub joins_all : (first second : List ℕ) (m n bytes : ℕ) (out out' : List ℕ) → bytes ≡ (m + n + 11) / 8 → bytes ≤ 32768 → bytes ≤ length out
     → out' ≡ take bytes (both_bytes m first second) ++ drop bytes out
     → Joins first m second n (record { number = 0; place = 0; second = 0; bytes = bytes; times = 0 }) out out'
 joins_all first second m n bytes out out' e h l o is js f g x y =
     let z : bytes ≡ (length (flat_map item_bits is) + length (flat_map item_bits js) + 11) / 8 = e ∙ ap₂ (λ (i j : ℕ). (i + j + 11) / 8) x y in
-    let t : take bytes (both_bytes m first second) ≡ log_of (is ++ js) = ap (λ (k : ℕ). take bytes (both_bytes k first second)) x ∙ both-log first second is js f g bytes z in
-    made_all (is ++ js) bytes (both-size first second is js f g bytes z) (take bytes (both_bytes m first second)) out out' h l t o
+    let t : take bytes (both_bytes m first second) ≡ log_of (is ++ js) = ap (λ (k : ℕ). take bytes (both_bytes k first second)) x ∙ both_log first second is js f g bytes z in
+    made_all (is ++ js) bytes (both_size first second is js f g bytes z) (take bytes (both_bytes m first second)) out out' h l t o
 
 -- ---- both logs looked at
 

@@ -25,7 +25,7 @@ use Rattle.log_put.proofs.Putting.{holds_fits}
 use Rattle.log_put.specs.declared.Put.{Put}
 use Rattle.log_put.specs.declared.Put.TheVariants.{All, Fault}
 use Rattle.log_rules.specs.Shift.{first_failing, item_moves, moved_item}
-use Rattle.log_rules.specs.Laws.Checking.{Walk, walk_start, walk-over, walk_first}
+use Rattle.log_rules.specs.Laws.Checking.{Walk, walk_start, walk_over, walk_first}
 use Rattle.log_pass.proofs.Walking.{next_fits, walk_item}
 use Rattle.log_walk.specs.Piece.{times_in}
 use Rattle.log_walk.proofs.Items.{Holds}
@@ -85,9 +85,9 @@ module _ {log : List ℕ} {by : ℤ} {built : List ℕ} {place : ℕ} {p : Pen} 
       on = walk_item w.walk h t
 
       -- a tag that cannot be moved
-      pub moving-fails : (built' : List ℕ) → item_moves by h.item ≡ false
+      pub moving_fails : (built' : List ℕ) → item_moves by h.item ≡ false
           → StandsIn (moved_row by (parsed on_no_plan log)) (length log * 8) built' (judged (parsed on_no_plan log) place)
-      moving-fails built' f = go (parsed on_no_plan log) refl
+      moving_fails built' f = go (parsed on_no_plan log) refl
         where
           go : (r : Parsed) → parsed on_no_plan log ≡ r → StandsIn (moved_row by r) (length log * 8) built' (judged r place)
           go (fault n q) e = refl
@@ -98,11 +98,11 @@ module _ {log : List ℕ} {by : ℤ} {built : List ℕ} {place : ℕ} {p : Pen} 
               ap (first_failing (item_moves by) 17 0) y ∙ fails_at (item_moves by) 17 0 w.past h.item rest w.clear f ∙ ap (found 17) (zero-add _ ∙ sym w.walk.at) in
               rw x refl
 
-      pub moving-more : {built' : List ℕ} {p' : Pen} (m : Packed) → item_moves by h.item ≡ true → m ≡ packed_of (moved_item by
+      pub moving_more : {built' : List ℕ} {p' : Pen} (m : Packed) → item_moves by h.item ≡ true → m ≡ packed_of (moved_item by
           h.item) → m.first_bits + m.behind_bits ≡ k.first_bits + k.behind_bits
           → PutsPacked m built p built' p' → Moving log by built' (place + (k.first_bits + k.behind_bits)) p'
       unfolding flat_map
-      moving-more {built'} {p'} m f g s x =
+      moving_more {built'} {p'} m f g s x =
           let i : Item = moved_item by h.item in
           let b : packed_bits m ≡ item_bits i = rw g (sym (packed_says i).bits) in
           let e : flat_map item_bits (map (moved_item by) (w.past ++ (h.item ∷ []))) ≡ flat_map item_bits (map (moved_item by) w.past) ++ packed_bits m =
@@ -123,7 +123,7 @@ module _ {log : List ℕ} {by : ℤ} {built : List ℕ} {place : ℕ} {p : Pen} 
 
   pub moving_over : next_at (bytes_bits log) place ≡ ends → StandsIn (moved_row by (parsed on_no_plan log)) (length log * 8) built (All p)
   moving_over n =
-      rw (walk-over on_no_plan log w.walk n, w.clear) (p, refl, omega (arith, w.short), omega (arith, w.few, w.walk.fits), w.wrote)
+      rw (walk_over on_no_plan log w.walk n, w.clear) (p, refl, omega (arith, w.short), omega (arith, w.few, w.walk.fits), w.wrote)
 
 -- ---- what the code asks of an item moved
 
@@ -211,4 +211,4 @@ module _ {by : ℤ} {log : List ℕ} {built : List ℕ} {place : ℕ} {p : Pen} 
       let m : k ≡ moved_packed 0 k = rw g refl in
       let n : 0 < time_end = omega arith in
       let s : k.first_bits + k.behind_bits ≡ 25 = omega (arith, f, g) in
-      rw s at (moving-more w h t k (can_move by h 0 e n) (moved_is by h 0 e k n m) refl x)
+      rw s at (moving_more w h t k (can_move by h 0 e n) (moved_is by h 0 e k n m) refl x)

@@ -9,7 +9,7 @@ use Rattle.format.specs.Bits.{bytes_bits}
 use Rattle.format.specs.Log.{next_at, ends, wrong, fault, parsed, on_no_plan}
 use Rattle.format.specs.Laws.Tests.{clash}
 use Rattle.format.specs.declared.Item.{Item}
-use Rattle.log_rules.specs.Laws.Checking.{Walk, walk_start, walk_more, walk-over, walk-wrong, walk-fault, walk-far, walk-bit, walk_long}
+use Rattle.log_rules.specs.Laws.Checking.{Walk, walk_start, walk_more, walk_over, walk_wrong, walk_fault, walk_far, walk_bit, walk_long}
 use Rattle.log_walk.specs.Piece.{times_in}
 use Rattle.log_walk.proofs.Items.{Holds}
 use Rattle.log_write.specs.declared.Packed.{Packed}
@@ -27,10 +27,10 @@ not_false false e = clash (sym e)
 -- an item that was found where the walk stands
 module _ {log : List ℕ} {past : List Item} {place : ℕ} (w : Walk on_no_plan log past place) {k : Packed} (h : Holds log place k) where
   next_is : place + (k.first_bits + k.behind_bits) ≡ h.next
-  next_is = ap (λ (n : ℕ). place + n) (sym h.long) ∙ sym (walk-bit on_no_plan log w h.item h.next h.stands)
+  next_is = ap (λ (n : ℕ). place + n) (sym h.long) ∙ sym (walk_bit on_no_plan log w h.item h.next h.stands)
 
   pub next_fits : place + (k.first_bits + k.behind_bits) ≤ length log * 8
-  next_fits = rw next_is (walk-far on_no_plan log w h.item h.next h.stands).1
+  next_fits = rw next_is (walk_far on_no_plan log w h.item h.next h.stands).1
 
   pub walk_item : times_in k ≡ true → Walk on_no_plan log (past ++ h.item ∷ []) (place + (k.first_bits + k.behind_bits))
   walk_item t =
@@ -41,7 +41,7 @@ module _ {log : List ℕ} {past : List Item} {place : ℕ} (w : Walk on_no_plan 
   pub walk_late : times_in k ≡ false → parsed on_no_plan log ≡ fault 4 place
   walk_late t =
       let c : on_no_plan h.item ≡ 4 = rw (sym h.times ∙ t) refl in
-      walk-fault on_no_plan log w h.item h.next h.stands (λ z. absurd (omega arith)) ∙ ap (λ (n : ℕ). fault n place) c
+      walk_fault on_no_plan log w h.item h.next h.stands (λ z. absurd (omega arith)) ∙ ap (λ (n : ℕ). fault n place) c
 
 -- ---- a log that is only looked at
 
@@ -62,7 +62,7 @@ module _ {log : List ℕ} {place : ℕ} (w : Passing log place) where
   pass_late h t = rw (walk_late w.walk h t) refl
 
   pub pass_wrong : next_at (bytes_bits log) place ≡ wrong → Fault 2 place ≡ pass_of (parsed on_no_plan log)
-  pass_wrong n = rw (walk-wrong on_no_plan log w.walk n) refl
+  pass_wrong n = rw (walk_wrong on_no_plan log w.walk n) refl
 
   pub pass_over : next_at (bytes_bits log) place ≡ ends → All place ≡ pass_of (parsed on_no_plan log)
-  pass_over n = rw (walk-over on_no_plan log w.walk n) (ap All w.walk.at)
+  pass_over n = rw (walk_over on_no_plan log w.walk n) (ap All w.walk.at)

@@ -10,7 +10,7 @@ use Rattle.format.specs.Item.{item_bits}
 use Rattle.format.specs.Log.{next_at, ends, parsed, on_no_plan}
 use Rattle.format.specs.Laws.Lists.{flat_map_append}
 use Rattle.log_rules.specs.Pick.{in_set, keep, on_buses}
-use Rattle.log_rules.specs.Laws.Checking.{walk_start, walk-over}
+use Rattle.log_rules.specs.Laws.Checking.{walk_start, walk_over}
 use Rattle.log_rules.specs.Laws.Logs.{keep_append}
 use Rattle.log_pass.proofs.Walking.{next_fits, walk_item}
 use Rattle.log_walk.specs.Piece.{bus_in, times_in}
@@ -96,9 +96,9 @@ module _ {log : List ℕ} {set : ℕ} {out : List ℕ} {place : ℕ} {p : Pen} (
         go true = append-nil (item_bits h.item) ∙ h.says.bits
         go false = refl
 
-    pub picking-more : {out' : List ℕ} {p' : Pen} → times_in k ≡ true → PutsPicked set k out p out' p'
+    pub picking_more : {out' : List ℕ} {p' : Pen} → times_in k ≡ true → PutsPicked set k out p out' p'
         → Picking log set out' (place + (k.first_bits + k.behind_bits)) p'
-    picking-more t x =
+    picking_more t x =
         let e : flat_map item_bits (keep (on_buses set) (w.past ++ h.item ∷ []))
         ≡ flat_map item_bits (keep (on_buses set) w.past) ++ cond (in_set set (bus_in k)) (packed_bits k) [] =
         ap (flat_map item_bits) (keep_append (on_buses set) w.past (h.item ∷ []))
@@ -111,16 +111,16 @@ module _ {log : List ℕ} {set : ℕ} {out : List ℕ} {place : ℕ} {p : Pen} (
           few = omega (arith, w.few, x.few);
         }
 
-    pub picking-data : {out' : List ℕ} {p' : Pen} → k.first_bits ≡ 25 → k.behind ≡ 0 → k.behind_bits ≡ 0 → PutsPicked set k out p out' p'
+    pub picking_data : {out' : List ℕ} {p' : Pen} → k.first_bits ≡ 25 → k.behind ≡ 0 → k.behind_bits ≡ 0 → PutsPicked set k out p out' p'
         → Picking log set out' (place + 25) p'
-    picking-data f b g x =
+    picking_data f b g x =
         let e : k.first_bits + k.behind_bits ≡ 25 = omega (arith, f, g) in
         let t : times_in k ≡ true = rw b refl in
-        rw e at (picking-more t x)
+        rw e at (picking_more t x)
 
     -- the room for its bits in an array that has eight bytes more than the log
-    pub picking-room : (n : ℕ) → length log ≤ 32768 → length log + 8 ≤ n → (p.bits < 2 ^ 61) × Fits k × ((p.bits + k.first_bits) / 8 + 8 ≤ n)
-    picking-room n short room = (omega (arith, w.few, w.walk.fits), holds_fits h, omega (arith, w.few, next_fits w.walk h))
+    pub picking_room : (n : ℕ) → length log ≤ 32768 → length log + 8 ≤ n → (p.bits < 2 ^ 61) × Fits k × ((p.bits + k.first_bits) / 8 + 8 ≤ n)
+    picking_room n short room = (omega (arith, w.few, w.walk.fits), holds_fits h, omega (arith, w.few, next_fits w.walk h))
 
   pub picking_over : length log ≤ 32768 → next_at (bytes_bits log) place ≡ ends → Told (parsed on_no_plan log) set (length log * 8) out (Done p)
-  picking_over short n = rw (walk-over on_no_plan log w.walk n) (p, refl, omega arith, omega (arith, w.few, w.walk.fits), w.wrote)
+  picking_over short n = rw (walk_over on_no_plan log w.walk n) (p, refl, omega arith, omega (arith, w.few, w.walk.fits), w.wrote)

@@ -30,17 +30,17 @@ module _ {s : List ℕ} {p : ℕ} {c : Cursor} (a : Ahead s p 57 0 c) (l : ℕ) 
       ap (λ (k : ℕ). c.ahead / 2 ^ k) q ∙ sym (shr-shr c.ahead (64 - l) (l - 4)) ∙ ap (λ (k : ℕ). k / 2 ^ (l - 4)) z ∙ zero-div (2 ^ (l - 4))
 
   module _ (z : (took_of c 4).field ≡ 0) where
-    mark-next : next_at s p ≡ end_at s p
+    mark_next : next_at s p ≡ end_at s p
     unfolding next_at
-    mark-next = rw (le-leb (p + 4) (length s) (omega arith), ap (λ (q : ℕ). field s q 4) (sym (add-zero p)), took_field a (omega arith) 4 (omega arith) (omega arith), eq-eqb (took_of c 4).field 0 z)
+    mark_next = rw (le-leb (p + 4) (length s) (omega arith), ap (λ (q : ℕ). field s q 4) (sym (add-zero p)), took_field a (omega arith) 4 (omega arith) (omega arith), eq-eqb (took_of c 4).field 0 z)
 
-    mark-far : 12 ≤ l → next_at s p ≡ wrong
-    mark-far h = mark-next ∙ rw (le-ltb (length s) (p + 12) (omega arith))
+    mark_far : 12 ≤ l → next_at s p ≡ wrong
+    mark_far h = mark_next ∙ rw (le-ltb (length s) (p + 12) (omega arith))
 
     module _ (hi : l < 12) where
-      rest-num : num_of (drop (p + 4) s) ≡ (took_of c l).field
+      rest_num : num_of (drop (p + 4) s) ≡ (took_of c l).field
       unfolding field took_of
-      rest-num =
+      rest_num =
           let r : 64 - 4 - (l - 4) ≡ 64 - l = omega arith in
           let q : l - 4 + (64 - l) ≡ 60 = omega arith in
           let small : c.ahead < 2 ^ (l - 4 + (64 - l)) = rw q (omega (arith, a.small, z)) in
@@ -53,11 +53,11 @@ module _ {s : List ℕ} {p : ℕ} {c : Cursor} (a : Ahead s p 57 0 c) (l : ℕ) 
       near : ltb (length s) (p + 12) ≡ true
       near = lt-ltb (length s) (p + 12) (omega arith)
 
-      mark-good : (took_of c l).field ≡ 0 → next_at s p ≡ ends
-      mark-good h = mark-next ∙ rw (near, rest-num, eq-eqb (took_of c l).field 0 h)
+      mark_good : (took_of c l).field ≡ 0 → next_at s p ≡ ends
+      mark_good h = mark_next ∙ rw (near, rest_num, eq-eqb (took_of c l).field 0 h)
 
-      mark-bad : ((took_of c l).field ≡ 0 → ⊥) → next_at s p ≡ wrong
-      mark-bad h = mark-next ∙ rw (near, rest-num, ne_eqb (took_of c l).field 0 h)
+      mark_bad : ((took_of c l).field ≡ 0 → ⊥) → next_at s p ≡ wrong
+      mark_bad h = mark_next ∙ rw (near, rest_num, ne_eqb (took_of c l).field 0 h)
 
 module _ {s : List ℕ} {p : ℕ} {c : Cursor} (a : Ahead s p 57 0 c) (total : ℕ) (size : length s ≡ total) (within : p ≤ total) where
   pub ends_good : ends_of c total ≡ true → next_at s p ≡ ends
@@ -70,7 +70,7 @@ module _ {s : List ℕ} {p : ℕ} {c : Cursor} (a : Ahead s p 57 0 c) (total : �
       let lo : 4 ≤ l = leb-true 4 l b.0 in
       let hi : l < 12 = ltb-true l 12 d.0 in
       let z : (took_of c l).field ≡ 0 = eqb-true (took_of c l).field 0 d.1 in
-      mark-good a l e lo (kind_zero a l e lo z (omega arith)) hi z
+      mark_good a l e lo (kind_zero a l e lo z (omega arith)) hi z
 
   -- the kind of an end mark is 0
   pub ends_kind : ends_of c total ≡ true → (head_of c).kind ≡ 0
@@ -91,11 +91,11 @@ module _ {s : List ℕ} {p : ℕ} {c : Cursor} (a : Ahead s p 57 0 c) (total : �
 
       go : Dec (total - c.at < 4) → Dec (total - c.at < 12) → next_at s p ≡ wrong
       go (yes lo) b = next_past s p (omega (arith, e))
-      go (no lo) (no hi) = mark-far a (total - c.at) e (omega arith) z (omega arith)
+      go (no lo) (no hi) = mark_far a (total - c.at) e (omega arith) z (omega arith)
       go (no lo) (yes hi) =
           let l : ℕ = total - c.at in
           let f : eqb (took_of c l).field 0 ≡ false = rw (le-leb 4 l (omega arith), lt-ltb l 12 hi) at h in
-          mark-bad a l e (omega arith) z hi (eqb-false (took_of c l).field 0 f)
+          mark_bad a l e (omega arith) z hi (eqb-false (took_of c l).field 0 f)
 
   pub ends_here : (head_of c).kind ≡ 0 → next_at s p ≡ cond (ends_of c total) ends wrong
   ends_here z = go (ends_of c total) refl

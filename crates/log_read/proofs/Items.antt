@@ -92,25 +92,25 @@ module _ {s : List ℕ} {p : ℕ} {h : Head} (g : Heads s p h) where
 
   -- a command and a status, by their mark
   module _ (off : (marked_of h.next).mark ≡ 1 → ⊥) where
-    pub command-plain : item_at s p 1 ≡ if_there s (p + 26) (has (Command h.bus (eqb (marked_of h.next).side 1) Untagged (marked_of h.next).word) (p + 26))
+    pub command_plain : item_at s p 1 ≡ if_there s (p + 26) (has (Command h.bus (eqb (marked_of h.next).side 1) Untagged (marked_of h.next).word) (p + 26))
     unfolding item_at
-    command-plain =
+    command_plain =
         same_there s (p + 26) (tagged s (flag s (p + 9)) (p + 26) (λ t. Command (field s (p + 4) 4) (flag s (p + 8)) t (field s (p + 10) 16)))
         (has (Command h.bus (eqb (marked_of h.next).side 1) Untagged (marked_of h.next).word) (p + 26))
         (λ l. let f = marked_read g.next l in rw (bus_is (omega arith), f.0, f.1, f.2, ne_eqb (marked_of h.next).mark 1 off))
 
-    pub status-plain : item_at s p 2 ≡ if_there s (p + 26) (has (Status h.bus (eqb (marked_of h.next).side 1) Untimed (marked_of h.next).word) (p + 26))
+    pub status_plain : item_at s p 2 ≡ if_there s (p + 26) (has (Status h.bus (eqb (marked_of h.next).side 1) Untimed (marked_of h.next).word) (p + 26))
     unfolding item_at
-    status-plain =
+    status_plain =
         same_there s (p + 26) (timed s (flag s (p + 9)) (p + 26) (λ r. Status (field s (p + 4) 4) (flag s (p + 8)) r (field s (p + 10) 16)))
         (has (Status h.bus (eqb (marked_of h.next).side 1) Untimed (marked_of h.next).word) (p + 26))
         (λ l. let f = marked_read g.next l in rw (bus_is (omega arith), f.0, f.1, f.2, ne_eqb (marked_of h.next).mark 1 off))
 
   module _ (on : (marked_of h.next).mark ≡ 1) where
-    pub command-tagged : (t : Time) → (p + 26 + 46 ≤ length s → time_at s (p + 26) ≡ t)
+    pub command_tagged : (t : Time) → (p + 26 + 46 ≤ length s → time_at s (p + 26) ≡ t)
         → item_at s p 1 ≡ if_there s (p + 26 + 46) (has (Command h.bus (eqb (marked_of h.next).side 1) (At t) (marked_of h.next).word) (p + 26 + 46))
     unfolding item_at
-    command-tagged t e =
+    command_tagged t e =
         let new : Next = has (Command h.bus (eqb (marked_of h.next).side 1) (At t) (marked_of h.next).word) (p + 26 + 46) in
         let old : Next = has (Command (field s (p + 4) 4) (flag s (p + 8)) (At (time_at s (p + 26))) (field s (p + 10) 16)) (p + 26 + 46) in
         same_there s (p + 26) (tagged s (flag s (p + 9)) (p + 26) (λ t. Command (field s (p + 4) 4) (flag s (p + 8)) t (field s (p + 10) 16)))
@@ -120,10 +120,10 @@ module _ {s : List ℕ} {p : ℕ} {h : Head} (g : Heads s p h) where
         ∙ same_there s (p + 26 + 46) old new
         (λ l. let f = marked_read g.next (omega arith) in rw (bus_is (omega arith), f.0, f.2, e l))
 
-    pub status-timed : item_at s p 2
+    pub status_timed : item_at s p 2
         ≡ if_there s (p + 26 + 14) (has (Status h.bus (eqb (marked_of h.next).side 1) (After (took_of (marked_of h.next).next 14).field) (marked_of h.next).word) (p + 26 + 14))
     unfolding item_at
-    status-timed =
+    status_timed =
         let r : ℕ = (took_of (marked_of h.next).next 14).field in
         let new : Next = has (Status h.bus (eqb (marked_of h.next).side 1) (After r) (marked_of h.next).word) (p + 26 + 14) in
         let old : Next = has (Status (field s (p + 4) 4) (flag s (p + 8)) (After (field s (p + 26) 14)) (field s (p + 10) 16)) (p + 26 + 14) in

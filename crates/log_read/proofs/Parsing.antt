@@ -152,21 +152,21 @@ module _ (check : Item → ℕ) (log : List ℕ) where
     fuel : length log + 1 - n ≡ suc (length log - n)
     fuel = omega arith
 
-    pub tally-end : (f : Found) → f ≡ found_of (next_at (bytes_bits log) p) → f ≡ End → onward p n w ≡ Items n w
+    pub tally_end : (f : Found) → f ≡ found_of (next_at (bytes_bits log) p) → f ≡ End → onward p n w ≡ Items n w
     unfolding parse_from flat_map
-    tally-end f e g = rw (fuel, found_end (next_at (bytes_bits log) p) (sym e ∙ g)) (ap₂ Items (omega arith) (omega arith))
+    tally_end f e g = rw (fuel, found_end (next_at (bytes_bits log) p) (sym e ∙ g)) (ap₂ Items (omega arith) (omega arith))
 
-    pub tally-wrong : (f : Found) → f ≡ found_of (next_at (bytes_bits log) p) → f ≡ Wrong → onward p n w ≡ Fault 2 p
+    pub tally_wrong : (f : Found) → f ≡ found_of (next_at (bytes_bits log) p) → f ≡ Wrong → onward p n w ≡ Fault 2 p
     unfolding parse_from
-    tally-wrong f e g = rw (fuel, found_wrong (next_at (bytes_bits log) p) (sym e ∙ g))
+    tally_wrong f e g = rw (fuel, found_wrong (next_at (bytes_bits log) p) (sym e ∙ g))
 
-    pub tally-fault : (i : Item) (q : ℕ) → Follows log p i q → (check i ≡ 0 → ⊥) → onward p n w ≡ Fault (check i) p
+    pub tally_fault : (i : Item) (q : ℕ) → Follows log p i q → (check i ≡ 0 → ⊥) → onward p n w ≡ Fault (check i) p
     unfolding parse_from
-    tally-fault i q f h = rw (fuel, f.next, ne_eqb _ _ h)
+    tally_fault i q f h = rw (fuel, f.next, ne_eqb _ _ h)
 
-    pub tally-more : (i : Item) (q : ℕ) → Follows log p i q → check i ≡ 0 → onward p n w ≡ onward q (n + 1) (w + length (item_words i))
+    pub tally_more : (i : Item) (q : ℕ) → Follows log p i q → check i ≡ 0 → onward p n w ≡ onward q (n + 1) (w + length (item_words i))
     unfolding parse_from flat_map
-    tally-more i q f h =
+    tally_more i q f h =
         let e : length log + 1 - (n + 1) ≡ length log - n = omega arith in
         rw (fuel, f.next, eq-eqb _ _ h, e) (go (parse_from (length log - n) check (bytes_bits log) q))
       where

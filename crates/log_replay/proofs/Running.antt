@@ -117,15 +117,15 @@ module _ (log events : List ℕ) (capacity slots : ℕ) (r : Ready log events ca
         }
 
     -- small enough for one event more
-    pub running-small : i ≤ length events → Holdable st.level × (st.pen.bits < 2 ^ 60)
-    running-small l =
+    pub running_small : i ≤ length events → Holdable st.level × (st.pen.bits < 2 ^ 60)
+    running_small l =
         let f = limits.few in
         let b = k.bounded in
         ((b.0, omega (arith, b.1, l, f), omega (arith, b.2, l, f), omega (arith, b.3, l, f)), omega (arith, b.4, l, f))
 
-    pub running-over : i ≤ length events → length events ≤ i → Runs log events capacity slots built st
+    pub running_over : i ≤ length events → length events ≤ i → Runs log events capacity slots built st
     unfolding replay
-    running-over l h =
+    running_over l h =
         let e : replay capacity slots events (items_of (parsed on_no_plan log)) empty_buffer ≡ k.s =
         k.same ∙ ap (λ (x : List ℕ). replay capacity slots x k.rest k.s) (drop_of_length-le events h) in
         rw e ((k.holds.level, k.holds.wrote), omega (arith, k.bounded.4, l, limits.few))

@@ -74,13 +74,13 @@ module _ (by : ℤ) (is : List Item) (built : List ℕ) (p : Pen) (w : Wrote (fl
     long : bytes ≡ length (log_of is)
     long = size ∙ closed_size_lem is built p w
 
-    pub row-beyond : (room : ℕ) (out : List ℕ) (r : Answer) → 32768 < bytes → r ≡ refusal 6 bytes 0 → Shifted (row_shifted by (times_from times) room is) r out out times times
-    row-beyond room out r h a =
+    pub row_beyond : (room : ℕ) (out : List ℕ) (r : Answer) → 32768 < bytes → r ≡ refusal 6 bytes 0 → Shifted (row_shifted by (times_from times) room is) r out out times times
+    row_beyond room out r h a =
         let z : leb (length (log_of is)) 32768 ≡ false = lt-leb (length (log_of is)) 32768 (omega (arith, long)) in
         rw (clear, z, ← long) (a, refl, refl)
 
-    pub row-short : (room : ℕ) (out : List ℕ) (r : Answer) → bytes ≤ 32768 → room < bytes → r ≡ refusal 6 bytes 0 → Shifted (row_shifted by (times_from times) room is) r out out times times
-    row-short room out r h g a =
+    pub row_short : (room : ℕ) (out : List ℕ) (r : Answer) → bytes ≤ 32768 → room < bytes → r ≡ refusal 6 bytes 0 → Shifted (row_shifted by (times_from times) room is) r out out times times
+    row_short room out r h g a =
         let y : leb (length (log_of is)) 32768 ≡ true = le-leb (length (log_of is)) 32768 (omega (arith, long)) in
         let z : leb (length (log_of is)) room ≡ false = lt-leb (length (log_of is)) room (omega (arith, long)) in
         rw (clear, y, z, ← long) (a, refl, refl)

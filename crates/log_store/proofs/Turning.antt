@@ -90,11 +90,11 @@ module _ (log : List ℕ) (e capacity slots : ℕ) (built : List ℕ) (st : Stat
     abbrev st' : State
     st' = record { at = q; level = l; pen = pen }
 
-    pub turns-arrived : e ≡ 0 → next_at (bytes_bits log) st.at.at ≡ has i q.at
+    pub turns_arrived : e ≡ 0 → next_at (bytes_bits log) st.at.at ≡ has i q.at
         → stored ≡ leb (st.level.held + need_by st.level.unmarked (load_of i).words) capacity
         → l ≡ arrived_by st.level (load_of i) stored → Puts st.level i stored built st.pen built' pen
         → Turns log e capacity slots built st built' st'
-    turns-arrived z n f g p = (holds, bounded)
+    turns_arrived z n f g p = (holds, bounded)
       where
         fit : Level → Bool
         fit x = leb (x.held + need_by x.unmarked (load_of i).words) capacity
@@ -121,16 +121,16 @@ module _ (log : List ℕ) (e capacity slots : ℕ) (built : List ℕ) (st : Stat
             let k : Holds log (i ∷ a.rest) s built st = subst (λ (x : List Item). Holds log x s built st) a.row h in
             rw (a.row, eq-eqb e 0 z) (first a.rest s k a.ahead)
 
-        level-bounded : (b : Bool) → leb (st.level.held + need_by st.level.unmarked (load_of i).words) capacity ≡ b
+        level_bounded : (b : Bool) → leb (st.level.held + need_by st.level.unmarked (load_of i).words) capacity ≡ b
             → (n : ℕ) → capacity ≤ 4096 → Bounded n st → pen.bits ≤ (n + 1) * 178
             → Bounded (n + 1) (record { at = q; level = arrived_by st.level (load_of i) b; pen = pen })
-        level-bounded true t n c b h =
+        level_bounded true t n c b h =
             let fits = leb-true (st.level.held + need_by st.level.unmarked (load_of i).words) capacity t in
             (omega (arith, fits, c), omega (arith, b.1), omega (arith, b.2), omega arith, h)
-        level-bounded false t n c b h = (b.0, omega (arith, b.1), omega (arith, b.2), omega (arith, b.3), h)
+        level_bounded false t n c b h = (b.0, omega (arith, b.1), omega (arith, b.2), omega (arith, b.3), h)
 
         bounded : (n : ℕ) → capacity ≤ 4096 → Bounded n st → Bounded (n + 1) st'
-        bounded n c b = rw g (level-bounded stored (sym f) n c b (omega (arith, b.4, p.1)))
+        bounded n c b = rw g (level_bounded stored (sym f) n c b (omega (arith, b.4, p.1)))
 
   -- what cannot be, since an item is there for each that arrives
   pub turns_over : e ≡ 0 → next_at (bytes_bits log) st.at.at ≡ ends → Turns log e capacity slots built st built st

@@ -45,11 +45,11 @@ line_fits (BusError bus b word) z = simp length-append (omega (arith, decimal_tw
 line_fits (Arinc bus c Untagged word) z = simp length-append (omega (arith, decimal_two bus (omega arith), decimal_two (c + 1) (omega arith), hex_long 8 word))
 line_fits (Arinc bus c (At t) word) z = simp length-append (omega (arith, decimal_two bus (omega arith), decimal_two (c + 1) (omega arith), hex_long 8 word, decimal_few (microseconds t.high t.low t.micro)))
 line_fits (Notice bus c d) z = simp length-append (omega (arith, decimal_two bus (omega arith), decimal_two (c + 1) (omega arith), hex_long 2 d))
-line_fits (User bus three word) z = simp length-append (omega (arith, decimal_two bus (omega arith), label-two three, hex_long 4 word))
+line_fits (User bus three word) z = simp length-append (omega (arith, decimal_two bus (omega arith), label_two three, hex_long 4 word))
   where
-    label-two : (t : Bool) → length (decimal (cond t 3 2)) ≤ 2
-    label-two true = decimal_two 3 (omega arith)
-    label-two false = decimal_two 2 (omega arith)
+    label_two : (t : Bool) → length (decimal (cond t 3 2)) ≤ 2
+    label_two true = decimal_two 3 (omega arith)
+    label_two false = decimal_two 2 (omega arith)
 line_fits (Overflow bus word) z = simp length-append (omega (arith, decimal_two bus (omega arith), hex_long 4 word))
 
 lines_fit : (is : List Item) → All (Logged on_no_plan) is → length (flat_map item_line is) ≤ length (flat_map item_bits is)

@@ -59,9 +59,9 @@ module _ (log : List ℕ) (p l w : ℕ) (win : Window (bytes_bits log) p w) (e :
   end_far h = rw (le-ltb (length (bytes_bits log)) (p + 12) (omega (arith, length_bytes log)))
 
   module _ (hi : l < 12) (z : w / 2 ^ 60 ≡ 0) where
-    rest-num : num_of (drop (p + 4) (bytes_bits log)) ≡ w / 2 ^ (64 - l)
+    rest_num : num_of (drop (p + 4) (bytes_bits log)) ≡ w / 2 ^ (64 - l)
     unfolding field
-    rest-num =
+    rest_num =
         let s = bytes_bits log in
         let r : 64 - 4 - (l - 4) ≡ 64 - l = omega arith in
         let q : l - 4 + (64 - l) ≡ 60 = omega arith in
@@ -76,7 +76,7 @@ module _ (log : List ℕ) (p l w : ℕ) (win : Window (bytes_bits log) p w) (e :
     near = lt-ltb (length (bytes_bits log)) (p + 12) (omega (arith, length_bytes log))
 
     pub end_clean : w / 2 ^ (64 - l) ≡ 0 → end_at (bytes_bits log) p ≡ ends
-    end_clean h = simp (near, rest-num, h)
+    end_clean h = simp (near, rest_num, h)
 
-    pub end-dirty : (w / 2 ^ (64 - l) ≡ 0 → ⊥) → end_at (bytes_bits log) p ≡ wrong
-    end-dirty h = simp (near, rest-num, ne_eqb _ _ h)
+    pub end_dirty : (w / 2 ^ (64 - l) ≡ 0 → ⊥) → end_at (bytes_bits log) p ≡ wrong
+    end_dirty h = simp (near, rest_num, ne_eqb _ _ h)

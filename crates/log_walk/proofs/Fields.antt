@@ -32,34 +32,34 @@ num_append a (b ∷ x) y = num_append (a * 2 + b) x y
 module _ (s : List ℕ) (low : AllBits s) where
   -- a field is within its width, and its bits are those there
   module _ (q n : ℕ) (h : q + n ≤ length s) where
-    there-low : AllBits (take n (drop q s))
-    there-low = all_take n (all_drop q low)
+    there_low : AllBits (take n (drop q s))
+    there_low = all_take n (all_drop q low)
 
-    there-long : length (take n (drop q s)) ≡ n
-    there-long = length-take-le n (drop q s) (rw length-drop (omega arith))
+    there_long : length (take n (drop q s)) ≡ n
+    there_long = length-take-le n (drop q s) (rw length-drop (omega arith))
 
-    pub field-low : field s q n < 2 ^ n
+    pub field_low : field s q n < 2 ^ n
     unfolding field num_of
-    field-low = rw there-long at (num_low (take n (drop q s)) there-low)
+    field_low = rw there_long at (num_low (take n (drop q s)) there_low)
 
-    pub field-bits : bits_of n (field s q n) ≡ take n (drop q s)
+    pub field_bits : bits_of n (field s q n) ≡ take n (drop q s)
     unfolding field num_of
-    field-bits = rw there-long at (bits_num 0 (take n (drop q s)) there-low)
+    field_bits = rw there_long at (bits_num 0 (take n (drop q s)) there_low)
 
   pub field_both : (q a b : ℕ) → q + a + b ≤ length s → field s q (a + b) ≡ field s q a * 2 ^ b + field s (q + a) b
   unfolding field num_of
   field_both q a b h =
       ap (num_from 0) (take-add a b (drop q s) ∙ ap (λ (l : List ℕ). take a (drop q s) ++ take b l) (drop-drop a q s))
       ∙ num_append 0 (take a (drop q s)) (take b (drop (q + a) s))
-      ∙ ap (num_from (num_from 0 (take a (drop q s)))) (sym (field-bits (q + a) b h))
+      ∙ ap (num_from (num_from 0 (take a (drop q s)))) (sym (field_bits (q + a) b h))
       ∙ num_bits (num_from 0 (take a (drop q s))) b (field s (q + a) b)
-      ∙ rw (mod-eq_of_lt (field-low (q + a) b h))
+      ∙ rw (mod-eq_of_lt (field_low (q + a) b h))
 
   beside_stand : (q k : ℕ) (fs : List Field) → Stand s q k fs → q + k + widths fs ≤ length s → beside (field s q k) fs ≡ field s q (k + widths fs)
   beside_stand q k [] g h = ap (field s q) (sym (add-zero k))
   beside_stand q k (f ∷ fs) g h =
       let l : q + k + f.0 ≤ length s = omega arith in
-      let v : f.1 % 2 ^ f.0 ≡ field s (q + k) f.0 = rw (← g.0) (mod-eq_of_lt (field-low (q + k) f.0 l)) in
+      let v : f.1 % 2 ^ f.0 ≡ field s (q + k) f.0 = rw (← g.0) (mod-eq_of_lt (field_low (q + k) f.0 l)) in
       let e : field s q k * 2 ^ f.0 + f.1 % 2 ^ f.0 ≡ field s q (k + f.0) = rw v (sym (field_both q k f.0 l)) in
       ap (λ (a : ℕ). beside a fs) e
       ∙ beside_stand q (k + f.0) fs g.1 (omega arith)
@@ -76,7 +76,7 @@ module _ (s : List ℕ) (low : AllBits s) where
   -- a bit as a yes or no
   pub flag_bit : (q : ℕ) → q + 1 ≤ length s → field s q 1 ≡ bit (flag s q)
   unfolding field
-  flag_bit q h = go (field s q 1) (field-low q 1 h)
+  flag_bit q h = go (field s q 1) (field_low q 1 h)
     where
       go : (n : ℕ) → n < 2 → n ≡ bit (eqb n 1)
       go zero l = refl

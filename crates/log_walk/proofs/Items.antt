@@ -25,7 +25,7 @@ use Rattle.log_write.proofs.Packing.{Says, packed_says}
 use Rattle.log_walk.specs.declared.Piece.{Piece}
 use Rattle.log_walk.specs.declared.Piece.TheVariants.{Item as Whole, End, Wrong}
 use Rattle.log_walk.specs.Piece.{piece_of, bus_in, times_in}
-use Rattle.log_walk.proofs.Fields.{field-low}
+use Rattle.log_walk.proofs.Fields.{field_low}
 
 -- ---- an item whose bus and times are within their widths
 
@@ -102,7 +102,7 @@ module _ (log : List ℕ) (p : ℕ) where
   s = bytes_bits log
 
   low : (q n : ℕ) → q + n ≤ length (bytes_bits log) → field (bytes_bits log) q n < 2 ^ n
-  low q n h = field-low (bytes_bits log) (bytes_low log) q n h
+  low q n h = field_low (bytes_bits log) (bytes_low log) q n h
 
   either : (b : Bool) (x y : Next) → Narrowed x → Narrowed y → Narrowed (cond b x y)
   either true x y a b = a

@@ -95,8 +95,8 @@ module _ (log : List ℕ) (p l w : ℕ) (win : Window (bytes_bits log) p w) (e :
   optional F i j q n c (suc (suc f)) no' yes' v few g h = absurd (omega arith)
 
   module _ (hw : w < 2 ^ 64) (hl : 4 ≤ l) where
-    kind-is : (k : ℕ) → w / 2 ^ 60 ≡ k → field s (p + 0) 4 ≡ k
-    kind-is k z = at_front s low p 4 (window_top s p w 4 win hw (omega arith) (within 4 hl) ∙ z)
+    kind_is : (k : ℕ) → w / 2 ^ 60 ≡ k → field s (p + 0) 4 ≡ k
+    kind_is k z = at_front s low p 4 (window_top s p w 4 win hw (omega arith) (within 4 hl) ∙ z)
 
     one : (j n : ℕ) → j + 1 ≤ 57 → j + 1 ≤ n → n ≤ l → field s (p + j) 1 ≡ w / 2 ^ (64 - j - 1) % 2
     one j n h g k = win j 1 h (omega (arith, length_bytes log))
@@ -110,64 +110,64 @@ module _ (log : List ℕ) (p l w : ℕ) (win : Window (bytes_bits log) p w) (e :
       Sided f = Stand s p 0 ((4, k) ∷ (4, field s (p + 4) 4) ∷ (1, bit (flag s (p + 8))) ∷ (1, f) ∷ (16, field s (p + 10) 16) ∷ [])
 
       sided : (f : ℕ) → 26 ≤ l → w / 2 ^ 54 % 2 ≡ f → Sided f
-      sided f h g = (kind-is k z, (refl, (bit_at 8 26 (omega arith) h, (one 9 26 (omega arith) (omega arith) h ∙ g, (refl, tt)))))
+      sided f h g = (kind_is k z, (refl, (bit_at 8 26 (omega arith) h, (one 9 26 (omega arith) (omega arith) h ∙ g, (refl, tt)))))
 
       abbrev Bare : Type 0
       Bare = Stand s p 0 ((4, k) ∷ (4, field s (p + 4) 4) ∷ (1, bit (flag s (p + 8))) ∷ (16, field s (p + 9) 16) ∷ [])
 
       bare : 25 ≤ l → Bare
-      bare h = (kind-is k z, (refl, (bit_at 8 25 (omega arith) h, (refl, tt))))
+      bare h = (kind_is k z, (refl, (bit_at 8 25 (omega arith) h, (refl, tt))))
 
-    of-command : w / 2 ^ 60 ≡ 1 → Shape (item_at s p 1) 26 (w / 2 ^ 54 % 2 * 46)
+    of_command : w / 2 ^ 60 ≡ 1 → Shape (item_at s p 1) 26 (w / 2 ^ 54 % 2 * 46)
     unfolding item_at item_fields
-    of-command z =
+    of_command z =
         optional (λ b. tagged s b (p + 26) (λ t. Command (field s (p + 4) 4) (flag s (p + 8)) t (field s (p + 10) 16))) _ _ (p + 9) 26 46 (w / 2 ^ 54 % 2) refl refl
         (λ h. one 9 26 (omega arith) (omega arith) h) (omega arith)
         (λ h f. numbers_of _ 26 0 (omega arith) refl refl (sided 1 z 0 h f) tt)
         (λ h f. numbers_of _ 26 46 h refl refl (sided 1 z 1 (omega arith) f) (at_front s low (p + 26) 16 refl, (refl, (refl, tt))))
 
-    of-status : w / 2 ^ 60 ≡ 2 → Shape (item_at s p 2) 26 (w / 2 ^ 54 % 2 * 14)
+    of_status : w / 2 ^ 60 ≡ 2 → Shape (item_at s p 2) 26 (w / 2 ^ 54 % 2 * 14)
     unfolding item_at item_fields
-    of-status z =
+    of_status z =
         optional (λ b. timed s b (p + 26) (λ t. Status (field s (p + 4) 4) (flag s (p + 8)) t (field s (p + 10) 16))) _ _ (p + 9) 26 14 (w / 2 ^ 54 % 2) refl refl
         (λ h. one 9 26 (omega arith) (omega arith) h) (omega arith)
         (λ h f. numbers_of _ 26 0 (omega arith) refl refl (sided 2 z 0 h f) tt)
         (λ h f. numbers_of _ 26 14 h refl refl (sided 2 z 1 (omega arith) f) (at_front s low (p + 26) 14 refl, tt))
 
-    of-data : w / 2 ^ 60 ≡ 3 → Shape (item_at s p 3) 25 0
+    of_data : w / 2 ^ 60 ≡ 3 → Shape (item_at s p 3) 25 0
     unfolding item_at item_fields
-    of-data z = plain _ 25 (λ h. numbers_of _ 25 0 (omega arith) refl refl (bare 3 z h) tt)
+    of_data z = plain _ 25 (λ h. numbers_of _ 25 0 (omega arith) refl refl (bare 3 z h) tt)
 
-    of-error : w / 2 ^ 60 ≡ 4 → Shape (item_at s p 4) 25 0
+    of_error : w / 2 ^ 60 ≡ 4 → Shape (item_at s p 4) 25 0
     unfolding item_at item_fields
-    of-error z = plain _ 25 (λ h. numbers_of _ 25 0 (omega arith) refl refl (bare 4 z h) tt)
+    of_error z = plain _ 25 (λ h. numbers_of _ 25 0 (omega arith) refl refl (bare 4 z h) tt)
 
-    of-arinc : w / 2 ^ 60 ≡ 5 → Shape (item_at s p 5) 43 (w / 2 ^ 53 % 2 * 46)
+    of_arinc : w / 2 ^ 60 ≡ 5 → Shape (item_at s p 5) 43 (w / 2 ^ 53 % 2 * 46)
     unfolding item_at item_fields
-    of-arinc z =
+    of_arinc z =
         optional (λ b. tagged s b (p + 43) (λ t. Arinc (field s (p + 4) 4) (field s (p + 8) 2) t (field s (p + 11) 32))) _ _ (p + 10) 43 46 (w / 2 ^ 53 % 2) refl refl
         (λ h. one 10 43 (omega arith) (omega arith) h) (omega arith)
-        (λ h f. numbers_of _ 43 0 (omega arith) refl refl (kind-is 5 z, (refl, (refl, (one 10 43 (omega arith) (omega arith) h ∙ f, (refl, tt))))) tt)
-        (λ h f. numbers_of _ 43 46 h refl refl (kind-is 5 z, (refl, (refl, (one 10 43 (omega arith) (omega arith) (omega arith) ∙ f, (refl, tt))))) (at_front s low (p + 43) 16 refl, (refl, (refl, tt))))
+        (λ h f. numbers_of _ 43 0 (omega arith) refl refl (kind_is 5 z, (refl, (refl, (one 10 43 (omega arith) (omega arith) h ∙ f, (refl, tt))))) tt)
+        (λ h f. numbers_of _ 43 46 h refl refl (kind_is 5 z, (refl, (refl, (one 10 43 (omega arith) (omega arith) (omega arith) ∙ f, (refl, tt))))) (at_front s low (p + 43) 16 refl, (refl, (refl, tt))))
 
-    of-notice : w / 2 ^ 60 ≡ 6 → Shape (item_at s p 6) 18 0
+    of_notice : w / 2 ^ 60 ≡ 6 → Shape (item_at s p 6) 18 0
     unfolding item_at item_fields
-    of-notice z = plain _ 18 (λ h. numbers_of _ 18 0 (omega arith) refl refl (kind-is 6 z, (refl, (refl, (refl, tt)))) tt)
+    of_notice z = plain _ 18 (λ h. numbers_of _ 18 0 (omega arith) refl refl (kind_is 6 z, (refl, (refl, (refl, tt)))) tt)
 
-    of-user : w / 2 ^ 60 ≡ 7 → Shape (item_at s p 7) 25 0
+    of_user : w / 2 ^ 60 ≡ 7 → Shape (item_at s p 7) 25 0
     unfolding item_at item_fields
-    of-user z = plain _ 25 (λ h. numbers_of _ 25 0 (omega arith) refl refl (bare 7 z h) tt)
+    of_user z = plain _ 25 (λ h. numbers_of _ 25 0 (omega arith) refl refl (bare 7 z h) tt)
 
-    of-overflow : w / 2 ^ 60 ≡ 8 → Shape (item_at s p 8) 24 0
+    of_overflow : w / 2 ^ 60 ≡ 8 → Shape (item_at s p 8) 24 0
     unfolding item_at item_fields
-    of-overflow z = plain _ 24 (λ h. numbers_of _ 24 0 (omega arith) refl refl (kind-is 8 z, (refl, (refl, tt))) tt)
+    of_overflow z = plain _ 24 (λ h. numbers_of _ 24 0 (omega arith) refl refl (kind_is 8 z, (refl, (refl, tt))) tt)
 
     -- an item of any kind
     pub shape : (k : ℕ) → k < 16 → 1 ≤ k → k ≤ 8 → w / 2 ^ 60 ≡ k → Shape (item_at s p k) (first_bits k) (behind_bits k w)
     shape =
         below16 (λ k. 1 ≤ k → k ≤ 8 → w / 2 ^ 60 ≡ k → Shape (item_at s p k) (first_bits k) (behind_bits k w))
-        (λ a b z. absurd (omega arith)) (λ a b z. of-command z) (λ a b z. of-status z) (λ a b z. of-data z) (λ a b z. of-error z)
-        (λ a b z. of-arinc z) (λ a b z. of-notice z) (λ a b z. of-user z) (λ a b z. of-overflow z)
+        (λ a b z. absurd (omega arith)) (λ a b z. of_command z) (λ a b z. of_status z) (λ a b z. of_data z) (λ a b z. of_error z)
+        (λ a b z. of_arinc z) (λ a b z. of_notice z) (λ a b z. of_user z) (λ a b z. of_overflow z)
         (λ a b z. absurd (omega arith)) (λ a b z. absurd (omega arith)) (λ a b z. absurd (omega arith)) (λ a b z. absurd (omega arith))
         (λ a b z. absurd (omega arith)) (λ a b z. absurd (omega arith)) (λ a b z. absurd (omega arith))
 
@@ -176,11 +176,11 @@ module _ (log : List ℕ) (p l w : ℕ) (win : Window (bytes_bits log) p w) (e :
       its : Shape (item_at s p k) n m
       its = rw (a, b) (shape k (omega arith) lo hi (sym z))
 
-      pub item-cut : l < n + m → piece_of (item_at s p k) ≡ Wrong
-      item-cut h = ap piece_of (shape_cut its h)
+      pub item_cut : l < n + m → piece_of (item_at s p k) ≡ Wrong
+      item_cut h = ap piece_of (shape_cut its h)
 
-      pub item-whole : (x y : ℕ) → n ≤ 43 → n + m ≤ l → x ≡ w / 2 ^ (64 - n) → y ≡ field s (p + n) m
+      pub item_whole : (x y : ℕ) → n ≤ 43 → n + m ≤ l → x ≡ w / 2 ^ (64 - n) → y ≡ field s (p + n) m
           → Whole (record { first = x; first_bits = n; behind = y; behind_bits = m }) ≡ piece_of (item_at s p k)
-      item-whole x y few h f g =
+      item_whole x y few h f g =
           let t : field s p n ≡ w / 2 ^ (64 - n) = window_top s p w n win hw (omega arith) (within n (omega arith)) in
           sym (its.whole h ∙ rw (t, ← f, ← g) refl)

@@ -15,7 +15,7 @@ use Rattle.log_read.proofs.Taken.{ahead_window}
 use Rattle.log_walk.specs.declared.Piece.TheVariants.{Item as Whole}
 use Rattle.log_walk.specs.Piece.{piece_of, first_bits, behind_bits, Window}
 use Rattle.log_walk.proofs.Ends.{next_item}
-use Rattle.log_walk.proofs.Shapes.{item-whole}
+use Rattle.log_walk.proofs.Shapes.{item_whole}
 
 -- the highest bits ahead of a cursor that is filled for a tag
 pub tag_top : (log : List ℕ) (p n : ℕ) {c : Cursor} → Ahead (bytes_bits log) p 46 0 c → n ≤ 46 → p + 46 ≤ length log * 8
@@ -41,7 +41,7 @@ module _ (log : List ℕ) (p w : ℕ) (win : Window (bytes_bits log) p w) (hw : 
       → x ≡ w / 2 ^ (64 - n) → y ≡ field (bytes_bits log) (p + n) m
       → Whole (record { first = x; first_bits = n; behind = y; behind_bits = m }) ≡ piece_of (next_at (bytes_bits log) p)
   whole_item n m x y lo hi a b few fewer f g =
-      item-whole log p left w win (omega arith) hw (omega arith) (w / 2 ^ 60) n m refl lo hi a b x y few (omega arith) f g
+      item_whole log p left w win (omega arith) hw (omega arith) (w / 2 ^ 60) n m refl lo hi a b x y few (omega arith) f g
       ∙ ap piece_of (sym (next_item log p left w win (omega arith) (omega arith) hw (λ z. omega arith)))
 
   pub whole_data : w / 2 ^ 60 ≡ 3 → Whole (record { first = w / 2 ^ 39; first_bits = 25; behind = 0; behind_bits = 0 }) ≡ piece_of (next_at (bytes_bits log) p)

@@ -60,16 +60,16 @@ module _ {s : List ℕ} {p k q bus : ℕ} {stands : Kind → Bool} {timely : Boo
       whole : q ≤ e → item_at s p k ≡ has t.item q
       whole l = t.here ∙ items.there s q (has t.item q) (omega (arith, l, size))
 
-      on-bus : kind_on ks (bus_of_item t.item) ≡ kind
-      on-bus = ap (kind_on ks) t.on ∙ b
+      on_bus : kind_on ks (bus_of_item t.item) ≡ kind
+      on_bus = ap (kind_on ks) t.on ∙ b
 
       go : LaysWords (stands kind) timely new q e n before after r → Lays (on_plan ks) p n e (item_at s p k) before after r
       go (laid.short l f a) = cut (t.here ∙ items.cut s q (has t.item q) (omega (arith, l, size))) f a
-      go (laid.misplaced l z f a) = no_place ks kind t.item q (whole l) on-bus (t.place kind ∙ z) f a
+      go (laid.misplaced l z f a) = no_place ks kind t.item q (whole l) on_bus (t.place kind ∙ z) f a
       go (laid.past l z y f a) =
-          too_late ks kind t.item q (whole l) on-bus (t.place kind ∙ z) (t.times ∙ y) f
+          too_late ks kind t.item q (whole l) on_bus (t.place kind ∙ z) (t.times ∙ y) f
           (a ∙ sym (none_written n before) ∙ ap (λ (w : List ℕ). written n w before) (sym (t.late y)))
-      go (laid.put l z y f a x) = words_laid ks kind t.item q (whole l) on-bus (t.place kind ∙ z) (t.times ∙ y) new t.words f a x d l
+      go (laid.put l z y f a x) = words_laid ks kind t.item q (whole l) on_bus (t.place kind ∙ z) (t.times ∙ y) new t.words f a x d l
 
 module _ {s : List ℕ} {p k q bus : ℕ} {stands : Kind → Bool} {new : List ℕ} (t : ReadTagged s p k q bus stands new) where
   pub tagged_lays : (ks : List Kind) (kind : Kind) {n e : ℕ} {before after : List ℕ} {r : Laid} → kind_on ks bus ≡ kind → length s ≡ e → 17 * (length new + 3) + p ≤ q + 46
@@ -81,13 +81,13 @@ module _ {s : List ℕ} {p k q bus : ℕ} {stands : Kind → Bool} {new : List �
       whole : q + 46 ≤ e → item_at s p k ≡ has t.item (q + 46)
       whole l = t.here ∙ items.there s (q + 46) (has t.item (q + 46)) (omega (arith, l, size))
 
-      on-bus : kind_on ks (bus_of_item t.item) ≡ kind
-      on-bus = ap (kind_on ks) t.on ∙ b
+      on_bus : kind_on ks (bus_of_item t.item) ≡ kind
+      on_bus = ap (kind_on ks) t.on ∙ b
 
       go : LaysTagged (stands kind) new s bus q e n before after r → Lays (on_plan ks) p n e (item_at s p k) before after r
       go (laid.short l f a) = cut (t.here ∙ items.cut s (q + 46) (has t.item (q + 46)) (omega (arith, l, size))) f a
-      go (laid.misplaced l z f a) = no_place ks kind t.item (q + 46) (whole l) on-bus (t.place kind ∙ z) f a
-      go (laid.put l z mid m x y) = tag_laid ks kind t.item (q + 46) (whole l) on-bus (t.place kind ∙ z) t.times new t.first t.words refl x room y d l
+      go (laid.misplaced l z f a) = no_place ks kind t.item (q + 46) (whole l) on_bus (t.place kind ∙ z) f a
+      go (laid.put l z mid m x y) = tag_laid ks kind t.item (q + 46) (whole l) on_bus (t.place kind ∙ z) t.times new t.first t.words refl x room y d l
 
 module _ {s : List ℕ} {p : ℕ} {h : Head} (g : Heads s p h) where
   pub data_read : Read s p 3 (p + 25) h.bus is_mil true (word_of h.bus (sided 13 (eqb (sided_of h.next).side 1)) (sided_of h.next).word ∷ [])
@@ -119,20 +119,20 @@ module _ {s : List ℕ} {p : ℕ} {h : Head} (g : Heads s p h) where
       → Read s p k (p + 26) h.bus is_mil true (word_of h.bus (sided (16 - k) (eqb (marked_of h.next).side 1)) (marked_of h.next).word ∷ [])
   unfolding bus_of_item in_time item_words
   marked_read zero lo hi off = absurd (omega arith)
-  marked_read (suc zero) lo hi off = record { item = _; here = items.command-plain g off; on = refl; place = command_stands _ _ _ _; times = refl; words = refl; late = λ z. absurd (clash (sym z)) }
-  marked_read (suc (suc zero)) lo hi off = record { item = _; here = items.status-plain g off; on = refl; place = status_stands _ _ _ _; times = refl; words = refl; late = λ z. refl }
+  marked_read (suc zero) lo hi off = record { item = _; here = items.command_plain g off; on = refl; place = command_stands _ _ _ _; times = refl; words = refl; late = λ z. absurd (clash (sym z)) }
+  marked_read (suc (suc zero)) lo hi off = record { item = _; here = items.status_plain g off; on = refl; place = status_stands _ _ _ _; times = refl; words = refl; late = λ z. refl }
   marked_read (suc (suc (suc k))) lo hi off = absurd (omega arith)
 
   -- and with one
   module _ (on : (marked_of h.next).mark ≡ 1) where
-    pub timed-read : (k : ℕ) → k ≡ 2 → Read s p k (p + 26 + 14) h.bus is_mil (ltb (took_of (marked_of h.next).next 14).field 10000)
+    pub timed_read : (k : ℕ) → k ≡ 2 → Read s p k (p + 26 + 14) h.bus is_mil (ltb (took_of (marked_of h.next).next 14).field 10000)
         (word_of h.bus 4 (took_of (marked_of h.next).next 14).field ∷ word_of h.bus (sided (16 - k) (eqb (marked_of h.next).side 1)) (marked_of h.next).word ∷ [])
     unfolding bus_of_item in_time item_words
-    timed-read k e = rw e (record { item = _; here = items.status-timed g on; on = refl; place = status_stands _ _ _ _; times = refl; words = refl; late = λ z. refl })
+    timed_read k e = rw e (record { item = _; here = items.status_timed g on; on = refl; place = status_stands _ _ _ _; times = refl; words = refl; late = λ z. refl })
 
-    pub command-read : (k : ℕ) → k ≡ 1 → ReadTagged s p k (p + 26) h.bus is_mil (word_of h.bus (sided (16 - k) (eqb (marked_of h.next).side 1)) (marked_of h.next).word ∷ [])
+    pub command_read : (k : ℕ) → k ≡ 1 → ReadTagged s p k (p + 26) h.bus is_mil (word_of h.bus (sided (16 - k) (eqb (marked_of h.next).side 1)) (marked_of h.next).word ∷ [])
     unfolding bus_of_item in_time item_words
-    command-read k e = rw e (record { item = _; here = items.command-tagged g on (time_at s (p + 26)) (λ l. refl); on = refl; place = command_stands _ _ _ _; times = refl; first = refl; words = refl })
+    command_read k e = rw e (record { item = _; here = items.command_tagged g on (time_at s (p + 26)) (λ l. refl); on = refl; place = command_stands _ _ _ _; times = refl; first = refl; words = refl })
 
   -- ARINC words
   pub pair_read : ((channelled_of h.next).mark ≡ 1 → ⊥)

@@ -24,7 +24,7 @@ use Rattle.log_read.specs.declared.Tally.TheVariants.{Items, Fault}
 use Rattle.log_read.proofs.Ending.{ends_bad, ends_kind}
 use Rattle.log_read.proofs.Items.{next_item}
 use Rattle.log_read.proofs.Table.{head_read}
-use Rattle.log_read.proofs.Parsing.{Follows, follows, onward, tally-end, tally-wrong, tally-fault, tally-more, words_few}
+use Rattle.log_read.proofs.Parsing.{Follows, follows, onward, tally_end, tally_wrong, tally_fault, tally_more, words_few}
 use Rattle.log_words.specs.declared.put.Laid.{Laid}
 use Rattle.log_words.specs.Laid.{Lays, cut, refused, laid, written}
 use Rattle.log_words.specs.Words.{words_from}
@@ -82,10 +82,10 @@ module _ (log : List ℕ) (p : ℕ) where
 -- n items and w words came before p
 module _ (ks : List Kind) (log : List ℕ) (p n w : ℕ) (few : n * 8 ≤ p) (fits : p ≤ length log * 8) where
   pub stops : next_at (bytes_bits log) p ≡ wrong → onward (on_plan ks) log p n w ≡ Fault 2 p
-  stops e = tally-wrong (on_plan ks) log p n w few fits Wrong (sym (ap found_of e)) refl
+  stops e = tally_wrong (on_plan ks) log p n w few fits Wrong (sym (ap found_of e)) refl
 
   pub closes : next_at (bytes_bits log) p ≡ ends → onward (on_plan ks) log p n w ≡ Items n w
-  closes e = tally-end (on_plan ks) log p n w few fits End (sym (ap found_of e)) refl
+  closes e = tally_end (on_plan ks) log p n w few fits End (sym (ap found_of e)) refl
 
   -- where no item stands, no words follow
   pub none_left : (row : List ℕ) (f : Found) → found_of (next_at (bytes_bits log) p) ≡ f → Empty f → row ≡ written w (words_from (on_plan ks) log p) row
@@ -98,8 +98,8 @@ module _ (ks : List Kind) (log : List ℕ) (p n w : ℕ) (few : n * 8 ≤ p) (fi
       pub small : r.number < 5
       pub row : after ≡ written w (words_from (on_plan ks) log p) before
 
-    pub fault-told : (r.number ≡ 0 → ⊥) → Told
-    fault-told h = go l
+    pub fault_told : (r.number ≡ 0 → ⊥) → Told
+    fault_told h = go l
       where
         go : Lays (on_plan ks) p w (length log * 8) next before after r → Told
         go (cut e f s) = record {
@@ -108,7 +108,7 @@ module _ (ks : List Kind) (log : List ℕ) (p n w : ℕ) (few : n * 8 ≤ p) (fi
           row = s ∙ none_left before Wrong (ap found_of (here ∙ e)) tt;
         }
         go (refused i q e f g s) = record {
-          tally = rw g (tally-fault (on_plan ks) log p n w few fits i q (found log p i q (here ∙ e)) f);
+          tally = rw g (tally_fault (on_plan ks) log p n w few fits i q (found log p i q (here ∙ e)) f);
           small = rw g (check_few ks i);
           row = s ∙ ap (λ (l : List ℕ). written w l before) (sym (words_left (on_plan ks) log p i q (here ∙ e) f));
         }
@@ -137,6 +137,6 @@ module _ (ks : List Kind) (log : List ℕ) (p n w : ℕ) (few : n * 8 ≤ p) (fi
               within = rw a z;
               dense = omega (arith, a, d, x.next);
               same = puts_length x short;
-              tally = rw (a, x.next) (tally-more (on_plan ks) log p n w few fits i q y f);
+              tally = rw (a, x.next) (tally_more (on_plan ks) log p n w few fits i q y f);
               row = rw (a, x.next, x.is, words_more (on_plan ks) log p i q (here ∙ e) f) (more_written w (item_words i) (words_from (on_plan ks) log q) before short);
             }

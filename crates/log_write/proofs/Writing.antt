@@ -160,8 +160,8 @@ module _ (p : Pen) (v n : ℕ) (hn : n ≤ 56) (hv : v < 2 ^ n) where
     abbrev at : ℕ
     at = p.bits / 8
 
-    new-kept : at + 8 ≤ length out → (i : ℕ) → i + 8 ≤ length out → i < at + full → get_or (take at out ++ (eight w ++ drop (at + 8) out)) i 0 ≡ get_or (bs ++ vs) i 0
-    new-kept room i h g = go (dec_lt i at)
+    new_kept : at + 8 ≤ length out → (i : ℕ) → i + 8 ≤ length out → i < at + full → get_or (take at out ++ (eight w ++ drop (at + 8) out)) i 0 ≡ get_or (bs ++ vs) i 0
+    new_kept room i h g = go (dec_lt i at)
       where
         long : length (take at out) ≡ at
         long = length-take-le at out (omega arith)
@@ -184,12 +184,12 @@ module _ (p : Pen) (v n : ℕ) (hn : n ≤ 56) (hv : v < 2 ^ n) where
             ∙ sym (get_or-take full (eight w) j 0 d)
             ∙ sym (ap (λ (z : ℕ). get_or (bs ++ vs) z 0) b ∙ get_or-append-add bs vs j 0)
 
-    put-kept : (i : ℕ) → i + 8 ≤ length out → i < at + full → get_or (eight_in out at w) i 0 ≡ get_or (bs ++ vs) i 0
+    put_kept : (i : ℕ) → i + 8 ≤ length out → i < at + full → get_or (eight_in out at w) i 0 ≡ get_or (bs ++ vs) i 0
     unfolding eight_in
-    put-kept i h g = go (leb (at + 8) (length out)) refl
+    put_kept i h g = go (leb (at + 8) (length out)) refl
       where
         go : (b : Bool) → leb (at + 8) (length out) ≡ b → get_or (cond b (take at out ++ (eight w ++ drop (at + 8) out)) out) i 0 ≡ get_or (bs ++ vs) i 0
-        go true e = new-kept (leb-true (at + 8) (length out) e) i h g
+        go true e = new_kept (leb-true (at + 8) (length out) e) i h g
         go false e =
             let y : i < at = omega (arith, leb-false (at + 8) (length out) e) in
             let b : i < length bs = rw size y in
@@ -215,7 +215,7 @@ module _ (p : Pen) (v n : ℕ) (hn : n ≤ 56) (hv : v < 2 ^ n) where
             ∙ ap (◌++◌ (bytes_bits o.bytes)) (sym x_bits ∙ full_bits) ∙ sym (append_assoc (bytes_bits o.bytes) (bytes_bits vs) (bits_of (part % 8) x))
             ∙ ap₂ (λ (l : List ℕ) (z : ℕ). l ++ bits_of z x) (sym (bytes_append o.bytes vs)) (sym f);
         size = length-append o.bytes vs ∙ rw (o.size, vs_long) (sym e);
-        kept = λ i h g. put-kept out o.bytes o.size o.kept i (rw (eight_long out (p.bits / 8) w) at h) (rw e at g);
+        kept = λ i h g. put_kept out o.bytes o.size o.kept i (rw (eight_long out (p.bits / 8) w) at h) (rw e at g);
       }
 
 pub wrote_none : (out : List ℕ) → Wrote [] out start

@@ -144,34 +144,34 @@ module _ (p : Plan) (c : List ℕ) (n log_room time_room : ℕ) (closed : Bool) 
     stops_settled e z = ap answers (e.refused z).is
 
     -- an open notice, or none
-    pub open-settled : (l : Logged ks p c n r out) → (r.notice ≡ 0 → ⊥) → {place : ℕ} → place ≡ stored_at p (r.notice - 1)
+    pub open_settled : (l : Logged ks p c n r out) → (r.notice ≡ 0 → ⊥) → {place : ℕ} → place ≡ stored_at p (r.notice - 1)
         → answers (read_groups p ks c n 0 Nothing 0) ≡ refuses 15 place 0
-    open-settled l d s =
+    open_settled l d s =
         ap answers l.is ∙ ap (λ (f : Fault). unless_found f (behind l.items)) (sym l.notice ∙ notices.told_found (stored_at p) r.notice d) ∙ ap (λ (k : ℕ). refuses 15 k 0) (sym s)
 
-    none-settled : (l : Logged ks p c n r out) → r.notice ≡ 0 → answers (read_groups p ks c n 0 Nothing 0) ≡ behind l.items
-    none-settled l z = ap answers l.is ∙ ap (λ (f : Fault). unless_found f (behind l.items)) (sym l.notice ∙ notices.told_none (stored_at p) r.notice z)
+    none_settled : (l : Logged ks p c n r out) → r.notice ≡ 0 → answers (read_groups p ks c n 0 Nothing 0) ≡ behind l.items
+    none_settled l z = ap answers l.is ∙ ap (λ (f : Fault). unless_found f (behind l.items)) (sym l.notice ∙ notices.told_none (stored_at p) r.notice z)
 
     pub open_few : (l : Logged ks p c n r out) (k : ℕ) → k ≡ n * (3 * group_words p) → k ≤ 1048576 → Shape p → r.notice ≤ 349525
     open_few l k a b s = omega (arith, l.low.0, numbers_few p s n k a b)
 
     module _ (l : Logged ks p c n r out) (o : r.notice ≡ 0) (q : ℕ) (e : q ≡ cond closed r.misplaced 0) where
-      pub fill-settled : {place : ℕ} → (q ≡ 0 → ⊥) → place ≡ stored_at p (q - 1) → answers (read_groups p ks c n 0 Nothing 0) ≡ refuses 14 place 0
-      fill-settled z s =
-          none-settled l o
+      pub fill_settled : {place : ℕ} → (q ≡ 0 → ⊥) → place ≡ stored_at p (q - 1) → answers (read_groups p ks c n 0 Nothing 0) ≡ refuses 14 place 0
+      fill_settled z s =
+          none_settled l o
           ∙ fill_by closed (roomed p c n log_room time_room (log_of l.items)) (misplaced p (groups_on p c 0 n)) (stored_at p) r.misplaced q l.fill e z
           ∙ ap (λ (k : ℕ). refuses 14 k 0) (sym s)
 
-      pub fill-few : (k : ℕ) → k ≡ n * (3 * group_words p) → k ≤ 1048576 → Shape p → q ≤ 349525
-      fill-few k a b s = omega (arith, e, asked_low closed, l.low.1, numbers_few p s n k a b)
+      pub fill_few : (k : ℕ) → k ≡ n * (3 * group_words p) → k ≤ 1048576 → Shape p → q ≤ 349525
+      fill_few k a b s = omega (arith, e, asked_low closed, l.low.1, numbers_few p s n k a b)
         where
           asked_low : (b : Bool) → cond b r.misplaced 0 ≤ r.misplaced
           asked_low true = omega arith
           asked_low false = omega arith
 
-      pub log-settled : q ≡ 0 → answers (read_groups p ks c n 0 Nothing 0) ≡ roomed p c n log_room time_room (log_of l.items)
-      log-settled z =
-          none-settled l o ∙ none_by closed (roomed p c n log_room time_room (log_of l.items)) (misplaced p (groups_on p c 0 n)) (stored_at p) r.misplaced l.fill (sym e ∙ z)
+      pub log_settled : q ≡ 0 → answers (read_groups p ks c n 0 Nothing 0) ≡ roomed p c n log_room time_room (log_of l.items)
+      log_settled z =
+          none_settled l o ∙ none_by closed (roomed p c n log_room time_room (log_of l.items)) (misplaced p (groups_on p c 0 n)) (stored_at p) r.misplaced l.fill (sym e ∙ z)
 
 -- ---- "Reading checks 1, 8"
 

@@ -62,15 +62,15 @@ module _ (ks : List Kind) (p : Plan) (c : List ℕ) (n : ℕ) (out₀ : List ℕ
       unfolding items
       all_is = t.is ∙ closed_got start_pass out₀ t.items x out t.brought (stored_at p x.since) s m z
 
-      all-wrote : Wrote (flat_map item_bits items) (step_out out x.pen s) (step_pen x.pen s)
+      all_wrote : Wrote (flat_map item_bits items) (step_out out x.pen s) (step_pen x.pen s)
       unfolding items
-      all-wrote = closed_wrote start_pass out₀ t.items x out t.brought (stored_at p x.since) s m z (wrote_none out₀)
+      all_wrote = closed_wrote start_pass out₀ t.items x out t.brought (stored_at p x.since) s m z (wrote_none out₀)
 
-      pub ends-log : {bytes notice : ℕ} {out' : List ℕ} → 1 ≤ slots p → Bytes c → notice ≡ open_number ks p c n → bytes ≡ closed_size (step_pen x.pen s) → out' ≡ closed_in (step_out out x.pen s) (step_pen x.pen s)
+      pub ends_log : {bytes notice : ℕ} {out' : List ℕ} → 1 ≤ slots p → Bytes c → notice ≡ open_number ks p c n → bytes ≡ closed_size (step_pen x.pen s) → out' ≡ closed_in (step_out out x.pen s) (step_pen x.pen s)
           → Ended ks p c n (record { number = 0; place = 0; second = 0; bytes = bytes; notice = notice; misplaced = x.fills.misplaced }) out'
-      ends-log {bytes} {notice} {out'} some all_bytes o b e =
-          let size : bytes ≡ length (log_of items) = b ∙ closed_size_lem items (step_out out x.pen s) (step_pen x.pen s) all-wrote in
-          let long : length out' ≡ length (step_out out x.pen s) = ap (λ (l : List ℕ). length l) e ∙ closed_long items (step_out out x.pen s) (step_pen x.pen s) all-wrote in
+      ends_log {bytes} {notice} {out'} some all_bytes o b e =
+          let size : bytes ≡ length (log_of items) = b ∙ closed_size_lem items (step_out out x.pen s) (step_pen x.pen s) all_wrote in
+          let long : length out' ≡ length (step_out out x.pen s) = ap (λ (l : List ℕ). length l) e ∙ closed_long items (step_out out x.pen s) (step_pen x.pen s) all_wrote in
           record {
             logged = λ _. record {
               items = items;
@@ -78,7 +78,7 @@ module _ (ks : List Kind) (p : Plan) (c : List ℕ) (n : ℕ) (out₀ : List ℕ
               place = refl;
               second = refl;
               bytes = size;
-              log = λ h. ap₂ (λ (j : ℕ) (l : List ℕ). take j l) size e ∙ closed_log items (step_out out x.pen s) (step_pen x.pen s) all-wrote (omega (arith, h, size, long));
+              log = λ h. ap₂ (λ (j : ℕ) (l : List ℕ). take j l) size e ∙ closed_log items (step_out out x.pen s) (step_pen x.pen s) all_wrote (omega (arith, h, size, long));
               notice_number = o;
               notice = ap (λ (m : ℕ). told15 (placed_up (stored_at p) m)) o ∙ open_in_lem p ks c n items some all_bytes all_is;
               number = sym (ap (λ (y : Fills). y.misplaced) t.fill);

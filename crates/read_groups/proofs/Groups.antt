@@ -22,7 +22,7 @@ use Rattle.format.proofs.Laws.Reader.Named.{renamed, run_named, run_in, groups_f
 use Rattle.format.specs.Laws.Reader.Slots.{words_in}
 use Rattle.group_read.specs.declared.Fault.{Fault as Found}
 use Rattle.group_read.specs.Row.{dealt_count, Deals}
-use Rattle.group_read.proofs.Answers.{answer_none, answer-found, answer_low, answer_words, words_length}
+use Rattle.group_read.proofs.Answers.{answer_none, answer_found, answer_low, answer_words, words_length}
 use Rattle.data_start.specs.Holding.{flat}
 use Rattle.data_word.specs.Holding.{held_of}
 use Rattle.data_word.proofs.Flat.{nothing_is_held}
@@ -83,17 +83,17 @@ module _ (ks : List Kind) (p : Plan) (c : List ℕ) (n : ℕ) (out₀ : List ℕ
     abbrev behind : Held → ℕ → Got
     behind = λ h q. read_groups p ks c (n - (g + 1)) (g + 1) h q
 
-    here-named : run ks p.parity (group_slots p c first) (held_of x.held) (stored_at p x.since) ≡ renamed (stored_at p) here
-    here-named =
+    here_named : run ks p.parity (group_slots p c first) (held_of x.held) (stored_at p x.since) ≡ renamed (stored_at p) here
+    here_named =
         ap (λ (ss : List Slot). run ks p.parity ss (held_of x.held) (stored_at p x.since)) (slots_counted p c (free p s) g)
         ∙ run_named ks p.parity (stored_at p) (numbers_of p c g) (held_of x.held) x.since
 
     -- the group g, and those behind it
-    group-next : read_groups p ks c (n - g) g (held_of x.held) (stored_at p x.since) ≡ if_sound (group_fault p c first) (onward (renamed (stored_at p) here) behind)
+    group_next : read_groups p ks c (n - g) g (held_of x.held) (stored_at p x.since) ≡ if_sound (group_fault p c first) (onward (renamed (stored_at p) here) behind)
     unfolding read_groups
-    group-next =
+    group_next =
         let e : n - g ≡ suc (n - (g + 1)) = omega arith in
-        rw e (ap (λ (y : Ran). if_sound (group_fault p c first) (onward y behind)) here-named)
+        rw e (ap (λ (y : Ran). if_sound (group_fault p c first) (onward y behind)) here_named)
 
     slots_next : numbers_on p c g (n - g) ≡ numbers_of p c g ∷ numbers_on p c (g + 1) (n - (g + 1))
     unfolding list
@@ -101,15 +101,15 @@ module _ (ks : List Kind) (p : Plan) (c : List ℕ) (n : ℕ) (out₀ : List ℕ
         let e : n - g ≡ suc (n - (g + 1)) = omega arith in
         rw e refl
 
-    pub over-fault : {k q : ℕ} → group_fault p c first ≡ found k q → read_groups p ks c n 0 Nothing 0 ≡ stopped k q 0
-    over-fault e = a.is ∙ ap (before a.items) (group-next ∙ ap (λ (f : Fault). if_sound f (onward (renamed (stored_at p) here) behind)) e)
+    pub over_fault : {k q : ℕ} → group_fault p c first ≡ found k q → read_groups p ks c n 0 Nothing 0 ≡ stopped k q 0
+    over_fault e = a.is ∙ ap (before a.items) (group_next ∙ ap (λ (f : Fault). if_sound f (onward (renamed (stored_at p) here) behind)) e)
 
-    sound-next : group_fault p c first ≡ none → read_groups p ks c n 0 Nothing 0 ≡ before a.items (onward (renamed (stored_at p) here) behind)
-    sound-next e = a.is ∙ ap (before a.items) (group-next ∙ ap (λ (f : Fault). if_sound f (onward (renamed (stored_at p) here) behind)) e)
+    sound_next : group_fault p c first ≡ none → read_groups p ks c n 0 Nothing 0 ≡ before a.items (onward (renamed (stored_at p) here) behind)
+    sound_next e = a.is ∙ ap (before a.items) (group_next ∙ ap (λ (f : Fault). if_sound f (onward (renamed (stored_at p) here) behind)) e)
 
-    fill-next : fills_over p (numbers_on p c 0 n) no_fill ≡ fills_over p (numbers_on p c (g + 1) (n - (g + 1))) (fills_in p.parity p.fill_bus 0 (numbers_of p c g) x.fills)
+    fill_next : fills_over p (numbers_on p c 0 n) no_fill ≡ fills_over p (numbers_on p c (g + 1) (n - (g + 1))) (fills_in p.parity p.fill_bus 0 (numbers_of p c g) x.fills)
     unfolding fills_over
-    fill-next = a.fill ∙ rw slots_next refl
+    fill_next = a.fill ∙ rw slots_next refl
 
     -- numbers so far
     upto : g * slots p + length (words_in (group_slots p c first)) ≤ (g + 1) * slots p
@@ -130,19 +130,19 @@ module _ (ks : List Kind) (p : Plan) (c : List ℕ) (n : ℕ) (out₀ : List ℕ
       ran_to =
           subst (λ (l : List Slot). RanTo x out (run ks p.parity l (held_of x.held) x.since) (fills_in p.parity p.fill_bus 0 l x.fills) r out') t m
 
-      pub told-low : (r.since ≤ (g + 1) * slots p) × (r.bad ≤ (g + 1) * slots p + 1)
-      told-low =
+      pub told_low : (r.since ≤ (g + 1) * slots p) × (r.bad ≤ (g + 1) * slots p + 1)
+      told_low =
           ran_low ((g + 1) * slots p) x r out out' here fills
           (run_in ks p.parity (λ q. q ≤ (g + 1) * slots p) (numbers_of p c g) (counted_within ((g + 1) * slots p) (g * slots p) (words_in (group_slots p c first)) upto)
           (held_of x.held) x.since (omega (arith, a.low)))
           ran_to
 
-      bad-at : (y : Ran) → RanTo x out y fills r out' → (r.bad ≡ 0 → ⊥) → y ≡ bad_at (r.bad - 1) r.since
-      bad-at (bad_at q s) m z = let e : q ≡ r.bad - 1 = omega (arith, m.0) in ap₂ bad_at e (sym m.1)
-      bad-at (ran is k q) m z = absurd (z m.0.sound.good)
+      bad_at_lem : (y : Ran) → RanTo x out y fills r out' → (r.bad ≡ 0 → ⊥) → y ≡ bad_at (r.bad - 1) r.since
+      bad_at_lem (bad_at q s) m z = let e : q ≡ r.bad - 1 = omega (arith, m.0) in ap₂ bad_at e (sym m.1)
+      bad_at_lem (ran is k q) m z = absurd (z m.0.sound.good)
 
-      pub over-bad : (r.bad ≡ 0 → ⊥) → read_groups p ks c n 0 Nothing 0 ≡ stopped 13 (stored_at p (r.bad - 1)) (stored_at p r.since)
-      over-bad z = sound-next sound ∙ ap (λ (y : Ran). before a.items (onward (renamed (stored_at p) y) behind)) (bad-at here ran_to z)
+      pub over_bad : (r.bad ≡ 0 → ⊥) → read_groups p ks c n 0 Nothing 0 ≡ stopped 13 (stored_at p (r.bad - 1)) (stored_at p r.since)
+      over_bad z = sound_next sound ∙ ap (λ (y : Ran). before a.items (onward (renamed (stored_at p) y) behind)) (bad_at_lem here ran_to z)
 
       more_of : (y : Ran) → RanTo x out y fills r out' → r.bad ≡ 0 → r.pen.bits ≤ 128 * ((g + 1) * slots p)
           → read_groups p ks c n 0 Nothing 0 ≡ before a.items (onward (renamed (stored_at p) y) behind) → Over ks p c n out₀ (g + 1) r out'
@@ -151,15 +151,15 @@ module _ (ks : List Kind) (p : Plan) (c : List ℕ) (n : ℕ) (out₀ : List ℕ
         items = a.items ++ is;
         is = e ∙ before_before a.items is (behind k (stored_at p q))
             ∙ ap₂ (λ (k : Held) (q : ℕ). before (a.items ++ is) (behind k (stored_at p q))) (sym m.1) (sym m.2);
-        fill = fill-next ∙ ap (fills_over p (numbers_on p c (g + 1) (n - (g + 1)))) (sym m.3);
+        fill = fill_next ∙ ap (fills_over p (numbers_on p c (g + 1) (n - (g + 1)))) (sym m.3);
         brought = brought_more a.brought m.0;
         few = l;
-        low = told-low.0;
+        low = told_low.0;
         fill_low = rw m.3 fill_low;
       }
 
-      pub over-more : r.bad ≡ 0 → r.pen.bits ≤ 128 * ((g + 1) * slots p) → Over ks p c n out₀ (g + 1) r out'
-      over-more z l = more_of here ran_to z l (sound-next sound)
+      pub over_more : r.bad ≡ 0 → r.pen.bits ≤ 128 * ((g + 1) * slots p) → Over ks p c n out₀ (g + 1) r out'
+      over_more z l = more_of here ran_to z l (sound_next sound)
 
   -- the walk ends at a bad word
   pub walked_bad : {x : Pass} {r : Walk} {out : List ℕ} (bad first : ℕ)

@@ -71,8 +71,8 @@ module _ (p : Plan) (ks : List Kind) (c : List ℕ) (n log_room time_room report
     abbrev judged : Bool → Bool → Bool → Salvage
     judged x y z = cond x (cond y (cond z (saves (log_of s.its) (time_row p c n) s.report) (forgoes 20 t.entries)) (forgoes 7 t.times)) (forgoes 6 t.bytes)
 
-    by-tally : saved_of p ks c n log_room time_room reportRoom ≡ judged (leb t.bytes 32768 && leb t.bytes log_room) (leb t.times time_room) (leb t.entries reportRoom)
-    by-tally = rw (a, b, d) refl
+    by_tally : saved_of p ks c n log_room time_room reportRoom ≡ judged (leb t.bytes 32768 && leb t.bytes log_room) (leb t.times time_room) (leb t.entries reportRoom)
+    by_tally = rw (a, b, d) refl
 
     abbrev told : Bool → Bool → Bool → ℕ
     told x y z = cond x (cond y (cond z 0 20) 7) 6
@@ -91,9 +91,9 @@ module _ (p : Plan) (ks : List Kind) (c : List ℕ) (n log_room time_room report
         let z : Bool = leb t.entries reportRoom in
         let r = refused_by x y z k (sym e) in
         record {
-          six = λ f. by-tally ∙ r.0 f;
-          seven = λ f. by-tally ∙ r.1 f;
-          twenty = λ f. by-tally ∙ r.2 f;
+          six = λ f. by_tally ∙ r.0 f;
+          seven = λ f. by_tally ∙ r.1 f;
+          twenty = λ f. by_tally ∙ r.2 f;
           enough = λ f g h.
               let q = r.3 f g h in
               let l = and_true (leb t.bytes 32768) (leb t.bytes log_room) q.0 in
@@ -103,7 +103,7 @@ module _ (p : Plan) (ks : List Kind) (c : List ℕ) (n log_room time_room report
                 times = leb-true t.times time_room q.1;
                 entries = leb-true t.entries reportRoom q.2;
               };
-          all = λ f g h. let q = r.3 f g h in by-tally ∙ rw (q.0, q.1, q.2) refl;
+          all = λ f g h. let q = r.3 f g h in by_tally ∙ rw (q.0, q.1, q.2) refl;
         }
 
 -- ---- what is handed over

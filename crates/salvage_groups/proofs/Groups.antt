@@ -78,26 +78,26 @@ module _ (ks : List Kind) (p : Plan) (shape : Shape p) (c : List ℕ) (low : (i 
       pub tape : Salvages ks p (group_pieces f g (group_slots p c (g * group_words p))) r.words r'.words
       pub times : Timed p (kept_time f (group_time p c (g * group_words p))) r r'
 
-    grouped-by : (g : ℕ) (f : Fault) (r : Reel) → Sane r.words.pass.held → Grouped g f r (group_on f ks p c g r)
-    grouped-by g none r s = record {
+    grouped_by : (g : ℕ) (f : Fault) (r : Reel) → Sane r.words.pass.held → Grouped g f r (group_on f ks p c g r)
+    grouped_by g none r s = record {
       tape = subst (λ (ss : List Slot). Salvages ks p (data_pieces ss) r.words (on_row ks p (g * slots p) (words g) r.words)) (sym (slots_counted p c (free p shape) g))
           (row_salvaged ks p (g * slots p) (words g) (small g) r.words s);
       times = λ ns old l. one_more p.frame_time ns old r.row r.times (group_time p c (g * group_words p)) l;
     }
-    grouped-by g (found k q) r s = record { tape = gap_salvaged ks p k g r.words; times = timed_none p (group_on (found k q) ks p c g r) }
+    grouped_by g (found k q) r s = record { tape = gap_salvaged ks p k g r.words; times = timed_none p (group_on (found k q) ks p c g r) }
 
     pub record Grouped-all (n g : ℕ) (r r' : Reel) : Type 0 where
       pub tape : Salvages ks p (pieces p c n g) r.words r'.words
       pub times : Timed p (kept_times p c n g) r r'
 
-    pub groups-salvaged : (n g : ℕ) (r : Reel) → Sane r.words.pass.held → Grouped-all n g r (over_groups ks p c n g r)
+    pub groups_salvaged : (n g : ℕ) (r : Reel) → Sane r.words.pass.held → Grouped-all n g r (over_groups ks p c n g r)
     unfolding over_groups on_group pieces kept_times
-    groups-salvaged zero g r s = record { tape = salvages_none ks p r.words s; times = timed_none p r }
-    groups-salvaged (suc n) g r s =
+    groups_salvaged zero g r s = record { tape = salvages_none ks p r.words s; times = timed_none p r }
+    groups_salvaged (suc n) g r s =
         let f : Fault = group_fault p c (g * group_words p) in
         let r' : Reel = group_on f ks p c g r in
-        let a = grouped-by g f r s in
-        let b = groups-salvaged n (g + 1) r' a.tape.went.sane in
+        let a = grouped_by g f r s in
+        let b = groups_salvaged n (g + 1) r' a.tape.went.sane in
         record {
           tape = salvages_then ks p a.tape b.tape;
           times = timed_then p (kept_time f (group_time p c (g * group_words p))) (kept_times p c n (g + 1)) r r' (over_groups ks p c n (g + 1) r') a.times b.times;
@@ -123,7 +123,7 @@ module _ (ks : List Kind) (p : Plan) (shape : Shape p) (c : List ℕ) (low : (i 
   closing = let_go p done.words
 
   all_groups : Grouped-all ks p shape c low (λ g. all_words (words_in (group_slots p c (g * group_words p))) (words_low p c (g * group_words p) low)) n 0 begin done
-  all_groups = groups-salvaged ks p shape c low (λ g. all_words (words_in (group_slots p c (g * group_words p))) (words_low p c (g * group_words p) low)) n 0 begin nothing_is_sane
+  all_groups = groups_salvaged ks p shape c low (λ g. all_words (words_in (group_slots p c (g * group_words p))) (words_low p c (g * group_words p) low)) n 0 begin nothing_is_sane
 
   held : Held
   held = held_of done.words.pass.held

@@ -26,7 +26,7 @@ use Rattle.salvage_run.specs.declared.Last.{Last}
 use Rattle.salvage_run.specs.declared.Pass.{Pass}
 use Rattle.salvage_run.specs.Tape.{drop_held, freed, held_places, let_go, Low, on_word, put, shifted, Sound, Tape, taken, tape, told, try_start, word_step}
 use Rattle.salvage_run.proofs.Held.{held_few, length_last}
-use Rattle.salvage_run.proofs.Steps.{let_dropped, let_put, start-lost, start_means, start-taken, word-broken, word_means, word-taken}
+use Rattle.salvage_run.proofs.Steps.{let_dropped, let_put, start_lost, start_means, start_taken, word_broken, word_means, word_taken}
 
 pub low_more : {a : ℕ} (b : ℕ) {l : Last} → a ≤ b → Low a l → Low b l
 low_more b h x =
@@ -95,10 +95,10 @@ module _ (p : Plan) (ks : List Kind) (number word : ℕ) (small : word < 2 ^ 24)
   start_by : (t : Tape) (f : Fed) → Means f (word_step ks p.parity Nothing word) → Moved number 92 1 t.pass (try_start ks p number word t).pass
   start_by t bad m =
       let g = grew_told (stored_at p number ∷ []) 1 t (omega arith) in
-      subst (λ (u : Tape). Moved number 92 1 t.pass u.pass) (start-lost p t ks number word refl m)
+      subst (λ (u : Tape). Moved number 92 1 t.pass u.pass) (start_lost p t ks number word refl m)
       (record { grew = record { sane = g.sane; few_bits = omega arith; few_entries = g.few_entries }; low = λ l. low_more (number + 1 + 1) (omega arith) l })
   start_by t (fed is h) m =
-      subst (λ (u : Tape). Moved number 92 1 t.pass u.pass) (start-taken p t ks number word refl m.good refl)
+      subst (λ (u : Tape). Moved number 92 1 t.pass u.pass) (start_taken p t ks number word refl m.good refl)
       (moved_put is h (word_step ks p.parity Nothing word) t m)
 
   start_moved : (t : Tape) → Moved number 92 1 t.pass (try_start ks p number word t).pass
@@ -109,7 +109,7 @@ module _ (p : Plan) (ks : List Kind) (number word : ℕ) (small : word < 2 ^ 24)
   word_by t s bad m =
       let g = let_gone p t s in
       let v = start_moved (let_go p t) in
-      subst (λ (u : Tape). Moved number 184 5 t.pass u.pass) (word-broken p t ks number word refl m)
+      subst (λ (u : Tape). Moved number 184 5 t.pass u.pass) (word_broken p t ks number word refl m)
       (record {
         grew = record {
           sane = v.grew.sane;
@@ -120,7 +120,7 @@ module _ (p : Plan) (ks : List Kind) (number word : ℕ) (small : word < 2 ^ 24)
       })
   word_by t s (fed is h) m =
       let v = moved_put is h (word_step ks p.parity (held_of t.pass.held) word) t m in
-      subst (λ (u : Tape). Moved number 184 5 t.pass u.pass) (word-taken p t ks number word refl m.good refl)
+      subst (λ (u : Tape). Moved number 184 5 t.pass u.pass) (word_taken p t ks number word refl m.good refl)
       (record { grew = record { sane = v.grew.sane; few_bits = omega (arith, v.grew.few_bits); few_entries = omega (arith, v.grew.few_entries) }; low = v.low })
 
   word_moved : (t : Tape) → Sane t.pass.held → Moved number 184 5 t.pass (on_word ks p number word t).pass

@@ -108,25 +108,25 @@ module _ (p : Plan) (t : Tape) where
       rw b (ap (λ (s : Step). put s t.pass.last t) e)
 
   module _ (ks : List Kind) (number word : ℕ) where
-    pub start-lost : {r : Step} → r ≡ word_step ks p.parity Nothing word → r.bad ≡ true → told (stored_at p number ∷ []) t ≡ try_start ks p number word t
+    pub start_lost : {r : Step} → r ≡ word_step ks p.parity Nothing word → r.bad ≡ true → told (stored_at p number ∷ []) t ≡ try_start ks p number word t
     unfolding try_start
-    start-lost e z = let b : (word_step ks p.parity Nothing word).bad ≡ true = sym (ap (λ (s : Step). s.bad) e) ∙ z in rw b refl
+    start_lost e z = let b : (word_step ks p.parity Nothing word).bad ≡ true = sym (ap (λ (s : Step). s.bad) e) ∙ z in rw b refl
 
-    pub start-taken : {r : Step} {l : Last} → r ≡ word_step ks p.parity Nothing word → r.bad ≡ false → l ≡ shifted t.pass.last number
+    pub start_taken : {r : Step} {l : Last} → r ≡ word_step ks p.parity Nothing word → r.bad ≡ false → l ≡ shifted t.pass.last number
         → put r l t ≡ try_start ks p number word t
     unfolding try_start
-    start-taken e z f =
+    start_taken e z f =
         let b : (word_step ks p.parity Nothing word).bad ≡ false = sym (ap (λ (s : Step). s.bad) e) ∙ z in
         rw (b, f) (ap (λ (s : Step). taken number s t) e)
 
-    pub word-broken : {r : Step} → r ≡ word_step ks p.parity (held_of t.pass.held) word → r.bad ≡ true → try_start ks p number word (let_go p t) ≡ on_word ks p number word t
+    pub word_broken : {r : Step} → r ≡ word_step ks p.parity (held_of t.pass.held) word → r.bad ≡ true → try_start ks p number word (let_go p t) ≡ on_word ks p number word t
     unfolding on_word
-    word-broken e z = let b : (word_step ks p.parity (held_of t.pass.held) word).bad ≡ true = sym (ap (λ (s : Step). s.bad) e) ∙ z in rw b refl
+    word_broken e z = let b : (word_step ks p.parity (held_of t.pass.held) word).bad ≡ true = sym (ap (λ (s : Step). s.bad) e) ∙ z in rw b refl
 
-    pub word-taken : {r : Step} {l : Last} → r ≡ word_step ks p.parity (held_of t.pass.held) word → r.bad ≡ false → l ≡ shifted t.pass.last number
+    pub word_taken : {r : Step} {l : Last} → r ≡ word_step ks p.parity (held_of t.pass.held) word → r.bad ≡ false → l ≡ shifted t.pass.last number
         → put r l t ≡ on_word ks p number word t
     unfolding on_word
-    word-taken e z f =
+    word_taken e z f =
         let b : (word_step ks p.parity (held_of t.pass.held) word).bad ≡ false = sym (ap (λ (s : Step). s.bad) e) ∙ z in
         rw (b, f) (ap (λ (s : Step). taken number s t) e)
 

@@ -37,7 +37,7 @@ use Rattle.salvage_run.specs.Tape.{drop_group, drop_held, freed, held_places, la
 use Rattle.salvage_run.proofs.Held.{feed_holds, held_few, Holds, places_shift}
 use Rattle.salvage_run.proofs.Rows.{all_long, put_in, put_out}
 use Rattle.salvage_run.proofs.Sounds.{let_gone, word_sane}
-use Rattle.salvage_run.proofs.Steps.{let_dropped, let_put, start-lost, start_means, start-taken, word-broken, word_means, word-taken}
+use Rattle.salvage_run.proofs.Steps.{let_dropped, let_put, start_lost, start_means, start_taken, word_broken, word_means, word_taken}
 
 -- ---- numbers laid into a row from its front, as far as there is room
 
@@ -218,8 +218,8 @@ module _ (ks : List Kind) (p : Plan) where
   -- ---- a word
 
   module _ (number word : ℕ) (small : word < 2 ^ 24) where
-    abbrev fedTo : Held → Fed
-    fedTo h = feed ks h (bus_of p.parity word) (label_of word) (info_of word)
+    abbrev fed_to : Held → Fed
+    fed_to h = feed ks h (bus_of p.parity word) (label_of word) (info_of word)
 
     abbrev piece : Piece
     piece = datum (stored_at p number, word)
@@ -228,10 +228,10 @@ module _ (ks : List Kind) (p : Plan) where
     goes us = λ h qs. salvage ks p.parity us h qs
 
     -- what is held after a word that is taken, by its places
-    after-word : (h h' : Held) (is : List Item) (s : Step) (l : Last) (us : List Piece) → fedTo h ≡ fed is h' → Brings is h' s
+    after_word : (h h' : Held) (is : List Item) (s : Step) (l : Last) (us : List Piece) → fed_to h ≡ fed is h' → Brings is h' s
         → goes us h' (last_of (held_words h') (map (stored_at p) (last_of (held_words h) (numbers_of l)) ++ stored_at p number ∷ []))
         ≡ goes us (held_of s.held) (map (stored_at p) (last_of (held_words (held_of s.held)) (numbers_of (shifted l number))))
-    after-word h h' is s l us e b =
+    after_word h h' is s l us e b =
         let few : held_words h' ≤ held_words h + 1 = subst (Holds (held_words h + 1)) e (feed_holds ks h (bus_of p.parity word) (label_of word) (info_of word)) in
         ap (goes us h') (places_shift (stored_at p) (held_words h) (held_words h') (held_few h) (held_few h') few l number)
         ∙ ap (λ (k : Held). goes us k (map (stored_at p) (last_of (held_words k) (numbers_of (shifted l number))))) (sym b.holds)
@@ -240,12 +240,12 @@ module _ (ks : List Kind) (p : Plan) where
     record Tried (t t' : Tape) : Type 0 where
       pub its : List Item
       pub report : List Entry
-      pub is : (us : List Piece) → tried (fedTo Nothing) (stored_at p number) (goes us) ≡ first its report (goes us (held_of t'.pass.held) (held_places p t'.pass))
+      pub is : (us : List Piece) → tried (fed_to Nothing) (stored_at p number) (goes us) ≡ first its report (goes us (held_of t'.pass.held) (held_places p t'.pass))
       pub went : Went its report t t'
 
-    tried-by : (t : Tape) (f : Fed) → fedTo Nothing ≡ f → Means f (word_step ks p.parity Nothing word) → Tried t (try_start ks p number word t)
-    tried-by t bad e m =
-        subst (Tried t) (start-lost p t ks number word refl m)
+    tried_by : (t : Tape) (f : Fed) → fed_to Nothing ≡ f → Means f (word_step ks p.parity Nothing word) → Tried t (try_start ks p number word t)
+    tried_by t bad e m =
+        subst (Tried t) (start_lost p t ks number word refl m)
         (record {
           its = [];
           report = lost_word (stored_at p number) ∷ [];
@@ -254,34 +254,34 @@ module _ (ks : List Kind) (p : Plan) where
               ∙ ap₂ (λ (h : Held) (qs : List ℕ). first [] (lost_word (stored_at p number) ∷ []) (goes us h qs)) (sym nothing_is_held) (sym (none_held t.pass.last));
           went = went_told (lost_word (stored_at p number) ∷ []) (stored_at p number ∷ []) t refl;
         })
-    tried-by t (fed is h) e m =
+    tried_by t (fed is h) e m =
         let s : Step = word_step ks p.parity Nothing word in
-        subst (Tried t) (start-taken p t ks number word refl m.good refl)
+        subst (Tried t) (start_taken p t ks number word refl m.good refl)
         (record {
           its = is;
           report = [];
-          is = λ us. ap (λ (f : Fed). tried f (stored_at p number) (goes us)) e ∙ ap (first is []) (after-word Nothing h is s t.pass.last us e m);
+          is = λ us. ap (λ (f : Fed). tried f (stored_at p number) (goes us)) e ∙ ap (first is []) (after_word Nothing h is s t.pass.last us e m);
           went = went_put is h s (shifted t.pass.last number) t m;
         })
 
-    start-tried : (t : Tape) → Tried t (try_start ks p number word t)
-    start-tried t = tried-by t (fedTo Nothing) refl (start_means ks p.parity word small)
+    start_tried : (t : Tape) → Tried t (try_start ks p number word t)
+    start_tried t = tried_by t (fed_to Nothing) refl (start_means ks p.parity word small)
 
-    word_by : (t : Tape) → Sane t.pass.held → (f : Fed) → fedTo (held_of t.pass.held) ≡ f → Means f (word_step ks p.parity (held_of t.pass.held) word)
+    word_by : (t : Tape) → Sane t.pass.held → (f : Fed) → fed_to (held_of t.pass.held) ≡ f → Means f (word_step ks p.parity (held_of t.pass.held) word)
         → Salvages ks p (piece ∷ []) t (on_word ks p number word t)
     unfolding salvage
     word_by t s bad e m =
         let h : Held = held_of t.pass.held in
         let ps : List ℕ = held_places p t.pass in
         let a = let_went p t s in
-        let b = start-tried (let_go p t) in
-        subst (Salvages ks p (piece ∷ []) t) (word-broken p t ks number word refl m)
+        let b = start_tried (let_go p t) in
+        subst (Salvages ks p (piece ∷ []) t) (word_broken p t ks number word refl m)
         (record {
           its = finished h ++ b.its;
           report = map lost_word (unfinished h ps) ++ b.report;
           is = λ us.
               let u : Tape = try_start ks p number word (let_go p t) in
-              ap (λ (f : Fed). salvage_word f (fedTo Nothing) h ps (stored_at p number) (goes us)) e
+              ap (λ (f : Fed). salvage_word f (fed_to Nothing) h ps (stored_at p number) (goes us)) e
               ∙ ap (first (finished h) (map lost_word (unfinished h ps))) (b.is us)
               ∙ first_twice (finished h) b.its (map lost_word (unfinished h ps)) b.report (goes us (held_of u.pass.held) (held_places p u.pass));
           went = went_then a b.went;
@@ -290,16 +290,16 @@ module _ (ks : List Kind) (p : Plan) where
         let h : Held = held_of t.pass.held in
         let ps : List ℕ = held_places p t.pass in
         let r : Step = word_step ks p.parity h word in
-        subst (Salvages ks p (piece ∷ []) t) (word-taken p t ks number word refl m.good refl)
+        subst (Salvages ks p (piece ∷ []) t) (word_taken p t ks number word refl m.good refl)
         (record {
           its = is;
           report = [];
-          is = λ us. ap (λ (f : Fed). salvage_word f (fedTo Nothing) h ps (stored_at p number) (goes us)) e ∙ ap (first is []) (after-word h h' is r t.pass.last us e m);
+          is = λ us. ap (λ (f : Fed). salvage_word f (fed_to Nothing) h ps (stored_at p number) (goes us)) e ∙ ap (first is []) (after_word h h' is r t.pass.last us e m);
           went = went_put is h' r (shifted t.pass.last number) t m;
         })
 
-    pub word-salvaged : (t : Tape) → Sane t.pass.held → Salvages ks p (piece ∷ []) t (on_word ks p number word t)
-    word-salvaged t s = word_by t s (fedTo (held_of t.pass.held)) refl (word_means ks p.parity t.pass.held word small s)
+    pub word_salvaged : (t : Tape) → Sane t.pass.held → Salvages ks p (piece ∷ []) t (on_word ks p number word t)
+    word_salvaged t s = word_by t s (fed_to (held_of t.pass.held)) refl (word_means ks p.parity t.pass.held word small s)
 
   -- ---- a row
 
@@ -314,4 +314,4 @@ module _ (ks : List Kind) (p : Plan) where
       go : (b : Bool) → ((t : Tape) → Sane t.pass.held → Salvages ks p (row_pieces (from + 1) ws) t (on_row ks p (from + 1) ws t))
           → Salvages ks p (cond b (row_pieces (from + 1) ws) (datum (stored_at p from, w) ∷ row_pieces (from + 1) ws)) t (on_row ks p (from + 1) ws (cond b t (on_word ks p from w t)))
       go true ih = ih t s
-      go false ih = salvages_then (word-salvaged from w small t s) (ih (on_word ks p from w t) (word_sane p ks from w small t s))
+      go false ih = salvages_then (word_salvaged from w small t s) (ih (on_word ks p from w t) (word_sane p ks from w small t s))

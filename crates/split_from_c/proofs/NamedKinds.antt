@@ -23,11 +23,11 @@ module _ (words tracks time crc parity label code : ℕ) (kinds : List ℕ) wher
 
   module _ (p : Plan) (ks : List Kind) (e : named time crc parity kinds ≡ true)
       (a : p ≡ plan_from words tracks time crc parity label code) (b : ks ≡ map kind_of kinds) where
-    pub words-named : (c : List ℕ) (wordRoom room : ℕ)
+    pub words_named : (c : List ℕ) (wordRoom room : ℕ)
         → words_from words tracks time crc parity label code kinds c wordRoom room ≡ words_read p ks c wordRoom (room / 8)
     unfolding words_from
-    words-named c wordRoom room = rw (e, a, b)
+    words_named c wordRoom room = rw (e, a, b)
 
-    pub items-named : (ws : List ℕ) (log_room : ℕ) → items_from words tracks time crc parity label code kinds ws log_room ≡ items_read p ks ws log_room
+    pub items_named : (ws : List ℕ) (log_room : ℕ) → items_from words tracks time crc parity label code kinds ws log_room ≡ items_read p ks ws log_room
     unfolding items_from
-    items-named ws log_room = rw (e, a, b)
+    items_named ws log_room = rw (e, a, b)

@@ -52,11 +52,11 @@ module _ (p : Plan) (ks : List Kind) (c : List ℕ) (wordRoom : ℕ) where
         go false e = refl
 
   few_all : (T : ℕ) → Few T (all T)
-  few_all T = found-or (groups_fault p c (length c / size) 0) (words_roomed p c (length c / size) wordRoom T) (go (leb (length c / size * slots p) wordRoom) (leb (times_needed p (length c / size)) T) refl)
+  few_all T = found_or (groups_fault p c (length c / size) 0) (words_roomed p c (length c / size) wordRoom T) (go (leb (length c / size * slots p) wordRoom) (leb (times_needed p (length c / size)) T) refl)
     where
-      found-or : (f : Fault) (r : Reading) → Few T r → Few T (unless_found f r)
-      found-or none r h = h
-      found-or (found k at) r h = tt
+      found_or : (f : Fault) (r : Reading) → Few T r → Few T (unless_found f r)
+      found_or none r h = h
+      found_or (found k at) r h = tt
 
       go : (a b : Bool) → leb (times_needed p (length c / size)) T ≡ b
           → Few T (cond a (cond b (gives (words_in (slots_from p c (length c / size) 0)) (frame_times p c (length c / size))) (refuses 7 (times_needed p (length c / size)) 0))

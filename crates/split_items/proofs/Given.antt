@@ -57,13 +57,13 @@ module _ (ks : List Kind) (parity : Bool) (ws : List ℕ) (log_room : ℕ) where
     low : All (λ w. w < 2 ^ 24) ws
     low = words_all ws l.words
 
-    plain-got : onward (run ks parity (counted 0 ws) Nothing 0) finish ≡ got l.items
-    plain-got = ap (λ (r : Ran). onward r finish) (sym (run_numbers_lem ks parity (counted 0 ws) (counted_small 0 ws low) Nothing 0)) ∙ l.is
+    plain_got : onward (run ks parity (counted 0 ws) Nothing 0) finish ≡ got l.items
+    plain_got = ap (λ (r : Ran). onward r finish) (sym (run_numbers_lem ks parity (counted 0 ws) (counted_small 0 ws low) Nothing 0)) ∙ l.is
 
     -- the earliest open notice, by its number
     open_is : open_fault (first_word_of (places_of (counted 0 ws)) l.items) l.items ≡ told15 (open_row (roles_in ks parity (counted 0 ws)))
     open_is =
-        let a = parts_said ks parity (counted 0 ws) (data_all (counted 0 ws) (rw (words_counted 0 ws) low)) 0 l.items plain-got in
+        let a = parts_said ks parity (counted 0 ws) (data_all (counted 0 ws) (rw (words_counted 0 ws) low)) 0 l.items plain_got in
         up_fault (first_word_of (places_of (counted 0 ws)) l.items) (first_open l.items) (length l.items)
         ∙ ap told15 (sym (slots_open ks parity (counted 0 ws) l.items a.1 a.0))
 
@@ -74,11 +74,11 @@ module _ (ks : List Kind) (parity : Bool) (ws : List ℕ) (log_room : ℕ) where
     log_is = ap (items_settled log_room (counted 0 ws)) l.is ∙ ap settled open_is
 
     module _ {n : ℕ} (o : n ≡ open_row (roles_in ks parity (counted 0 ws))) where
-      pub open-settled : (n ≡ 0 → ⊥) → items_of ks parity ws log_room ≡ refuses 15 (n - 1) 0
-      open-settled d = log_is ∙ ap (λ (m : ℕ). settled (told15 m)) (sym o) ∙ rw (ne_eqb n 0 d) refl
+      pub open_settled : (n ≡ 0 → ⊥) → items_of ks parity ws log_room ≡ refuses 15 (n - 1) 0
+      open_settled d = log_is ∙ ap (λ (m : ℕ). settled (told15 m)) (sym o) ∙ rw (ne_eqb n 0 d) refl
 
-      pub log-settled : n ≡ 0 → items_of ks parity ws log_room ≡ log_roomed log_room (log_of l.items)
-      log-settled e = log_is ∙ ap (λ (m : ℕ). settled (told15 m)) (sym o ∙ e)
+      pub log_settled : n ≡ 0 → items_of ks parity ws log_room ≡ log_roomed log_room (log_of l.items)
+      log_settled e = log_is ∙ ap (λ (m : ℕ). settled (told15 m)) (sym o ∙ e)
 
 -- the array has room for it
 pub log_closable : (ks : List Kind) (parity : Bool) (ws : List ℕ) {k : Run} {out : List ℕ} (l : Logged ks parity ws k out) (built : ℕ)

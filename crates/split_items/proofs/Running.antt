@@ -88,20 +88,20 @@ module _ (ks : List Kind) (parity : Bool) (ws : List ℕ) (r : ℕ) (f : LowFron
   front_bad e = got_is ∙ ap (λ (x : Ran). onward (and_then x (λ h p. run_numbers ks parity (counted r (drop r ws)) h p)) finish) e
 
   module _ {is : List Item} {h : Held} {at : ℕ} (e : front ≡ ran is h at) where
-    front-ran : got_of ks parity ws ≡ onward (and_then (ran is h at) (λ h p. run_numbers ks parity (counted r (drop r ws)) h p)) finish
-    front-ran = got_is ∙ ap (λ (x : Ran). onward (and_then x (λ h p. run_numbers ks parity (counted r (drop r ws)) h p)) finish) e
+    front_ran : got_of ks parity ws ≡ onward (and_then (ran is h at) (λ h p. run_numbers ks parity (counted r (drop r ws)) h p)) finish
+    front_ran = got_is ∙ ap (λ (x : Ran). onward (and_then x (λ h p. run_numbers ks parity (counted r (drop r ws)) h p)) finish) e
 
     large : r < length ws → got_of ks parity ws ≡ stopped 13 r (begun h at r)
     unfolding run_numbers
     large l =
-        front-ran ∙ ap (λ (x : List ℕ). onward (and_then (ran is h at) (λ h p. run_numbers ks parity (counted r x) h p)) finish) (drop_next r ws l)
+        front_ran ∙ ap (λ (x : List ℕ). onward (and_then (ran is h at) (λ h p. run_numbers ks parity (counted r x) h p)) finish) (drop_next r ws l)
         ∙ ap (λ (x : List Slot). onward (and_then (ran is h at) (λ h p. run_numbers ks parity x h p)) finish) (counted_one r (get_or ws r 0) (drop (r + 1) ws))
         ∙ rw (le-ltb _ _ (f.high l)) refl
 
     ended : length ws ≤ r → got_of ks parity ws ≡ before is (finish h at)
     unfolding run_numbers
     ended l =
-        front-ran ∙ ap (λ (x : List Slot). onward (and_then (ran is h at) (λ h p. run_numbers ks parity x h p)) finish) (counted_none r r ws l)
+        front_ran ∙ ap (λ (x : List Slot). onward (and_then (ran is h at) (λ h p. run_numbers ks parity x h p)) finish) (counted_none r r ws l)
         ∙ again is
       where
         again : (js : List Item) → onward (ran (js ++ []) h at) finish ≡ before js (finish h at)
@@ -114,8 +114,8 @@ module _ (ks : List Kind) (parity : Bool) (ws : List ℕ) (r : ℕ) (f : LowFron
     ran_bad (bad_at q s) e n d = front_bad e ∙ ap₂ (stopped 13) (omega (arith, n.0)) (sym n.1)
     ran_bad (ran is h at) e n d = absurd (d n.0.sound.good)
 
-    pub bad-stops : (x.bad ≡ 0 → ⊥) → got_of ks parity ws ≡ stopped 13 (x.bad - 1) x.since
-    bad-stops = ran_bad front refl m
+    pub bad_stops : (x.bad ≡ 0 → ⊥) → got_of ks parity ws ≡ stopped 13 (x.bad - 1) x.since
+    bad_stops = ran_bad front refl m
 
     -- no word of it is bad
     pub record Good : Type 0 where
@@ -123,24 +123,24 @@ module _ (ks : List Kind) (parity : Bool) (ws : List ℕ) (r : ℕ) (f : LowFron
       pub is : front ≡ ran items (held_of x.held) x.since
       pub brought : Brought start_pass out₀ items x out
 
-    ran-good : (z : Ran) → front ≡ z → RanTo start_pass out₀ z y x out → x.bad ≡ 0 → Good
-    ran-good (bad_at q s) e n d = absurd (omega (arith, n.0))
-    ran-good (ran is h at) e n d = record { items = is; is = e ∙ ap₂ (ran is) (sym n.1) (sym n.2); brought = n.0 }
+    ran_good : (z : Ran) → front ≡ z → RanTo start_pass out₀ z y x out → x.bad ≡ 0 → Good
+    ran_good (bad_at q s) e n d = absurd (omega (arith, n.0))
+    ran_good (ran is h at) e n d = record { items = is; is = e ∙ ap₂ (ran is) (sym n.1) (sym n.2); brought = n.0 }
 
     pub good : x.bad ≡ 0 → Good
-    good = ran-good front refl m
+    good = ran_good front refl m
 
     module _ (d : x.bad ≡ 0) where
       pub large_stops : r < length ws → got_of ks parity ws ≡ stopped 13 r (begun (held_of x.held) x.since r)
       large_stops = large (good d).is
 
       module _ (l : length ws ≤ r) (s : Step) (c : Closes (finish (held_of x.held) x.since) s) where
-        pub cut-stops : s.bad ≡ true → got_of ks parity ws ≡ stopped 13 x.since x.since
-        cut-stops z = ended (good d).is l ∙ ap (before (good d).items) (finish_cut (held_of x.held) x.since s c z)
+        pub cut_stops : s.bad ≡ true → got_of ks parity ws ≡ stopped 13 x.since x.since
+        cut_stops z = ended (good d).is l ∙ ap (before (good d).items) (finish_cut (held_of x.held) x.since s c z)
 
         module _ (z : s.bad ≡ false) (few : x.pen.bits ≤ 128 * length ws) where
-          pub words-log : (k : Run) → k.pen ≡ step_pen x.pen s → {out' : List ℕ} → out' ≡ step_out out x.pen s → Logged ks parity ws k out'
-          words-log k e {out'} o =
+          pub words_log : (k : Run) → k.pen ≡ step_pen x.pen s → {out' : List ℕ} → out' ≡ step_out out x.pen s → Logged ks parity ws k out'
+          words_log k e {out'} o =
               let g = good d in
               let w = closed_wrote start_pass out₀ g.items x out g.brought x.since s c z (wrote_none out₀) in
               record {

@@ -67,15 +67,15 @@ module _ (p : Plan) (c : List ℕ) (wordRoom time_room n : ℕ) where
     cleared : settled p c wordRoom time_room m ≡ words_roomed p c n wordRoom time_room
     cleared = sym (ap (settled p c wordRoom time_room) e) ∙ ap (λ (x : Fault). unless_found x (words_roomed p c n wordRoom time_room)) clear
 
-    pub words-refused : {count need number : ℕ} → count ≡ n * slots p → need ≡ times_needed p n → number ≡ room_number count need wordRoom time_room → number ≡ 6
+    pub words_refused : {count need number : ℕ} → count ≡ n * slots p → need ≡ times_needed p n → number ≡ room_number count need wordRoom time_room → number ≡ 6
         → settled p c wordRoom time_room m ≡ refuses 6 count 0
-    words-refused {count} {need} k t a z =
+    words_refused {count} {need} k t a z =
         let l : wordRoom < n * slots p = omega (arith, k, leb-false count wordRoom (short_six (leb count wordRoom) (leb need time_room) (sym a ∙ z))) in
         cleared ∙ rw (lt-leb _ _ l) (ap (λ (x : ℕ). refuses 6 x 0) (sym k))
 
-    pub times-refused : {count need number : ℕ} → count ≡ n * slots p → need ≡ times_needed p n → number ≡ room_number count need wordRoom time_room → number ≡ 7
+    pub times_refused : {count need number : ℕ} → count ≡ n * slots p → need ≡ times_needed p n → number ≡ room_number count need wordRoom time_room → number ≡ 7
         → settled p c wordRoom time_room m ≡ refuses 7 need 0
-    times-refused {count} {need} k t a z =
+    times_refused {count} {need} k t a z =
         let s = short_seven (leb count wordRoom) (leb need time_room) (sym a ∙ z) in
         let w : n * slots p ≤ wordRoom = omega (arith, k, leb-true count wordRoom s.0) in
         let l : time_room < times_needed p n = omega (arith, t, leb-false need time_room s.1) in

@@ -132,8 +132,8 @@ module _ (b : List ℕ) (x : Stand) (w : AtWork b x) where
       (rw (length-drop 1024 b, w.long) (omega (arith, w.part, group_most x.plan w.shape)))
 
   module _ (piece : List ℕ) (room entries : ℕ) where
-    pub short-entries : length piece ≤ 4096 → entries < times_needed x.plan ((x.waiting + length piece) / group_size x.plan) → feeding b piece room entries ≡ unread 16 0 0 b
-    short-entries n h =
+    pub short_entries : length piece ≤ 4096 → entries < times_needed x.plan ((x.waiting + length piece) / group_size x.plan) → feeding b piece room entries ≡ unread 16 0 0 b
+    short_entries n h =
         let e : leb (entries_for (working (work_in b x)) (length piece)) entries ≡ false = rw waiting_long (lt-leb _ entries h) in
         let s : State = working (work_in b x) in
         feeding_refused b piece room entries 16 0 0 w.passes
@@ -156,8 +156,8 @@ module _ (b : List ℕ) (x : Stand) (w : AtWork b x) where
           (fed_on_lem ∙ rw f (ap₂ (λ (m : ℕ) (u : State). refused_by 8 m 0 u) k (sym w.says)))
 
       -- else the bytes are fed
-      pub fed-bytes : x.groups * group_size x.plan + x.waiting + length piece ≤ most_bytes → feeding b piece room entries ≡ outcome_of (answered (feed_bytes (working (work_in b x)) piece))
-      fed-bytes h =
+      pub fed_bytes : x.groups * group_size x.plan + x.waiting + length piece ≤ most_bytes → feeding b piece room entries ≡ outcome_of (answered (feed_bytes (working (work_in b x)) piece))
+      fed_bytes h =
           let k : count_of (work_in b x) ≡ x.groups * group_size x.plan + x.waiting = ap (λ (m : ℕ). x.groups * group_size x.plan + m) waiting_long in
           let f : leb (count_of (work_in b x) + length piece) most_bytes ≡ true = rw k (le-leb _ most_bytes h) in
           let g : fed_on (working (work_in b x)) piece ≡ answered (feed_bytes (working (work_in b x)) piece) = rw f refl in

@@ -142,8 +142,8 @@ module _ (b : List ℕ) (x : Stand) (w : AtWork b x) (log : List ℕ) (room : 12
     given (got is) = (refl, refl)
     given (stopped k q second) = (refl, refl)
 
-    pub shut-whole : (table : List ℕ) → table ≡ table_at b → Whole x.plan x.groups x.held x.since pen table log
-    shut-whole table t =
+    pub shut_whole : (table : List ℕ) → table ≡ table_at b → Whole x.plan x.groups x.held x.since pen table log
+    shut_whole table t =
         rw t (record {
           shape = w.shape;
           sane = w.sane;
@@ -155,9 +155,9 @@ module _ (b : List ℕ) (x : Stand) (w : AtWork b x) (log : List ℕ) (room : 12
           room = omega (arith, room);
         })
 
-    pub shut-ends : {r : Answer} (table : List ℕ) {log' : List ℕ} → table ≡ table_at b → Ends x.plan x.held x.since pen table r log log'
+    pub shut_ends : {r : Answer} (table : List ℕ) {log' : List ℕ} → table ≡ table_at b → Ends x.plan x.held x.since pen table r log log'
         → (r ≡ (closing b (length log)).answer) × (log' ≡ over (closing b (length log)).log log)
-    shut-ends {r} table {log'} t f =
+    shut_ends {r} table {log'} t f =
         let e : closing b (length log) ≡ outcome_of (closed_with (work_in b x) end) = on ∙ ap outcome_of whole in
         let h : Ends x.plan x.held x.since pen (table_at b) r log log' = subst (λ (u : List ℕ). Ends x.plan x.held x.since pen u r log log') t f in
         (h.0 ∙ sym (given end).0 ∙ ap (λ (o : Outcome). o.answer) (sym e), h.1 ∙ ap (λ (l : List ℕ). over l log) (sym (given end).1 ∙ ap (λ (o : Outcome). o.log) (sym e)))

@@ -249,7 +249,7 @@ module _ (p : Plan) (held : Holding) (since : ℕ) (pen : Pen) (table log : List
         few = subst (λ (g : Got). length (end_bytes (bits_left pen) g) ≤ 7) all_is few;
       }
 
-      pub ends-put : {r : Answer} {log' : List ℕ} → Puts pen step r log log' → Ends p held since pen table r log log'
-      ends-put {r} {log'} f =
+      pub ends_put : {r : Answer} {log' : List ℕ} → Puts pen step r log log' → Ends p held since pen table r log log'
+      ends_put {r} {log'} f =
           let g = f done.items done.brings in
           (g.0 ∙ ap (end_answer (bits_left pen)) (sym all_is), g.1 ∙ ap (λ (x : Got). over (end_bytes (bits_left pen) x) log) (sym all_is))

@@ -35,7 +35,7 @@ use Rattle.stream_piece.proofs.Laid.{laid_front}
 use Rattle.stream_piece.proofs.Piece.{goes_more}
 use Rattle.stream_calls.specs.Calls.{Leaves, Outcome, feeding, outcome_of}
 use Rattle.stream_groups.specs.Feeding.{Fed, Filled, Stores, answer_at, end_answer, end_state, stand_at, start_of}
-use Rattle.stream_calls.proofs.Refused.{fed-bytes, waiting_long}
+use Rattle.stream_calls.proofs.Refused.{fed_bytes, waiting_long}
 
 -- ---- lists
 
@@ -166,36 +166,36 @@ module _ (b : List ℕ) (x : Stand) (table piece : List ℕ) (room entries n : �
     abbrev two : Flow
     two = feed_bytes one.state (take ((n - 1) * size) (drop front piece))
 
-    pub front-in : front ≤ length piece
-    front-in = omega (arith, e, filled_in, one_filled)
+    pub front_in : front ≤ length piece
+    front_in = omega (arith, e, filled_in, one_filled)
 
-    pub others-in : front + (n - 1) * size ≤ length piece
-    others-in = omega (arith, e, filled_in, others)
+    pub others_in : front + (n - 1) * size ≤ length piece
+    others_in = omega (arith, e, filled_in, others)
 
-    pub total-is : total ≡ flowed one two
-    total-is =
+    pub total_is : total ≡ flowed one two
+    total_is =
         let m : ends ≡ front + (n - 1) * size = omega (arith, e, others) in
         ap (λ (i : ℕ). feed_bytes (working w) (take i piece)) m ∙ ap (feed_bytes (working w)) (take-add front ((n - 1) * size) piece)
         ∙ feed_append (working w) (take front piece) (take ((n - 1) * size) (drop front piece))
 
-    both-log : length one.log + length two.log ≤ 11102
-    both-log = omega (arith, logs, ap (λ (f : Flow). length f.log) total-is ∙ length-append one.log two.log)
+    both_log : length one.log + length two.log ≤ 11102
+    both_log = omega (arith, logs, ap (λ (f : Flow). length f.log) total_is ∙ length-append one.log two.log)
 
-    both-times : length one.times + length two.times ≤ entries
-    both-times = omega (arith, first_times (working w) piece ends, stamps, ap (λ (f : Flow). length f.times) total-is ∙ length-append one.times two.times)
+    both_times : length one.times + length two.times ≤ entries
+    both_times = omega (arith, first_times (working w) piece ends, stamps, ap (λ (f : Flow). length f.times) total_is ∙ length-append one.times two.times)
 
-    pub one-is : (v : List ℕ) → v ≡ take x.waiting (drop 1024 b) ++ take front piece → feed_bytes (working (work_of x.plan kinds (start_of x) table)) v ≡ one
-    one-is v z = rw (z, k, F.fed.table_is) (fed_whole w (take front piece) (rw (waiting_long b x work) work.part))
+    pub one_is : (v : List ℕ) → v ≡ take x.waiting (drop 1024 b) ++ take front piece → feed_bytes (working (work_of x.plan kinds (start_of x) table)) v ≡ one
+    one_is v z = rw (z, k, F.fed.table_is) (fed_whole w (take front piece) (rw (waiting_long b x work) work.part))
 
-    pub first-ready : Ready x.plan kinds (start_of x) table
-    first-ready = rw (k, F.fed.table_is) (record { fit = empty_fits w work.fit; sane = work.sane; bits = work.left })
+    pub first_ready : Ready x.plan kinds (start_of x) table
+    first_ready = rw (k, F.fed.table_is) (record { fit = empty_fits w work.fit; sane = work.sane; bits = work.left })
 
     pub first_small : (x.groups + 1) * size ≤ most_bytes
     first_small = omega (arith, F.size, filled_in, one_filled)
 
     module _ (g : Flow) (gs : g ≡ one) (l t : List ℕ) (el : length l ≡ room) (et : length t ≡ entries) where
-      pub first-takes : Takes g (start_of x) l t
-      first-takes = rw gs (record { bytes = omega (arith, both-log, el, F.fed.roomy); entries = omega (arith, both-times, et) })
+      pub first_takes : Takes g (start_of x) l t
+      first_takes = rw gs (record { bytes = omega (arith, both_log, el, F.fed.roomy); entries = omega (arith, both_times, et) })
 
       module _ {r : Along} {table' l' t' : List ℕ} (G : Goes x.plan kinds g (start_of x) r table' l l' t t') where
         abbrev next : Flow
@@ -205,42 +205,42 @@ module _ (b : List ℕ) (x : Stand) (table piece : List ℕ) (room entries n : �
         next_is = ap (λ (s : State). feed_bytes s (take ((n - 1) * size) (drop front piece))) (sym G.is ∙ ap (λ (f : Flow). f.state) gs)
 
         front_long : length (take front piece) ≡ front
-        front_long = length-take-le front piece front-in
+        front_long = length-take-le front piece front_in
 
-        pub next-ready : Ready x.plan kinds r table'
-        next-ready = record {
+        pub next_ready : Ready x.plan kinds r table'
+        next_ready = record {
           fit =
-              let small : count_in (working w) + length (take front piece) ≤ most_bytes = rw (front_long, count_is) (omega (arith, F.size, front-in)) in
+              let small : count_in (working w) + length (take front piece) ≤ most_bytes = rw (front_long, count_is) (omega (arith, F.size, front_in)) in
               ap fits (sym G.is ∙ ap (λ (f : Flow). f.state) gs) ∙ feed_fits (take front piece) (working w) work.fit small;
           sane = G.sane;
           bits = G.bits;
         }
 
-        pub next-count : count_in (reached x.plan kinds r table') + (n - 1) * size ≤ most_bytes
-        next-count =
+        pub next_count : count_in (reached x.plan kinds r table') + (n - 1) * size ≤ most_bytes
+        next_count =
             let c : count_in (reached x.plan kinds r table') ≡ count_in one.state = ap count_in (sym G.is ∙ ap (λ (f : Flow). f.state) gs) in
-            omega (arith, c, feed_count (working w) (take front piece), front_long, count_is, F.size, others-in)
+            omega (arith, c, feed_count (working w) (take front piece), front_long, count_is, F.size, others_in)
 
-        pub next-takes : length l' ≡ length l → length t' ≡ length t → Takes next r l' t'
-        next-takes fl ft =
+        pub next_takes : length l' ≡ length l → length t' ≡ length t → Takes next r l' t'
+        next_takes fl ft =
             let a : length g.log ≡ length one.log = ap (λ (f : Flow). length f.log) gs in
             let c : length g.times ≡ length one.times = ap (λ (f : Flow). length f.times) gs in
             let a' : length next.log ≡ length two.log = ap (λ (f : Flow). length f.log) next_is in
             let c' : length next.times ≡ length two.times = ap (λ (f : Flow). length f.times) next_is in
             record {
-              bytes = omega (arith, G.bytes, a, a', both-log, el, fl, F.fed.roomy);
-              entries = omega (arith, G.entries, c, c', both-times, et, ft);
+              bytes = omega (arith, G.bytes, a, a', both_log, el, fl, F.fed.roomy);
+              entries = omega (arith, G.entries, c, c', both_times, et, ft);
             }
 
-        pub through-goes : {r' : Along} {table'' l'' t'' : List ℕ} → Goes x.plan kinds next r r' table'' l' l'' t' t'' → Goes x.plan kinds total (start_of x) r' table'' l l'' t t''
-        through-goes {r'} {table''} {l''} {t''} H =
+        pub through_goes : {r' : Along} {table'' l'' t'' : List ℕ} → Goes x.plan kinds next r r' table'' l' l'' t' t'' → Goes x.plan kinds total (start_of x) r' table'' l l'' t t''
+        through_goes {r'} {table''} {l''} {t''} H =
             let a : length g.log ≡ length one.log = ap (λ (f : Flow). length f.log) gs in
             let c : length g.times ≡ length one.times = ap (λ (f : Flow). length f.times) gs in
             let a' : length next.log ≡ length two.log = ap (λ (f : Flow). length f.log) next_is in
             let c' : length next.times ≡ length two.times = ap (λ (f : Flow). length f.times) next_is in
-            let h : flowed g next ≡ total = ap₂ flowed gs next_is ∙ sym total-is in
+            let h : flowed g next ≡ total = ap₂ flowed gs next_is ∙ sym total_is in
             subst (λ (f : Flow). Goes x.plan kinds f (start_of x) r' table'' l l'' t t'') h
-            (goes_more x.plan kinds g next G H (omega (arith, a, a', both-log, el, F.fed.roomy)) (omega (arith, c, c', both-times, et)))
+            (goes_more x.plan kinds g next G H (omega (arith, a, a', both_log, el, F.fed.roomy)) (omega (arith, c, c', both_times, et)))
 
   -- ---- the end of the call
 
@@ -252,7 +252,7 @@ module _ (b : List ℕ) (x : Stand) (table piece : List ℕ) (room entries n : �
 
   module _ {r : Along} {table' l l' t t' : List ℕ} (el : length l ≡ room) (et : length t ≡ entries) (G : Goes x.plan (kinds_at b) total (start_of x) r table' l l' t t') where
     feeds : feeding b piece (length l) (length t) ≡ outcome_of (answered (feed_bytes (working w) piece))
-    feeds = rw (el, et) (fed-bytes b x work piece room entries F.fed.short F.fed.roomy (rw (sym F.whole) F.timed) F.size)
+    feeds = rw (el, et) (fed_bytes b x work piece room entries F.fed.short F.fed.roomy (rw (sym F.whole) F.timed) F.size)
 
     -- what was handed out, and the state s
     given : (s : State) (a : Answer) (b' : List ℕ) → feed_bytes (working w) piece ≡ record { log = total.log; times = total.times; state = s }
@@ -270,8 +270,8 @@ module _ (b : List ℕ) (x : Stand) (table piece : List ℕ) (room entries n : �
         the : State → ℕ → ℕ → Answer
         the s i j = record { number = number_of s; place = place_in s; second = second_in s; bytes = i; times = j }
 
-    total-fits : fits total.state ≡ true
-    total-fits =
+    total_fits : fits total.state ≡ true
+    total_fits =
         let m : length (take ends piece) ≡ ends = length-take-le ends piece ends_in in
         feed_fits (take ends piece) (working w) work.fit (rw (m, count_is) (omega (arith, F.size, ends_in)))
 
@@ -280,17 +280,17 @@ module _ (b : List ℕ) (x : Stand) (table piece : List ℕ) (room entries n : �
       fault : State
       fault = failed r.number r.place r.second
 
-      fault-is : total.state ≡ failed r.number r.place r.second
-      fault-is = G.is ∙ rw (ne_eqb r.number 0 z) refl
+      fault_is : total.state ≡ failed r.number r.place r.second
+      fault_is = G.is ∙ rw (ne_eqb r.number 0 z) refl
 
-      pub fault-fits : fits (failed r.number r.place r.second) ≡ true
-      fault-fits = ap fits (sym fault-is) ∙ total-fits
+      pub fault_fits : fits (failed r.number r.place r.second) ≡ true
+      fault_fits = ap fits (sym fault_is) ∙ total_fits
 
-      pub fault-given : (a : Answer) (b' : List ℕ) → a ≡ answer_at r.number r.place r.second r → b' ≡ state_bytes (failed r.number r.place r.second)
+      pub fault_given : (a : Answer) (b' : List ℕ) → a ≡ answer_at r.number r.place r.second r → b' ≡ state_bytes (failed r.number r.place r.second)
           → Leaves (feeding b piece (length l) (length t)) a b' l l' t t'
-      fault-given a b' f h =
+      fault_given a b' f h =
           given (failed r.number r.place r.second) a b'
-          (all_is ∙ ap (λ (s : State). flowed total (feed_bytes s rest)) fault-is ∙ ap (flowed total) (feed_failed r.number r.place r.second rest)
+          (all_is ∙ ap (λ (s : State). flowed total (feed_bytes s rest)) fault_is ∙ ap (flowed total) (feed_failed r.number r.place r.second rest)
           ∙ ap₂ (λ (u v : List ℕ). the u v) (append-nil total.log) (append-nil total.times))
           f h
         where
@@ -302,15 +302,15 @@ module _ (b : List ℕ) (x : Stand) (table piece : List ℕ) (room entries n : �
       abbrev then : Working
       then = keeps (work_of x.plan (kinds_at b) r table') rest
 
-      rest-long : length rest ≡ k
-      rest-long = length-drop ends piece ∙ sym ke
+      rest_long : length rest ≡ k
+      rest_long = length-drop ends piece ∙ sym ke
 
       work_is : total.state ≡ working (work_of x.plan (kinds_at b) r table')
       work_is = G.is ∙ reached_work x.plan (kinds_at b) r table' z
 
       whole_is : feed_bytes (working w) piece ≡ record { log = total.log; times = total.times; state = working then }
       whole_is =
-          let h : 0 + length rest < size = omega (arith, rest-long, ke, rest_few, ends_in, one_filled, work.part) in
+          let h : 0 + length rest < size = omega (arith, rest_long, ke, rest_few, ends_in, one_filled, work.part) in
           all_is ∙ ap (λ (s : State). flowed total (feed_bytes s rest)) work_is ∙ ap (flowed total) (feed_part (work_of x.plan (kinds_at b) r table') rest h)
           ∙ ap₂ (λ (u v : List ℕ). the u v) (append-nil total.log) (append-nil total.times)
         where
@@ -319,7 +319,7 @@ module _ (b : List ℕ) (x : Stand) (table piece : List ℕ) (room entries n : �
 
       stored : working_of (kinds_at b) (stand_at x.plan r k) table' rest ≡ then
       stored =
-          ap₂ (λ (v bits : List ℕ). the v bits) (take_all k rest (omega (arith, rest-long))) (bits_mod r.pen.bits r.pen.bits r.pen.last (le_refl r.pen.bits))
+          ap₂ (λ (v bits : List ℕ). the v bits) (take_all k rest (omega (arith, rest_long))) (bits_mod r.pen.bits r.pen.bits r.pen.last (le_refl r.pen.bits))
         where
           the : List ℕ → List ℕ → Working
           the v bits = record { plan = x.plan; kinds = kinds_at b; groups = r.groups; waiting = v; bits = bits; carry = then.carry }
@@ -331,30 +331,30 @@ module _ (b : List ℕ) (x : Stand) (table piece : List ℕ) (room entries n : �
             ∙ feed_fits piece (working w) work.fit (rw count_is F.size);
         held = G.sane;
         last = mod-lt r.pen.last (pow_pos r.pen.bits);
-        count = sym rest-long;
+        count = sym rest_long;
       }
 
-      pub fed-given : (a : Answer) (b' : List ℕ) → a ≡ answer_at 0 0 0 r → b' ≡ state_bytes (working (working_of (kinds_at b) (stand_at x.plan r k) table' rest))
+      pub fed_given : (a : Answer) (b' : List ℕ) → a ≡ answer_at 0 0 0 r → b' ≡ state_bytes (working (working_of (kinds_at b) (stand_at x.plan r k) table' rest))
           → Leaves (feeding b piece (length l) (length t)) a b' l l' t t'
-      fed-given a b' f h = given (working then) a b' whole_is f (h ∙ ap (λ (u : Working). state_bytes (working u)) stored)
+      fed_given a b' f h = given (working then) a b' whole_is f (h ∙ ap (λ (u : Working). state_bytes (working u)) stored)
 
     -- either way
     module _ (rest' : List ℕ) (re : rest' ≡ rest) where
-      stores-rest : Stores x.plan (kinds_at b) r table' rest
-      stores-rest = record {
-        fault = λ z. fault-fits z;
+      stores_rest : Stores x.plan (kinds_at b) r table' rest
+      stores_rest = record {
+        fault = λ z. fault_fits z;
         works = λ z. storable z (length rest) (length-drop ends piece);
       }
 
       pub stores : Stores x.plan (kinds_at b) r table' rest'
-      stores = subst (Stores x.plan (kinds_at b) r table') (sym re) stores-rest
+      stores = subst (Stores x.plan (kinds_at b) r table') (sym re) stores_rest
 
-      pub ends-given : (a : Answer) (b' : List ℕ) → a ≡ end_answer r → b' ≡ state_bytes (end_state x.plan (kinds_at b) r table' rest')
+      pub ends_given : (a : Answer) (b' : List ℕ) → a ≡ end_answer r → b' ≡ state_bytes (end_state x.plan (kinds_at b) r table' rest')
           → Leaves (feeding b piece (length l) (length t)) a b' l l' t t'
-      ends-given a b' f h = go (eqb r.number 0) refl f (h ∙ ap (λ (u : List ℕ). state_bytes (end_state x.plan (kinds_at b) r table' u)) re)
+      ends_given a b' f h = go (eqb r.number 0) refl f (h ∙ ap (λ (u : List ℕ). state_bytes (end_state x.plan (kinds_at b) r table' u)) re)
         where
           go : (q : Bool) → eqb r.number 0 ≡ q → a ≡ cond q (answer_at 0 0 0 r) (answer_at r.number r.place r.second r)
               → b' ≡ state_bytes (cond q (working (working_of (kinds_at b) (stand_at x.plan r (length rest)) table' rest)) (failed r.number r.place r.second))
               → Leaves (feeding b piece (length l) (length t)) a b' l l' t t'
-          go true e f h = fed-given (eqb-true r.number 0 e) (length rest) (length-drop ends piece) a b' f h
-          go false e f h = fault-given (eqb-false r.number 0 e) a b' f h
+          go true e f h = fed_given (eqb-true r.number 0 e) (length rest) (length-drop ends piece) a b' f h
+          go false e f h = fault_given (eqb-false r.number 0 e) a b' f h

@@ -135,16 +135,16 @@ module _ (p : Plan) (ks : List Kind) (a : Along) (table v : List ℕ) (flow : Fl
     rest = (pen_parts parts w.bytes (k.pen.bits % 8) k.pen.last w.small (mod-lt k.pen.bits (omega arith)) w.is).1
 
     -- so many bytes are whole
-    pub went-bytes : length flow.log ≡ k.pen.bits / 8
-    went-bytes = rw (flows, e) (ap (λ (u : List ℕ). length u) whole ∙ w.size)
+    pub went_bytes : length flow.log ≡ k.pen.bits / 8
+    went_bytes = rw (flows, e) (ap (λ (u : List ℕ). length u) whole ∙ w.size)
 
-    pub went-times : length flow.times ≡ times_needed p 1
-    went-times = rw (flows, e) (time_count p (group_time p v 0))
+    pub went_times : length flow.times ≡ times_needed p 1
+    went_times = rw (flows, e) (time_count p (group_time p v 0))
 
-    pub went-goes : {r : Along} (l l' t t' : List ℕ) → r ≡ gone_on p a k → Sane k.held → k.pen.bits / 8 + 7 ≤ length out
+    pub went_goes : {r : Along} (l l' t t' : List ℕ) → r ≡ gone_on p a k → Sane k.held → k.pen.bits / 8 + 7 ≤ length out
         → l' ≡ laid a.bytes (take (k.pen.bits / 8) out) l → t' ≡ laid a.times (cond p.frame_time (group_time p v 0 ∷ []) []) t
         → Goes p ks flow a r table' l l' t t'
-    went-goes l l' t t' z s h x y =
+    went_goes l l' t t' z s h x y =
         rw (flows, z, e) (record {
           is = ap (λ (bits : List ℕ). working (record { plan = p; kinds = ks; groups = a.groups + 1; waiting = []; bits = bits; carry = carried k.held k.since table' })) rest;
           sane = s;

@@ -104,8 +104,8 @@ module _ (p : Plan) (ks : List Kind) (a : Along) (table D : List ℕ) (n : ℕ) 
 
   -- before a group
   module _ (i : ℕ) {b : Along} {table' l l' t t' : List ℕ} (g : Goes p ks (up_to s D size i) a b table' l l' t t') where
-    pub turn-ready : fits s ≡ true → count_in s + n * size ≤ most_bytes → i ≤ n → n * size ≤ length D → Ready p ks b table'
-    turn-ready f c h r = record {
+    pub turn_ready : fits s ≡ true → count_in s + n * size ≤ most_bytes → i ≤ n → n * size ≤ length D → Ready p ks b table'
+    turn_ready f c h r = record {
       fit =
           let small : count_in s + length (take (i * size) D) ≤ most_bytes = rw (taken_long i h r) (omega (arith, c, mul-le-mul_right size h)) in
           ap fits (sym g.is) ∙ feed_fits (take (i * size) D) s f small;
@@ -113,13 +113,13 @@ module _ (p : Plan) (ks : List Kind) (a : Along) (table D : List ℕ) (n : ℕ) 
       bits = g.bits;
     }
 
-    pub turn-work : b.number ≡ 0 → (up_to s D size i).state ≡ working (work_of p ks b table')
-    turn-work z = g.is ∙ reached_work p ks b table' z
+    pub turn_work : b.number ≡ 0 → (up_to s D size i).state ≡ working (work_of p ks b table')
+    turn_work z = g.is ∙ reached_work p ks b table' z
 
     pub turn_small : count_in s + n * size ≤ most_bytes → i < n → n * size ≤ length D → b.number ≡ 0 → (b.groups + 1) * size ≤ most_bytes
     turn_small c h r z =
         let k : i + 1 ≤ n = omega (arith, h) in
-        let e : count_in (up_to s D size i).state ≡ b.groups * size + 0 = ap count_in (turn-work z) in
+        let e : count_in (up_to s D size i).state ≡ b.groups * size + 0 = ap count_in (turn_work z) in
         let u : count_in (up_to s D size i).state ≤ count_in s + i * size = rw (taken_long i (omega (arith, h)) r) at (feed_count s (take (i * size) D)) in
         omega (arith, c, e, u, mul-le-mul_right size k)
 
@@ -128,34 +128,34 @@ module _ (p : Plan) (ks : List Kind) (a : Along) (table D : List ℕ) (n : ℕ) 
       next = feed_bytes (working (work_of p ks b table')) v
 
       next_is : up_to s D size (i + 1) ≡ flowed (up_to s D size i) next
-      next_is = up_more s D size i ∙ ap₂ (λ (u : State) (w : List ℕ). flowed (up_to s D size i) (feed_bytes u w)) (turn-work z) (sym vs)
+      next_is = up_more s D size i ∙ ap₂ (λ (u : State) (w : List ℕ). flowed (up_to s D size i) (feed_bytes u w)) (turn_work z) (sym vs)
 
-      next-log : length (up_to s D size (i + 1)).log ≡ length (up_to s D size i).log + length next.log
-      next-log = ap (λ (f : Flow). length f.log) next_is ∙ length-append (up_to s D size i).log next.log
+      next_log : length (up_to s D size (i + 1)).log ≡ length (up_to s D size i).log + length next.log
+      next_log = ap (λ (f : Flow). length f.log) next_is ∙ length-append (up_to s D size i).log next.log
 
-      next-times : length (up_to s D size (i + 1)).times ≡ length (up_to s D size i).times + length next.times
-      next-times = ap (λ (f : Flow). length f.times) next_is ∙ length-append (up_to s D size i).times next.times
+      next_times : length (up_to s D size (i + 1)).times ≡ length (up_to s D size i).times + length next.times
+      next_times = ap (λ (f : Flow). length f.times) next_is ∙ length-append (up_to s D size i).times next.times
 
       -- there is room for the group
-      pub turn-takes : i < n → Takes (up_to s D size n) a l t → length l' ≡ length l → length t' ≡ length t → Takes next b l' t'
-      turn-takes h r el et =
+      pub turn_takes : i < n → Takes (up_to s D size n) a l t → length l' ≡ length l → length t' ≡ length t → Takes next b l' t'
+      turn_takes h r el et =
           let k : i + 1 ≤ n = omega (arith, h) in
           record {
-            bytes = omega (arith, g.bytes, next-log, up_log s D size (i + 1) n k, r.bytes, el);
-            entries = omega (arith, g.entries, next-times, up_times s D size (i + 1) n k, r.entries, et);
+            bytes = omega (arith, g.bytes, next_log, up_log s D size (i + 1) n k, r.bytes, el);
+            entries = omega (arith, g.entries, next_times, up_times s D size (i + 1) n k, r.entries, et);
           }
 
       -- and it is behind us
-      pub turn-goes : {r : Along} {table'' l'' t'' : List ℕ} → i < n → Takes (up_to s D size n) a l t → Goes p ks next b r table'' l' l'' t' t''
+      pub turn_goes : {r : Along} {table'' l'' t'' : List ℕ} → i < n → Takes (up_to s D size n) a l t → Goes p ks next b r table'' l' l'' t' t''
           → Goes p ks (up_to s D size (i + 1)) a r table'' l l'' t t''
-      turn-goes {r} {table''} {l''} {t''} h room x =
+      turn_goes {r} {table''} {l''} {t''} h room x =
           let k : i + 1 ≤ n = omega (arith, h) in
           subst (λ (f : Flow). Goes p ks f a r table'' l l'' t t'') (sym next_is)
-          (goes_more p ks (up_to s D size i) next g x (omega (arith, next-log, up_log s D size (i + 1) n k, room.bytes)) (omega (arith, next-times, up_times s D size (i + 1) n k, room.entries)))
+          (goes_more p ks (up_to s D size i) next g x (omega (arith, next_log, up_log s D size (i + 1) n k, room.bytes)) (omega (arith, next_times, up_times s D size (i + 1) n k, room.entries)))
 
     -- a fault was met
-    pub turn-stops : i ≤ n → (b.number ≡ 0 → ⊥) → Goes p ks (up_to s D size n) a b table' l l' t t'
-    turn-stops h z =
+    pub turn_stops : i ≤ n → (b.number ≡ 0 → ⊥) → Goes p ks (up_to s D size n) a b table' l l' t t'
+    turn_stops h z =
         let e : (up_to s D size i).state ≡ failed b.number b.place b.second = g.is ∙ rw (ne_eqb b.number 0 z) refl in
         subst (λ (f : Flow). Goes p ks f a b table' l l' t t') (up_failed s D size i n b.number b.place b.second h e) g
 

@@ -46,8 +46,8 @@ module _ (k place second : ℕ) where
     unfolding fits
     near h = rw (is_number low high not, lt-ltb (3 * place) most_bytes (omega (arith, h))) refl
 
-    pub two-places : place ≤ 366503875925 → k ≡ 13 → fits (failed k place second) ≡ leb second 366503875925
-    two-places h e = near h ∙ rw (eq-eqb k 13 e) (go (dec_lt second 366503875926))
+    pub two_places : place ≤ 366503875925 → k ≡ 13 → fits (failed k place second) ≡ leb second 366503875925
+    two_places h e = near h ∙ rw (eq-eqb k 13 e) (go (dec_lt second 366503875926))
       where
         go : Dec (second < 366503875926) → ltb (3 * second) most_bytes ≡ leb second 366503875925
         go (yes l) = rw (lt-ltb (3 * second) most_bytes (omega (arith, l)), le-leb second 366503875925 (omega (arith, l))) refl

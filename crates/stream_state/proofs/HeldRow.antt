@@ -65,12 +65,12 @@ module _ (ks : List Kind) (sixteen : length ks ≡ 16) (f : ℕ → ℕ) where
   pub fed_again : f 15 ≤ 4 → are_zeros (list f (16 + f 15) (20 - (16 + f 15))) ≡ true → again_from (again ks Nothing (list f 16 (f 15))) ≡ again_of ks row
   fed_again h z = go (again ks Nothing (list f 16 (f 15))) refl
     where
-      isFed : Fed → Bool
-      isFed bad = false
-      isFed (fed is k) = true
+      is_fed : Fed → Bool
+      is_fed bad = false
+      is_fed (fed is k) = true
 
       go : (r : Fed) → again ks Nothing (list f 16 (f 15)) ≡ r → again_from r ≡ again_of ks row
-      go bad e = fails (λ t. clash (ap isFed (sym e ∙ ap (again ks Nothing) (sym (words h)) ∙ (passing ks sixteen row t).1)))
+      go bad e = fails (λ t. clash (ap is_fed (sym e ∙ ap (again ks Nothing) (sym (words h)) ∙ (passing ks sixteen row t).1)))
       go (fed is k) e =
           let n : get_or row 0 0 ≤ 4 = omega (arith, head.0, h) in
           let p = passes_again ks row is k (length_list f 15 5) n (ap (again ks Nothing) (words h) ∙ e) (ap are_zeros (rest h) ∙ z) in

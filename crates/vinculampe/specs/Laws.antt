@@ -41,12 +41,12 @@ ragged_makes : {A : Type 0} (p : Plan) (ks : List Kind) (log c : List ℕ) → r
 unfolding ragged
 ragged_makes {A} p ks log c e = go (legal p ks) (parsed (on_plan ks) log) e
   where
-    open-makes : (f : Fault) (q : ℕ) → unless_open f (refused 5 q) ≡ made c → A
-    open-makes none q z = no_capture z
-    open-makes (found m k) q z = no_capture z
+    open_makes : (f : Fault) (q : ℕ) → unless_open f (refused 5 q) ≡ made c → A
+    open_makes none q z = no_capture z
+    open_makes (found m k) q z = no_capture z
 
     go : (b : Bool) (r : Parsed) → cond b (ragged_parsed p r) (refused 1 0) ≡ made c → A
-    go true (items is) z = open-makes (open_fault (bit_of is) is) (times_needed p (groups_for p (length (flat_map item_words is)))) z
+    go true (items is) z = open_makes (open_fault (bit_of is) is) (times_needed p (groups_for p (length (flat_map item_words is)))) z
     go true (fault n q) z = no_capture z
     go false r z = no_capture z
 
@@ -56,11 +56,11 @@ unfolding ragged
 ragged_refused p ks log n q e = go (legal p ks) (parsed (on_plan ks) log) refl e
   where
     go : (b : Bool) (r : Parsed) → parsed (on_plan ks) log ≡ r → cond b (ragged_parsed p r) (refused 1 0) ≡ refused n q → ComposingNumber n
-    go true (items is) h z = open-refused (eqb (first_open is) (length is)) (bit_of is (first_open is)) (times_needed p (groups_for p (length (flat_map item_words is)))) z
+    go true (items is) h z = open_refused (eqb (first_open is) (length is)) (bit_of is (first_open is)) (times_needed p (groups_for p (length (flat_map item_words is)))) z
       where
-        open-refused : (b : Bool) (k l : ℕ) → unless_open (unless b 15 k) (refused 5 l) ≡ refused n q → ComposingNumber n
-        open-refused true k l z = let five : ◌≡◌ {A = ℕ} 5 n = cc in (omega arith, inl (omega arith))
-        open-refused false k l z = let fifteen : ◌≡◌ {A = ℕ} 15 n = cc in (omega arith, inr (sym fifteen))
+        open_refused : (b : Bool) (k l : ℕ) → unless_open (unless b 15 k) (refused 5 l) ≡ refused n q → ComposingNumber n
+        open_refused true k l z = let five : ◌≡◌ {A = ℕ} 5 n = cc in (omega arith, inl (omega arith))
+        open_refused false k l z = let fifteen : ◌≡◌ {A = ℕ} 15 n = cc in (omega arith, inr (sym fifteen))
     go true (fault m k) h z =
         let same : m ≡ n = cc in
         let l = log_refused ks log m k h in

@@ -1,4 +1,4 @@
-use Rattle.compose.proofs.Answered.{times_wrong, time-late, room-short, all_made}
+use Rattle.compose.proofs.Answered.{times_wrong, time_late, room_short, all_made}
 use Rattle.compose.proofs.Laws.{capture_length, small, timely}
 use Rattle.format.specs.Plan.{group_words}
 use Rattle.format.specs.Compose.{groups_for}
@@ -51,7 +51,7 @@ returns-then-late-times c =
     c.times_needed-needed.ensures ∙ ap (λ (k : ℕ). cond a.plan.frame_time k 0) groups in
     let number = c.if-times-needed.false ∙ need in
     let late = c.first_late-late.ensures in
-    rw (time-late a.plan ts (length a.out.now) ws number (λ z. c.if-late-times.true (late ∙ z)))
+    rw (time_late a.plan ts (length a.out.now) ws number (λ z. c.if-late-times.true (late ∙ z)))
     (c.refusal-then-late-times.ensures ∙ ap (λ (q : ℕ). refusal 5 q 0) late, refl)
 
 group_words-requires : tie.Need-group_words-requires
@@ -87,7 +87,7 @@ returns-then-out-bytes c =
     let size = sym c.first_late-late.ensures ∙ c.if-late-times.false in
     let bytes : c.groups_for-groups.result * (3 * c.group_words.result) ≡ groups_for a.plan (length ws) * (3 * group_words a.plan) =
     ap₂ (λ (g w : ℕ). g * (3 * w)) groups c.group_words.ensures.0 in
-    rw (room-short a.plan ts (length a.out.now) ws number size (rw bytes at c.if-out-bytes.true))
+    rw (room_short a.plan ts (length a.out.now) ws number size (rw bytes at c.if-out-bytes.true))
     (c.refusal-then-out-bytes.ensures ∙ ap (λ (q : ℕ). refusal 6 q 0) bytes, refl)
 
 write_groups-requires : tie.Need-write_groups-requires

@@ -1,7 +1,7 @@
 use mathlib.Core.Path.{refl, sym, ◌∙◌}
 use lib.ListN.{length}
 use Rattle.from_c.specs.Laws.{sixteen}
-use Rattle.compose_from_c.proofs.NamedKinds.{composed-named, composed_unnamed}
+use Rattle.compose_from_c.proofs.NamedKinds.{composed_named, composed_unnamed}
 use borrow.Author.Rules.{rules}
 use Rattle.compose_from_c.proofs.compose_from.Statement.{statement}
 use Rattle.compose_from_c.proofs.compose_from.Tie as tie
@@ -31,7 +31,7 @@ returns-then-named c =
     let a = t.args in
     let e = sym t.named.ensures ∙ t.if-named.true in
     rw
-    (composed-named a.words a.tracks a.frame_time a.crc a.parity a.crc_label a.fill_bus a.kinds.now p.plan_from-plan.result k.kinds_from.result e
+    (composed_named a.words a.tracks a.frame_time a.crc a.parity a.crc_label a.fill_bus a.kinds.now p.plan_from-plan.result k.kinds_from.result e
     p.plan_from-plan.ensures k.kinds_from.ensures a.log.now a.times.now (length a.out.now))
     c.compose_bytes.ensures
 

@@ -1,7 +1,7 @@
 use native.Mathlib.Omega.{arith}
 use mathlib.Core.Path.{refl, sym, ◌∙◌}
 use Rattle.data_items.proofs.Words.{tag_fits}
-use Rattle.data_items.proofs.Arms.{arinc-bare, arinc-marked, arinc-says, arinc_tagged, here_none, low_at, room_behind, top_low}
+use Rattle.data_items.proofs.Arms.{arinc_bare, arinc_marked, arinc_says, arinc_tagged, here_none, low_at, room_behind, top_low}
 use borrow.Author.Rules.{rules}
 use Rattle.data_items.proofs.arinc_at.Statement.{statement}
 use Rattle.data_items.proofs.arinc_at.Tie as tie
@@ -116,13 +116,13 @@ syllable-high-requires : tie.Need-syllable-high-requires
 syllable-high-requires c κs = (omega (arith, top_low (start-else1 c).requires.0), (start-else1 c).requires.1, omega arith, (start-else1 c).requires.2, omega arith)
 
 overflow_mul-base : tie.Need-overflow_mul-base
-overflow_mul-base c = omega (arith, arinc-marked (start-syllable c).requires.0 (start-syllable c).requires.1 (start-syllable c).requires.2 c.syllable-high.ensures refl)
+overflow_mul-base c = omega (arith, arinc_marked (start-syllable c).requires.0 (start-syllable c).requires.1 (start-syllable c).requires.2 c.syllable-high.ensures refl)
 
 overflow_cast-base : tie.Need-overflow_cast-base
 overflow_cast-base c = search rules
 
 overflow_add-base : tie.Need-overflow_add-base
-overflow_add-base c = omega (arith, arinc-marked (start-syllable c).requires.0 (start-syllable c).requires.1 (start-syllable c).requires.2 c.syllable-high.ensures refl)
+overflow_add-base c = omega (arith, arinc_marked (start-syllable c).requires.0 (start-syllable c).requires.1 (start-syllable c).requires.2 c.syllable-high.ensures refl)
 
 offset_bounds-row-slot : tie.Need-offset_bounds-row-slot
 offset_bounds-row-slot c = omega (arith, (start-syllable c).requires.0.five)
@@ -139,7 +139,7 @@ is_tag-requires c κs = ((start-then2 c).requires.0.all, (start-then2 c).require
 overflow_add-base-then-is_tag : tie.Need-overflow_add-base-then-is_tag
 overflow_add-base-then-is_tag c = omega (
   arith,
-  arinc-marked (start-then3 c.before).requires.0 (start-then3 c.before).requires.1 (start-then3 c.before).requires.2
+  arinc_marked (start-then3 c.before).requires.0 (start-then3 c.before).requires.1 (start-then3 c.before).requires.2
       (before-top_of2 (before-then2 (before-is_tag (before-then3 c.before)))).syllable-high.ensures refl,
 )
 
@@ -147,7 +147,7 @@ put_in-marked-requires : tie.Need-put_in-marked-requires
 put_in-marked-requires c κs = (
   omega (arith, (start-then3 c.before).requires.0.few),
   omega arith,
-  arinc-marked (start-then3 c.before).requires.0
+  arinc_marked (start-then3 c.before).requires.0
       (start-then3 c.before).requires.1 (start-then3 c.before).requires.2 (before-top_of2
       (before-then2 (before-is_tag (before-then3 c.before)))).syllable-high.ensures refl,
   omega (arith, (start-then3 c.before).requires.0.room),
@@ -158,7 +158,7 @@ tag_of-requires c κs = omega (arith, (start-put_in c.before.before.before).requ
 
 put_in-tagged-requires : tie.Need-put_in-tagged-requires
 put_in-tagged-requires c κs = let r = room_behind (start-tag_of c).args.from.pen (start-tag_of c).args.out.now (omega arith)
-    (arinc-marked (start-tag_of c).requires.0 (start-tag_of c).requires.1 (start-tag_of c).requires.2
+    (arinc_marked (start-tag_of c).requires.0 (start-tag_of c).requires.1 (start-tag_of c).requires.2
     (before-top_of2 (before-then2 (before-is_tag (before-then3 (before-put_in (before-tag_of c)))))).syllable-high.ensures refl) (before-tag_of c).put_in-marked.ensures
     (start-tag_of c).requires.0.few (start-tag_of c).requires.0.room in (r.0, omega arith, rw c.tag_of.ensures (tag_fits _ _ _), r.1)
 
@@ -194,7 +194,7 @@ put_in-bare-requires : tie.Need-put_in-bare-requires
 put_in-bare-requires c κs = (
   omega (arith, (start-else4 c.before).requires.0.few),
   omega arith,
-  (arinc-says (start-else4 c.before).requires.0
+  (arinc_says (start-else4 c.before).requires.0
       (start-else4 c.before).requires.1 (start-else4 c.before).requires.2 (before-top_of2
       (before-else2 (before-is_fill (before-else4 c.before)))).syllable-high.ensures refl).fits,
   omega (arith, (start-else4 c.before).requires.0.room),
@@ -204,7 +204,7 @@ shape_of-out : tie.Need-shape_of-out
 shape_of-out c = search rules
 
 returns : tie.Need-returns
-returns c = λ ks k. arinc-bare (start-put_in3 c.before.before).requires.0 (start-put_in3 c.before.before).requires.1
+returns c = λ ks k. arinc_bare (start-put_in3 c.before.before).requires.0 (start-put_in3 c.before.before).requires.1
     (start-put_in3 c.before.before).requires.2 (before-top_of2 (before-else2
     (before-is_fill (before-else4 (before-put_in3 c.before.before))))).syllable-high.ensures ks k refl
     (before-else1 (before-syllable (before-top_of2 (before-else2 (before-is_fill (before-else4 (before-put_in3 c.before.before))))))).top_of.ensures.0

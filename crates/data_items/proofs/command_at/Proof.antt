@@ -1,7 +1,7 @@
 use native.Mathlib.Omega.{arith}
 use mathlib.Core.Path.{sym, ◌∙◌}
 use Rattle.data_items.proofs.Words.{tag_fits}
-use Rattle.data_items.proofs.Arms.{command-bare, command-marked, command-says, command-tagged, here_none, low_at, room_behind, top_low}
+use Rattle.data_items.proofs.Arms.{command_bare, command_marked, command_says, command_tagged, here_none, low_at, room_behind, top_low}
 use borrow.Author.Rules.{rules}
 use Rattle.data_items.proofs.command_at.Statement.{statement}
 use Rattle.data_items.proofs.command_at.Tie as tie
@@ -102,7 +102,7 @@ is_tag-requires c κs = ((start-then1 c).requires.0.all, (start-then1 c).require
 overflow_add-base : tie.Need-overflow_add-base
 overflow_add-base c = omega (
   arith,
-  command-marked (start-then2 c.before).requires.0 (start-then2 c.before).requires.1 (start-then2 c.before).requires.2
+  command_marked (start-then2 c.before).requires.0 (start-then2 c.before).requires.1 (start-then2 c.before).requires.2
       (before-top_of (before-then1 (before-is_tag (before-then2 c.before)))).command-base.ensures,
 )
 
@@ -110,7 +110,7 @@ put_in-marked-requires : tie.Need-put_in-marked-requires
 put_in-marked-requires c κs = (
   omega (arith, (start-then2 c.before).requires.0.few),
   omega arith,
-  command-marked (start-then2 c.before).requires.0
+  command_marked (start-then2 c.before).requires.0
       (start-then2 c.before).requires.1 (start-then2 c.before).requires.2 (before-top_of
       (before-then1 (before-is_tag (before-then2 c.before)))).command-base.ensures,
   omega (arith, (start-then2 c.before).requires.0.room),
@@ -121,7 +121,7 @@ tag_of-requires c κs = omega (arith, (start-put_in c.before.before.before).requ
 
 put_in-tagged-requires : tie.Need-put_in-tagged-requires
 put_in-tagged-requires c κs = let r = room_behind (start-tag_of c).args.from.pen (start-tag_of c).args.out.now (omega arith)
-    (command-marked (start-tag_of c).requires.0 (start-tag_of c).requires.1 (start-tag_of c).requires.2
+    (command_marked (start-tag_of c).requires.0 (start-tag_of c).requires.1 (start-tag_of c).requires.2
     (before-top_of (before-then1 (before-is_tag (before-then2 (before-put_in (before-tag_of c)))))).command-base.ensures) (before-tag_of c).put_in-marked.ensures
     (start-tag_of c).requires.0.few (start-tag_of c).requires.0.room in (r.0, omega arith, rw c.tag_of.ensures (tag_fits _ _ _), r.1)
 
@@ -132,7 +132,7 @@ shape_of-out-then-is_tag : tie.Need-shape_of-out-then-is_tag
 shape_of-out-then-is_tag c = search rules
 
 returns-then-is_tag : tie.Need-returns-then-is_tag
-returns-then-is_tag c = λ ks k. command-tagged (start-put_in2 c.before.before).requires.0 (start-put_in2 c.before.before).requires.1
+returns-then-is_tag c = λ ks k. command_tagged (start-put_in2 c.before.before).requires.0 (start-put_in2 c.before.before).requires.1
     (start-put_in2 c.before.before).requires.2 (before-top_of (before-then1
     (before-is_tag (before-then2 (before-put_in (before-tag_of (before-put_in2 c.before.before))))))).command-base.ensures ks k
     (before-then1 (before-is_tag (before-then2 (before-put_in (before-tag_of (before-put_in2 c.before.before)))))).top_of.ensures.0
@@ -154,7 +154,7 @@ put_in-bare-requires : tie.Need-put_in-bare-requires
 put_in-bare-requires c κs = (
   omega (arith, (start-else3 c.before).requires.0.few),
   omega arith,
-  (command-says (start-else3 c.before).requires.0
+  (command_says (start-else3 c.before).requires.0
       (start-else3 c.before).requires.1 (start-else3 c.before).requires.2 (before-top_of
       (before-else1 (before-is_fill (before-else3 c.before)))).command-base.ensures).fits,
   omega (arith, (start-else3 c.before).requires.0.room),
@@ -164,7 +164,7 @@ shape_of-out : tie.Need-shape_of-out
 shape_of-out c = search rules
 
 returns : tie.Need-returns
-returns c = λ ks k. command-bare (start-put_in3 c.before.before).requires.0 (start-put_in3 c.before.before).requires.1
+returns c = λ ks k. command_bare (start-put_in3 c.before.before).requires.0 (start-put_in3 c.before.before).requires.1
     (start-put_in3 c.before.before).requires.2 (before-top_of (before-else1 (before-is_fill (before-else3 (before-put_in3 c.before.before))))).command-base.ensures
     ks k (before-else1 (before-is_fill (before-else3 (before-put_in3 c.before.before)))).top_of.ensures.0
     (before-is_fill (before-else3 (before-put_in3 c.before.before))).if-top_of-awaits.false

@@ -1,5 +1,5 @@
 use native.Mathlib.Omega.{arith}
-use Rattle.data_items.proofs.Words.{tag_first, tag-second, tag-third}
+use Rattle.data_items.proofs.Words.{tag_first, tag_second, tag_third}
 use Rattle.data_items.specs.Row.{parity_of}
 use borrow.Author.Rules.{rules}
 use Rattle.data_items.proofs.is_tag.Statement.{statement}
@@ -53,7 +53,7 @@ overflow_add-top_of-2 : tie.Need-overflow_add-top_of-2
 overflow_add-top_of-2 c = search rules
 
 returns-then-top_of-awaits-2 : tie.Need-returns-then-top_of-awaits-2
-returns-then-top_of-awaits-2 c = tag-second (parity_of (start-top_of2 c.before).args.tops) (start-top_of2 c.before).args.row.now (start-top_of2 c.before).args.slot
+returns-then-top_of-awaits-2 c = tag_second (parity_of (start-top_of2 c.before).args.tops) (start-top_of2 c.before).args.row.now (start-top_of2 c.before).args.slot
     (start-top_of2 c.before).args.awaits (before-top_of2 c.before).top_of.ensures.0 c.if-top_of-awaits.false
     c.top_of-2.ensures.0 c.if-top_of-awaits-2.true
 
@@ -67,7 +67,7 @@ bounds-row-slot-3 : tie.Need-bounds-row-slot-3
 bounds-row-slot-3 c = search rules
 
 returns : tie.Need-returns
-returns c = tag-third (parity_of (start-top_of2 c.before.before).args.tops) (start-top_of2 c.before.before).args.row.now
+returns c = tag_third (parity_of (start-top_of2 c.before.before).args.tops) (start-top_of2 c.before.before).args.row.now
     (start-top_of2 c.before.before).args.slot (start-top_of2 c.before.before).args.awaits (before-top_of2 c.before.before).top_of.ensures.0
     c.if-top_of-awaits.false c.top_of-2.ensures.0 c.if-top_of-awaits-2.false
 

@@ -1,6 +1,6 @@
 use native.Mathlib.Omega.{arith}
 use mathlib.Core.Path.{sym, ◌∙◌}
-use Rattle.data_items.proofs.Arms.{here_none, notice-fits, notice-taken, top_low}
+use Rattle.data_items.proofs.Arms.{here_none, notice_fits, notice_taken, top_low}
 use borrow.Author.Rules.{rules}
 use Rattle.data_items.proofs.notice_at.Statement.{statement}
 use Rattle.data_items.proofs.notice_at.Tie as tie
@@ -36,7 +36,7 @@ put_in-put-requires : tie.Need-put_in-put-requires
 put_in-put-requires c κs = (
   omega (arith, (start-notice c.before).requires.0.few),
   omega arith,
-  notice-fits (start-notice c.before).requires.0
+  notice_fits (start-notice c.before).requires.0
       (start-notice c.before).requires.1 (sym (before-then1 (before-notice c.before)).is_pair.ensures ∙ (before-notice c.before).if-is_pair.true)
       c.notice-item.ensures,
   omega (arith, (start-notice c.before).requires.0.room),
@@ -49,7 +49,7 @@ shape_of-out-then-is_pair : tie.Need-shape_of-out-then-is_pair
 shape_of-out-then-is_pair c = search rules
 
 returns-then-is_pair : tie.Need-returns-then-is_pair
-returns-then-is_pair c = λ ks k. notice-taken (start-put_in c.before.before.before).requires.0 (start-put_in c.before.before.before).requires.1
+returns-then-is_pair c = λ ks k. notice_taken (start-put_in c.before.before.before).requires.0 (start-put_in c.before.before.before).requires.1
     (sym (before-then1 (before-notice (before-put_in c.before.before.before))).is_pair.ensures ∙
     (before-notice (before-put_in c.before.before.before)).if-is_pair.true) (before-put_in c.before.before.before).notice-item.ensures ks k
     c.put_in-put.ensures

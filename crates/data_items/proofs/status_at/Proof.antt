@@ -1,5 +1,5 @@
 use native.Mathlib.Omega.{arith}
-use Rattle.data_items.proofs.Arms.{here_none, low_at, status-says, status-taken}
+use Rattle.data_items.proofs.Arms.{here_none, low_at, status_says, status_taken}
 use borrow.Author.Rules.{rules}
 use Rattle.data_items.proofs.status_at.Statement.{statement}
 use Rattle.data_items.proofs.status_at.Tie as tie
@@ -98,7 +98,7 @@ put_in-put-requires : tie.Need-put_in-put-requires
 put_in-put-requires c κs = (
   omega (arith, (start-else4 c.before).requires.0.few),
   omega arith,
-  (status-says (start-else4 c.before).requires.0
+  (status_says (start-else4 c.before).requires.0
       (start-else4 c.before).requires.1 (omega (arith, (before-top_of (before-else2 (before-else3 (before-else4 c.before)))).if-response-ge10000.false))
       (before-else2 (before-else3 (before-else4 c.before))).top_of-then.ensures.0 (before-else3 (before-else4 c.before)).if-then-top.false
       (before-else4 c.before).if-then-lt8.false c.if-then-ne2.false).fits,
@@ -112,7 +112,7 @@ shape_of-out : tie.Need-shape_of-out
 shape_of-out c = search rules
 
 returns : tie.Need-returns
-returns c = λ ks k. status-taken (start-put_in c.before.before.before).requires.0 (start-put_in c.before.before.before).requires.1
+returns c = λ ks k. status_taken (start-put_in c.before.before.before).requires.0 (start-put_in c.before.before.before).requires.1
     (omega (arith, (before-top_of (before-else2 (before-else3 (before-else4 (before-put_in c.before.before.before))))).if-response-ge10000.false))
     (before-else2 (before-else3 (before-else4 (before-put_in c.before.before.before)))).top_of-then.ensures.0
     (before-else3 (before-else4 (before-put_in c.before.before.before))).if-then-top.false (before-else4 (before-put_in c.before.before.before)).if-then-lt8.false

@@ -4,7 +4,7 @@ use Prim.Native.Nat.{◌+◌, ◌*◌, ◌-◌, ◌^◌, ◌≤◌, ◌<◌}
 use lib.ListN.{length, get_or}
 use Rattle.data_items.specs.Taken.{Took}
 use Rattle.data_items.proofs.Words.{parity_back, tops_all}
-use Rattle.data_items.proofs.Spot.{Spot, opening_low, opens_here, single-second, single-taken, two_taken}
+use Rattle.data_items.proofs.Spot.{Spot, opening_low, opens_here, single_second, single_taken, two_taken}
 use Rattle.data_items.proofs.Taking.{less_or_same, took_none, took_roomy, took_still, took_then}
 use borrow.Author.Rules.{rules}
 use Rattle.data_items.proofs.take.Statement.{statement}
@@ -229,13 +229,13 @@ single-two-requires c κs = (
 put_two-pen-requires : tie.Need-put_two-pen-requires invariant-loop-slot decreases-loop-slot
 put_two-pen-requires c κs = let r = room (turn-single2 c.before) in (
   r.0,
-  single-second
+  single_second
       (spot (before-opening (before-then1 (before-single (before-then2 (before-top_of2 (before-opening2 (before-then3 (before-single2 c.before)))))))))
       (entry (turn-single2 c.before)).args.kinds (before-then1 (before-single
       (before-then2 (before-top_of2 (before-opening2 (before-then3 (before-single2 c.before))))))).opening-opening.ensures
       (before-single (before-then2 (before-top_of2 (before-opening2 (before-then3 (before-single2 c.before)))))).if-opening-ge8.true
       (before-then2 (before-top_of2 (before-opening2 (before-then3 (before-single2 c.before))))).single-one.ensures,
-  single-second
+  single_second
       (spot_then (before-opening2 (before-then3 (before-single2 c.before)))) (entry (turn-single2 c.before)).args.kinds
       (before-then3 (before-single2 c.before)).opening-opening_then.ensures (before-single2 c.before).if-opening_then-ge8.true c.single-two.ensures,
   omega
@@ -262,7 +262,7 @@ loop-slot-preserved-then-opening_then-ge8 c = took_then (before-in (turn-put_two
     (before-put_two c.before.before).single-two.ensures c.put_two-pen.ensures) (omega arith)
 
 put_in-pen-requires : tie.Need-put_in-pen-requires invariant-loop-slot decreases-loop-slot
-put_in-pen-requires c κs = let r = room (turn-single c.before.before) in let s = single-second (spot (before-opening (before-then1 (before-single c.before.before))))
+put_in-pen-requires c κs = let r = room (turn-single c.before.before) in let s = single_second (spot (before-opening (before-then1 (before-single c.before.before))))
     (entry (turn-single c.before.before)).args.kinds (before-then1 (before-single c.before.before)).opening-opening.ensures
     (before-single c.before.before).if-opening-ge8.true c.single-one.ensures in
     (omega (arith, r.0), omega (arith, s.short), s.fits, omega (arith, r.1, (turn-single c.before.before).loop-slot-test.true))
@@ -275,7 +275,7 @@ loop-slot-smaller-then-opening-ge8 c = omega (arith, (turn-put_in c.before.befor
 
 loop-slot-preserved-then-opening-ge8 : tie.Need-loop-slot-preserved-then-opening-ge8 invariant-loop-slot decreases-loop-slot
 loop-slot-preserved-then-opening-ge8 c = took_then (before-in (turn-put_in c.before.before)).loop-slot.invariant
-    (single-taken (spot (before-opening (before-then1 (before-single (before-put_in c.before.before))))) (entry (turn-put_in c.before.before)).args.kinds
+    (single_taken (spot (before-opening (before-then1 (before-single (before-put_in c.before.before))))) (entry (turn-put_in c.before.before)).args.kinds
     (before-then1 (before-single (before-put_in c.before.before))).opening-opening.ensures (before-single (before-put_in c.before.before)).if-opening-ge8.true
     (before-put_in c.before.before).single-one.ensures c.put_in-pen.ensures) (omega arith)
 

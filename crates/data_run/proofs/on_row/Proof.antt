@@ -2,7 +2,7 @@ use native.Mathlib.Omega.{arith}
 use mathlib.Core.Path.{sym, ◌∙◌}
 use Prim.Native.Nat.{◌-◌, ◌≤◌}
 use lib.ListN.{length}
-use Rattle.data_run.proofs.Rows.{Passed, passed_all, passed_bad, passed-fill, passed_items, passed_more, passed_none, passed_still}
+use Rattle.data_run.proofs.Rows.{Passed, passed_all, passed_bad, passed_fill, passed_items, passed_more, passed_none, passed_still}
 use Rattle.data_run.proofs.on_row.Statement.{statement}
 use Rattle.data_run.proofs.on_row.Tie as tie
 
@@ -81,7 +81,7 @@ loop-i-smaller-then-i-past c = omega (arith, c.if-i-past.true, (before-then1 c).
 loop-i-preserved-then-i-past : tie.Need-loop-i-preserved-then-i-past invariant-loop-i decreases-loop-i
 loop-i-preserved-then-i-past c = (
   (before-then1 c).past_fill-past.ensures.room,
-  passed-fill _ _ _ (entry (turn-then1 c)).requires.4 _ _ _ _ (entry (turn-then1 c)).requires.1 (before-in (turn-then1 c)).loop-i.i _ (before-in (turn-then1 c)).loop-i.invariant.1
+  passed_fill _ _ _ (entry (turn-then1 c)).requires.4 _ _ _ _ (entry (turn-then1 c)).requires.1 (before-in (turn-then1 c)).loop-i.i _ (before-in (turn-then1 c)).loop-i.invariant.1
       (before-then1 c).past_fill-past.ensures,
 )
 

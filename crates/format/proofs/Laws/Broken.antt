@@ -305,10 +305,10 @@ module _ (ks : List Kind) (parity : Bool) where
       Next = All Fits (said parity ss) → (seen : List ℕ) (P : List Part) (done : List Item) (h : Held) (p : ℕ) → Seen ks seen P done h p
           → BrokenBy ks (seen ++ places_of ss) (P ++ said parity ss) (run ks parity ss h p)
 
-      fed-word : All Fits (said parity ss) → Next → (f : Fed) → Good ks (held_parts h ++ x ∷ []) f → Went h f
+      fed_word : All Fits (said parity ss) → Next → (f : Fed) → Good ks (held_parts h ++ x ∷ []) f → Went h f
           → BrokenBy ks (seen ++ s.0 ∷ places_of ss) (P ++ x ∷ said parity ss) (join f p (begun h p s.0) s.0 (λ h' p'. run ks parity ss h' p'))
-      fed-word zs ih bad g w = bad_here seen P done h p s.0 (places_of ss) x (said parity ss) k
-      fed-word zs ih (fed js h') g w =
+      fed_word zs ih bad g w = bad_here seen P done h p s.0 (places_of ss) x (said parity ss) k
+      fed_word zs ih (fed js h') g w =
           more_broken ks _ _ js (run ks parity ss h' (since h' p s.0))
           (rw (append_snoc seen s.0 (places_of ss), append_snoc P x (said parity ss))
           at (ih zs (seen ++ s.0 ∷ []) (P ++ x ∷ []) (done ++ js) h' (since h' p s.0) (seen_next seen P done h p s.0 x js h' k g w)))
@@ -317,7 +317,7 @@ module _ (ks : List Kind) (parity : Bool) where
           → BrokenBy ks (seen ++ cond t (places_of ss) (s.0 ∷ places_of ss)) (P ++ map (part_of parity) (cond t (data_of ss) (s.1 ∷ data_of ss)))
           (cond t (run ks parity ss h p) (join (feed ks h (bus_of parity s.1) (label_of s.1) (info_of s.1)) p (begun h p s.0) s.0 (λ h' p'. run ks parity ss h' p')))
       go true z ih = ih z seen P done h p k
-      go false (cons f zs) ih = fed-word zs ih (feed ks h x.bus x.label x.info) (feed_good ks h x k.ok f) (feed_went ks h x.bus x.label x.info f.label)
+      go false (cons f zs) ih = fed_word zs ih (feed ks h x.bus x.label x.info) (feed_good ks h x k.ok f) (feed_went ks h x.bus x.label x.info f.label)
 
   -- of a row of slots that has a bad word
   pub broken_where : (ss : List Slot) → All Fits (said parity ss) → (p : ℕ) → BrokenBy ks (places_of ss) (said parity ss) (run ks parity ss Nothing p)

@@ -59,10 +59,10 @@ module _ {p : Plan} {ks : List Kind} {log times c : List ℕ} (m : ComposedOf p 
         let e : g * group_words p + t * p.words + 0 ≡ g * group_words p + t * p.words = omega arith in
         rw e at (stored t k 0 (omega (arith, l.shape.words_least)) ∙ frame_front p (dealt_for p times ws g) t 0 (omega arith))
 
-    pub check-at : (t : ℕ) → t < p.tracks → p.crc ≡ true
+    pub check_at : (t : ℕ) → t < p.tracks → p.crc ≡ true
         → word_at c (g * group_words p + t * p.words + (p.words - 1)) ≡ check_word p.parity p.crc_label (list (word_at c) (g * group_words p + t * p.words) (p.words - 1))
     unfolding rows
-    check-at t k e =
+    check_at t k e =
         let o : bit p.crc ≡ 1 = ap bit e in
         let r : p.words - 1 ≡ suc (rows p) = omega (arith, l.shape.words_least) in
         rw r
@@ -70,17 +70,17 @@ module _ {p : Plan} {ks : List Kind} {log times c : List ℕ} (m : ComposedOf p 
         ∙ ap (check_word p.parity p.crc_label) (sym (check_list p (dealt_for p times ws g) t c (g * group_words p + t * p.words) (long p l.shape) (stored t k))))
 
     -- the dealt word s
-    dealt-stands : (s : ℕ) → s < p.tracks * rows p → word_at c (g * group_words p + place_of p s) ≡ sent p.parity (get_or (dealt_for p times ws g) s (fill p.fill_bus))
-    dealt-stands s k = rw m.capture at (capture_at p (long p l.shape) l.shape.tracks_least times ws g s h' k)
+    dealt_stands : (s : ℕ) → s < p.tracks * rows p → word_at c (g * group_words p + place_of p s) ≡ sent p.parity (get_or (dealt_for p times ws g) s (fill p.fill_bus))
+    dealt_stands s k = rw m.capture at (capture_at p (long p l.shape) l.shape.tracks_least times ws g s h' k)
 
     pub time_at : (s : ℕ) → s < 3 → p.frame_time ≡ true → word_at c (g * group_words p + place_of p s) ≡ sent p.parity (get_or (time_words (get_or times g 0)) s (fill p.fill_bus))
     unfolding dealt_for dealt_of time_words
     time_at s k e =
-        dealt-stands s (omega (arith, room p l.shape))
+        dealt_stands s (omega (arith, room p l.shape))
         ∙ ap (λ (b : Bool). sent p.parity (get_or (cond b (time_words (get_or times g 0)) [] ++ take (slots p) (drop (g * slots p) ws)) s (fill p.fill_bus))) e
         ∙ ap (sent p.parity) (get_or-append (time_words (get_or times g 0)) (take (slots p) (drop (g * slots p) ws)) (fill p.fill_bus) s k)
 
-    pub slot-stands : (i : ℕ) → i < slots p → word_at c (g * group_words p + place_of p (lead p + i)) ≡ sent p.parity (get_or ws (g * slots p + i) (fill p.fill_bus))
-    slot-stands i k =
-        dealt-stands (lead p + i) (slot_in p i k)
+    pub slot_stands : (i : ℕ) → i < slots p → word_at c (g * group_words p + place_of p (lead p + i)) ≡ sent p.parity (get_or ws (g * slots p + i) (fill p.fill_bus))
+    slot_stands i k =
+        dealt_stands (lead p + i) (slot_in p i k)
         ∙ ap (sent p.parity) (dealt_at p times ws g i k ∙ get_or-drop (g * slots p) ws i (fill p.fill_bus))

@@ -76,13 +76,13 @@ pub made_by : (p : Plan) (ks : List Kind) (log times : List ℕ) (space : ℕ) �
 unfolding composed
 made_by p ks log times space = go (legal p ks) refl
   where
-    found-open : legal p ks ≡ true → (is : List Item) → parsed (on_plan ks) log ≡ items is → (f : Fault) → open_fault (bit_of is) is ≡ f
+    found_open : legal p ks ≡ true → (is : List Item) → parsed (on_plan ks) log ≡ items is → (f : Fault) → open_fault (bit_of is) is ≡ f
         → MadeBy p ks log times (unless_open f (compose_words p times space (flat_map item_words is)))
-    found-open l is e none o = made_words p ks log times space is l e (none_answered (bit_of is) is o)
-    found-open l is e (found n q) o = tt
+    found_open l is e none o = made_words p ks log times space is l e (none_answered (bit_of is) is o)
+    found_open l is e (found n q) o = tt
 
     inner : legal p ks ≡ true → (r : Parsed) → parsed (on_plan ks) log ≡ r → MadeBy p ks log times (compose_parsed p times space r)
-    inner l (items is) e = found-open l is e (open_fault (bit_of is) is) refl
+    inner l (items is) e = found_open l is e (open_fault (bit_of is) is) refl
     inner l (fault n q) e = tt
 
     go : (b : Bool) → legal p ks ≡ b → MadeBy p ks log times (cond b (compose_parsed p times space (parsed (on_plan ks) log)) (refused 1 0))

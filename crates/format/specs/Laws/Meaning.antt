@@ -64,19 +64,19 @@ answered_found bus c (i ∷ is) u = one i u (answered_found bus c is)
       no_notice = cons n f.no_notice;
     }
 
-    word-one : (b d : ℕ) (tag : Tag) (w : ℕ) (t : Bool) → (eqb b bus && eqb d c) ≡ t → cond t false (false || unanswered bus c is) ≡ false
+    word_one : (b d : ℕ) (tag : Tag) (w : ℕ) (t : Bool) → (eqb b bus && eqb d c) ≡ t → cond t false (false || unanswered bus c is) ≡ false
         → (unanswered bus c is ≡ false → FindsWord bus c is) → FindsWord bus c (Arinc b d tag w ∷ is)
-    word-one b d tag w true e u ih =
+    word_one b d tag w true e u ih =
         let a = and_true _ _ e in
         let x : b ≡ bus = eqb-true _ _ a.0 in
         let y : d ≡ c = eqb-true _ _ a.1 in
         record { between = []; tag = tag; word = w; rest = is; is = rw (x, y); no_notice = nil }
-    word-one b d tag w false e u ih = past (Arinc b d tag w) refl (ih u)
+    word_one b d tag w false e u ih = past (Arinc b d tag w) refl (ih u)
 
-    notice-one : (b d diag : ℕ) (t : Bool) → (eqb b bus && eqb d c) ≡ t → cond false false (t || unanswered bus c is) ≡ false
+    notice_one : (b d diag : ℕ) (t : Bool) → (eqb b bus && eqb d c) ≡ t → cond false false (t || unanswered bus c is) ≡ false
         → (unanswered bus c is ≡ false → FindsWord bus c is) → FindsWord bus c (Notice b d diag ∷ is)
-    notice-one b d diag true e u ih = clash (sym u)
-    notice-one b d diag false e u ih = past (Notice b d diag) e (ih u)
+    notice_one b d diag true e u ih = clash (sym u)
+    notice_one b d diag false e u ih = past (Notice b d diag) e (ih u)
 
     one : (i : Item) → cond (is_word_of bus c i) false (is_notice_of bus c i || unanswered bus c is) ≡ false
         → (unanswered bus c is ≡ false → FindsWord bus c is) → FindsWord bus c (i ∷ is)
@@ -84,8 +84,8 @@ answered_found bus c (i ∷ is) u = one i u (answered_found bus c is)
     one (Status b s resp w) u ih = past (Status b s resp w) refl (ih u)
     one (Data b s w) u ih = past (Data b s w) refl (ih u)
     one (BusError b s w) u ih = past (BusError b s w) refl (ih u)
-    one (Arinc b d tag w) u ih = word-one b d tag w (eqb b bus && eqb d c) refl u ih
-    one (Notice b d diag) u ih = notice-one b d diag (eqb b bus && eqb d c) refl u ih
+    one (Arinc b d tag w) u ih = word_one b d tag w (eqb b bus && eqb d c) refl u ih
+    one (Notice b d diag) u ih = notice_one b d diag (eqb b bus && eqb d c) refl u ih
     one (User b three w) u ih = past (User b three w) refl (ih u)
     one (Overflow b w) u ih = past (Overflow b w) refl (ih u)
 

@@ -13,8 +13,8 @@ use Rattle.group_read.specs.Faults.{fault_of}
 use Rattle.group_read.specs.Row.{dealt_count}
 use Rattle.group_read.proofs.Places.{word_room}
 use Rattle.group_read.proofs.Search.{rest_of_tracks, rest_starts, rest_ends}
-use Rattle.group_read.proofs.Dealing.{Dealing, slot_below, slot_next, deal_start, deal_more, deal_two, deal_track, deal-behind, deal-over}
-use Rattle.group_read.proofs.Frame.{Inside, Over, over_at, sync-bad, inside-sync, inside-two, inside-even, inside_one, inside-bad, frame_good, frame_bad, not_left, not_taken}
+use Rattle.group_read.proofs.Dealing.{Dealing, slot_below, slot_next, deal_start, deal_more, deal_two, deal_track, deal_behind, deal_over}
+use Rattle.group_read.proofs.Frame.{Inside, Over, over_at, sync_bad, inside_sync, inside_two, inside_even, inside_one, inside_bad, frame_good, frame_bad, not_left, not_taken}
 use Rattle.group_read.proofs.deal.Statement.{statement}
 use Rattle.group_read.proofs.deal.Tie as tie
 
@@ -219,7 +219,7 @@ loop-position-init c =
     let synced = c.before.before in
     let stored = synced.before.before in
     let s = stored.before.before in (
-      inside-sync (plan s) (group s) s.scan.track (shape s) (track_in stored.before) stored.stored_word-sync.ensures.0 synced.sync.ensures
+      inside_sync (plan s) (group s) s.scan.track (shape s) (track_in stored.before) stored.stored_word-sync.ensures.0 synced.sync.ensures
           s.scan.invariant.1 synced.if-sync.false c.start.ensures c.with_one-sum.ensures,
       refl,
       λ old n d. d,
@@ -285,7 +285,7 @@ loop-position-preserved c =
     let f = w.stored_word-two.ensures.0 in
     let o = sym c.are_odd.ensures ∙ c.if-not-are_odd.false in
     let a = l.invariant.0 in (
-      inside-two (plan s) (group s) (shape s) a (one w) (two w) (two_rows (two_of c)) e f o c.with_two-sum.ensures,
+      inside_two (plan s) (group s) (shape s) a (one w) (two w) (two_rows (two_of c)) e f o c.with_two-sum.ensures,
       length-set (set l.row l.slot (one w)) (l.slot + (plan s).tracks) (two w) ∙ length-set l.row l.slot (one w) ∙ l.invariant.1,
       λ old n d.
           deal_two (plan s) (group s) old l.row s.scan.track l.position l.slot (one w) (two w) (l.invariant.2 old n d) a.track a.past (two_rows (two_of c)) n
@@ -350,8 +350,8 @@ returns-then-track-tracks c =
     record {
       fault = c.time_fault-fault.ensures ∙ sym (ap fault_of (s.scan.invariant.1 ∙ rest_ends (plan s) (group s) 0 s.scan.track e));
       long = d.long;
-      behind = deal-behind (plan s) (group s) (old s) s.scan.row s.scan.track 1 d;
-      words = λ z. deal-over (plan s) (group s) (old s) s.scan.row s.scan.track 1 d e (shape s).tracks_least (start s).requires.2;
+      behind = deal_behind (plan s) (group s) (old s) s.scan.row s.scan.track 1 d;
+      words = λ z. deal_over (plan s) (group s) (old s) s.scan.row s.scan.track 1 d e (shape s).tracks_least (start s).requires.2;
     }
 
 shape_of-row-then-sync : tie.Need-shape_of-row-then-sync invariant-loop-position decreases-loop-position invariant-scan decreases-scan
@@ -365,9 +365,9 @@ returns-then-sync c =
       fault = sym
           (ap fault_of
           (s.scan.invariant.1
-          ∙ sync-bad (plan s) (group s) s.scan.track (shape s) (track_in stored.before) stored.stored_word-sync.ensures.0 c.sync.ensures c.if-sync.true));
+          ∙ sync_bad (plan s) (group s) s.scan.track (shape s) (track_in stored.before) stored.stored_word-sync.ensures.0 c.sync.ensures c.if-sync.true));
       long = s.scan.invariant.2.long;
-      behind = deal-behind (plan s) (group s) (old s) s.scan.row s.scan.track 1 s.scan.invariant.2;
+      behind = deal_behind (plan s) (group s) (old s) s.scan.row s.scan.track 1 s.scan.invariant.2;
       words = λ z. absurd (omega arith);
     }
 
@@ -384,10 +384,10 @@ returns-then-not-are_odd c =
     record {
       fault = sym
           (ap fault_of
-          (inside-even (plan s) (group s) (shape s) l.invariant.0 (one w) (two w) (two_rows (in_loop w)) w.stored_word-one.ensures.0 w.stored_word-two.ensures.0 o
+          (inside_even (plan s) (group s) (shape s) l.invariant.0 (one w) (two w) (two_rows (in_loop w)) w.stored_word-one.ensures.0 w.stored_word-two.ensures.0 o
           c.even_place.ensures));
       long = (dealing at).long;
-      behind = deal-behind (plan s) (group s) (old s) l.row s.scan.track l.position (dealing at);
+      behind = deal_behind (plan s) (group s) (old s) l.row s.scan.track l.position (dealing at);
       words = λ z. absurd (omega arith);
     }
 
@@ -403,10 +403,10 @@ returns-then-number-ne0 c =
     record {
       fault = sym
           (ap fault_of
-          (inside-bad (plan s) (group s) (shape s) l.invariant.0 w.stored_word-word.result (omega (arith, in_rows w.before)) w.stored_word-word.ensures.0
+          (inside_bad (plan s) (group s) (shape s) l.invariant.0 w.stored_word-word.result (omega (arith, in_rows w.before)) w.stored_word-word.ensures.0
           c.parity_number-number.ensures c.if-number-ne0.true));
       long = (dealing at).long;
-      behind = deal-behind (plan s) (group s) (old s) l.row s.scan.track l.position (dealing at);
+      behind = deal_behind (plan s) (group s) (old s) l.row s.scan.track l.position (dealing at);
       words = λ z. absurd (c.if-number-ne0.true z);
     }
 
@@ -421,7 +421,7 @@ returns-then-number-ne0-2 c =
     record {
       fault = sym (ap fault_of (frame_bad (plan s) (group s) (shape s) o.inside refl c.last_number-number.ensures c.if-number-ne0-2.true));
       long = o.dealt.long;
-      behind = deal-behind (plan s) (group s) (old s) j.if-position-rows.row s.scan.track (rows (plan s) + 1) o.dealt;
+      behind = deal_behind (plan s) (group s) (old s) j.if-position-rows.row s.scan.track (rows (plan s) + 1) o.dealt;
       words = λ z. absurd (c.if-number-ne0-2.true z);
     }
 

@@ -11,7 +11,7 @@ use Rattle.group_write.specs.Writing.{sent_rows, same_rows, row_word, front}
 use Rattle.group_write.proofs.Laws.{length_list}
 use Rattle.group_write.proofs.Words.{Written, written_length, written_rest, written_is, rest, rest_room}
 use Rattle.group_write.proofs.Frames.{sums_runs}
-use Rattle.group_write.proofs.Front.{Parted, parted, words_few, timed_run, data_run, front-runs}
+use Rattle.group_write.proofs.Front.{Parted, parted, words_few, timed_run, data_run, front_runs}
 use Rattle.group_write.proofs.write_front.Statement.{statement}
 use Rattle.group_write.proofs.write_front.Tie as tie
 
@@ -159,7 +159,7 @@ filled c =
 all_is : (c : Counted) → all_put c ≡ front (entry c).args.plan (take (lead c) (times c) ++ words c) (entry c).args.track (rows c)
 all_is c =
     let a = (entry c).args in
-    front-runs a.plan a.track (lead c) (timed c) (dealt c) (rows c) (times c) (words c) (parts c) (entry c).requires.2.1 (data_rows c) (fill_rows c)
+    front_runs a.plan a.track (lead c) (timed c) (dealt c) (rows c) (times c) (words c) (parts c) (entry c).requires.2.1 (data_rows c) (fill_rows c)
     (omega (arith, room c)) (omega (arith, room c))
 
 dealt_rows-rows-requires : tie.Need-dealt_rows-rows-requires

@@ -2,11 +2,11 @@ use mir.Val.{of_z}
 use Rattle.log_walk.proofs.Items.{Holds}
 use Rattle.log_move.specs.Moved.{Moving}
 use mir.Facts.{to_z-of_z}
-use Rattle.log_move.proofs.Moving.{can_move, cannot_move, moved_is, moved_size, moving-fails, moving-more, moving_over, moving_room, moving_start}
+use Rattle.log_move.proofs.Moving.{can_move, cannot_move, moved_is, moved_size, moving_fails, moving_more, moving_over, moving_room, moving_start}
 use Rattle.log_walk.proofs.Items.{ends_there, holds, wrong_there}
 use Rattle.log_put.proofs.Putting.{holds_fits}
 use Rattle.log_pass.proofs.Walking.{next_fits, not_false, not_true, walk_late}
-use Rattle.log_rules.specs.Laws.Checking.{walk_long, walk-wrong}
+use Rattle.log_rules.specs.Laws.Checking.{walk_long, walk_wrong}
 use Rattle.format.specs.Log.{on_no_plan}
 use mir.Val.{to_z}
 use mir.Syntax.{w64}
@@ -95,7 +95,7 @@ returns-then-time-ge42949672960000 c =
     c.piece_at.ensures i.is in
     let t = sym c.in_time.ensures ∙ c.if-not-in_time.false in
     let f = cannot_move _ h _ c.moved_tag-time.ensures c.if-time-ge42949672960000.true in
-    rw c.judged.ensures (rw (to_z-of_z c.ranges.by) at (moving-fails o.invariant.2 h t o.built f))
+    rw c.judged.ensures (rw (to_z-of_z c.ranges.by) at (moving_fails o.invariant.2 h t o.built f))
 
 with_time-requires : tie.Need-with_time-requires invariant-loop-item decreases-loop-item
 with_time-requires c κs = omega (arith, c.if-time-ge42949672960000.false)
@@ -149,7 +149,7 @@ moved_here c =
     let m = moved_is _ h _ e _ c.if-time-ge42949672960000.false c.with_time.ensures in
     let l = moved_size _ c.in-Item.item _
     c.with_time.ensures in
-    moving-more c.loop-item.invariant.2 h t _
+    moving_more c.loop-item.invariant.2 h t _
     (can_move _ h _ e c.if-time-ge42949672960000.false) m l c.put_packed-to.ensures
 
 put_data-here-requires : tie.Need-put_data-here-requires invariant-loop-item decreases-loop-item
@@ -185,7 +185,7 @@ shape_of-built-in-Wrong : tie.Need-shape_of-built-in-Wrong invariant-loop-item d
 shape_of-built-in-Wrong c = c.loop-item.invariant.1
 
 returns-in-Wrong : tie.Need-returns-in-Wrong invariant-loop-item decreases-loop-item
-returns-in-Wrong c = rw (walk-wrong on_no_plan _ c.loop-item.invariant.2.walk (wrong_there _ (sym c.piece_at.ensures ∙ c.in-Wrong.is))) refl
+returns-in-Wrong c = rw (walk_wrong on_no_plan _ c.loop-item.invariant.2.walk (wrong_there _ (sym c.piece_at.ensures ∙ c.in-Wrong.is))) refl
 
 pub put_moved_spec : {M : Type 1} → statement M
 put_moved_spec =

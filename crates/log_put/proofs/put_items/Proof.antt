@@ -1,6 +1,6 @@
-use Rattle.log_put.proofs.Putting.{picking-more, picking_over, picking-room, picking_start}
+use Rattle.log_put.proofs.Putting.{picking_more, picking_over, picking_room, picking_start}
 use Rattle.log_pass.proofs.Walking.{next_fits, not_false, not_true, walk_late}
-use Rattle.log_rules.specs.Laws.Checking.{walk_long, walk-wrong}
+use Rattle.log_rules.specs.Laws.Checking.{walk_long, walk_wrong}
 use Rattle.format.specs.Log.{on_no_plan}
 use Rattle.log_walk.proofs.Items.{ends_there, Holds, holds, wrong_there}
 use Rattle.log_put.specs.Put.{Picking}
@@ -83,7 +83,7 @@ overflow_add-spot-in-Item c = search rules
 
 put_if-requires : tie.Need-put_if-requires invariant-loop-item decreases-loop-item
 put_if-requires c κs = let o = c.loop-item.invariant in
-    picking-room c.put_run-here.ensures.1 (item_here c.before) _ o.0
+    picking_room c.put_run-here.ensures.1 (item_here c.before) _ o.0
     (omega (arith, o.1, o.2, c.built-1.given))
 
 loop-item-smaller : tie.Need-loop-item-smaller invariant-loop-item decreases-loop-item
@@ -97,7 +97,7 @@ loop-item-preserved c = let o = c.loop-item.invariant in
       o.0,
       o.1,
       c.put_if.ensures.long ∙ c.built-1.given ∙ o.2,
-      picking-more r.1 (item_here c.before.before.before.before) t c.put_if.ensures,
+      picking_more r.1 (item_here c.before.before.before.before) t c.put_if.ensures,
     )
 
 enum_told-1 : tie.Need-enum_told-1 invariant-loop-item decreases-loop-item
@@ -117,7 +117,7 @@ shape_of-built-in-Wrong : tie.Need-shape_of-built-in-Wrong invariant-loop-item d
 shape_of-built-in-Wrong c = c.built-1.given ∙ c.loop-item.invariant.2
 
 returns-in-Wrong : tie.Need-returns-in-Wrong invariant-loop-item decreases-loop-item
-returns-in-Wrong c = rw (walk-wrong on_no_plan c.args.log.now
+returns-in-Wrong c = rw (walk_wrong on_no_plan c.args.log.now
     c.put_run-here.ensures.1.walk (wrong_there _ (sym
     c.piece_at.ensures ∙ c.in-Wrong.is))) refl
 

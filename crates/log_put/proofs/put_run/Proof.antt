@@ -1,4 +1,4 @@
-use Rattle.log_put.proofs.Putting.{picking-data, picking-more, picking-room}
+use Rattle.log_put.proofs.Putting.{picking_data, picking_more, picking_room}
 use Rattle.log_pass.proofs.Walking.{next_fits, not_false}
 use Rattle.log_walk.proofs.Ends.{pos_of}
 use Rattle.log_walk.proofs.Items.{Holds, holds}
@@ -51,7 +51,7 @@ data_in-requires : tie.Need-data_in-requires invariant-loop-at decreases-loop-at
 data_in-requires c κs = (c.window_in-w.ensures, (omega (arith, c.loop-at-test.true), c.if-kind-eq3.true))
 
 put_if-to-requires : tie.Need-put_if-to-requires invariant-loop-at decreases-loop-at
-put_if-to-requires c κs = let o = c.loop-at.invariant in picking-room o.5 (data_here c) _ o.0 (omega (arith, o.1, o.4))
+put_if-to-requires c κs = let o = c.loop-at.invariant in picking_room o.5 (data_here c) _ o.0 (omega (arith, o.1, o.4))
 
 overflow_add-at-then-kind-eq3 : tie.Need-overflow_add-at-then-kind-eq3 invariant-loop-at decreases-loop-at
 overflow_add-at-then-kind-eq3 c = search rules
@@ -67,7 +67,7 @@ loop-at-preserved-then-kind-eq3 c = let o = c.loop-at.invariant in
       refl,
       omega (arith, o.3),
       c.put_if-to.ensures.long ∙ o.4,
-      picking-data o.5 (data_here c.before.before.before) d.1
+      picking_data o.5 (data_here c.before.before.before) d.1
           d.2 d.3 c.put_if-to.ensures,
     )
 
@@ -87,7 +87,7 @@ in_time-requires : tie.Need-in_time-requires invariant-loop-at decreases-loop-at
 in_time-requires c κs = search rules
 
 put_if-to-requires-in-loop-at : tie.Need-put_if-to-requires-in-loop-at invariant-loop-at decreases-loop-at
-put_if-to-requires-in-loop-at c κs = let o = c.loop-at.invariant in picking-room o.5 (item_here c) _ o.0
+put_if-to-requires-in-loop-at c κs = let o = c.loop-at.invariant in picking_room o.5 (item_here c) _ o.0
     (omega (arith, o.1, o.4))
 
 overflow_add-at-in-loop-at : tie.Need-overflow_add-at-in-loop-at invariant-loop-at decreases-loop-at
@@ -116,7 +116,7 @@ loop-at-preserved c = let o = c.loop-at.invariant in
       refl,
       omega (arith, o.3),
       c.put_if-to-in-loop-at.ensures.long ∙ o.4,
-      picking-more o.5 (item_here
+      picking_more o.5 (item_here
           c.before.before.before.before) t c.put_if-to-in-loop-at.ensures,
     )
 

@@ -1,4 +1,4 @@
-use Rattle.log_replay.proofs.Running.{Running, running_more, running-over, running-small, running_start}
+use Rattle.log_replay.proofs.Running.{Running, running_more, running_over, running_small, running_start}
 use lib.ListN.{length}
 use mathlib.Core.Path.{◌≡◌, refl, ◌∙◌}
 use native.Mathlib.Omega.{arith}
@@ -30,7 +30,7 @@ turn-state-requires c κs =
     let o = c.before.before.before in
     let start = o.before.before.before.before.before in
     let a = start.args in
-    let h = running-small a.log.now a.events.now a.capacity a.slots start.requires o.loop-i.invariant.2 o.loop-i.invariant.0 in
+    let h = running_small a.log.now a.events.now a.capacity a.slots start.requires o.loop-i.invariant.2 o.loop-i.invariant.0 in
     (start.requires.0, h.0, h.1)
 
 overflow_add-i : tie.Need-overflow_add-i invariant-loop-i decreases-loop-i
@@ -59,7 +59,7 @@ returns c =
     let o = c.before in
     let start = o.before.before.before.before.before in
     let a = start.args in
-    running-over a.log.now a.events.now a.capacity a.slots start.requires o.loop-i.invariant.2 o.loop-i.invariant.0 c.loop-i-test.false
+    running_over a.log.now a.events.now a.capacity a.slots start.requires o.loop-i.invariant.2 o.loop-i.invariant.0 c.loop-i-test.false
 
 pub run_spec : {M : Type 1} → statement M
 run_spec =

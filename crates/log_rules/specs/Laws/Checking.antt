@@ -56,9 +56,9 @@ module _ (check : Item → ℕ) (log : List ℕ) where
     one_more = omega (arith, w.enough, w.fits)
 
     -- where the log ends, it has the items behind
-    pub walk-over : next_at (bytes_bits log) place ≡ ends → parsed check log ≡ items past
+    pub walk_over : next_at (bytes_bits log) place ≡ ends → parsed check log ≡ items past
     unfolding parse_from
-    walk-over n = w.is ∙ ap here one_more ∙ rw n (ap items (append-nil past))
+    walk_over n = w.is ∙ ap here one_more ∙ rw n (ap items (append-nil past))
 
     -- where the log parses, the items behind are its first
     pub walk_first : (is : List Item) → parsed check log ≡ items is → (rest : List Item) × (is ≡ past ++ rest)
@@ -69,25 +69,25 @@ module _ (check : Item → ℕ) (log : List ℕ) where
         go (fault n p) z = let y : ◌≡◌ {A = ℕ} 0 1 = cc in absurd (omega arith)
 
     -- where it is cut, or has an unknown kind or a bad ending, that is its fault
-    pub walk-wrong : next_at (bytes_bits log) place ≡ wrong → parsed check log ≡ fault 2 place
+    pub walk_wrong : next_at (bytes_bits log) place ≡ wrong → parsed check log ≡ fault 2 place
     unfolding parse_from
-    walk-wrong n = w.is ∙ ap here one_more ∙ rw n refl
+    walk_wrong n = w.is ∙ ap here one_more ∙ rw n refl
 
     module _ (i : Item) (q : ℕ) (n : next_at (bytes_bits log) place ≡ has i q) where
       -- an item that does not pass is its fault
-      pub walk-fault : (check i ≡ 0 → ⊥) → parsed check log ≡ fault (check i) place
+      pub walk_fault : (check i ≡ 0 → ⊥) → parsed check log ≡ fault (check i) place
       unfolding parse_from
-      walk-fault h = w.is ∙ ap here one_more ∙ rw (n, ne_eqb (check i) 0 h) refl
+      walk_fault h = w.is ∙ ap here one_more ∙ rw (n, ne_eqb (check i) 0 h) refl
 
       next : Onward (bytes_bits log) place (has i q)
       next = rw n at (onward (bytes_bits log) place)
 
-      pub walk-far : (place + 8 ≤ q) × (q ≤ length log * 8)
-      walk-far = (next.0, omega (arith, next.1, length_bytes log))
+      pub walk_far : (place + 8 ≤ q) × (q ≤ length log * 8)
+      walk_far = (next.0, omega (arith, next.1, length_bytes log))
 
       -- the next item begins where this one's bits end
-      pub walk-bit : q ≡ place + length (item_bits i)
-      walk-bit = next.2
+      pub walk_bit : q ≡ place + length (item_bits i)
+      walk_bit = next.2
 
       -- an item that passes is one more behind
       pub walk_more : check i ≡ 0 → Walk check log (past ++ i ∷ []) q
@@ -99,9 +99,9 @@ module _ (check : Item → ℕ) (log : List ℕ) where
           record {
             fuel = w.fuel - 1;
             is = w.is ∙ ap here one_more ∙ rw (n, eq-eqb (check i) 0 h) (go (parse_from (w.fuel - 1) check (bytes_bits log) q));
-            enough = omega (arith, w.enough, w.fits, walk-far.0);
-            at = omega (arith, w.at, walk-bit);
-            fits = walk-far.1;
+            enough = omega (arith, w.enough, w.fits, walk_far.0);
+            at = omega (arith, w.at, walk_bit);
+            fits = walk_far.1;
           }
         where
           go : (r : Parsed) → behind past (consed i r) ≡ behind (past ++ i ∷ []) r

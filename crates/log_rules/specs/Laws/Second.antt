@@ -24,10 +24,10 @@ shift_none log times by room = go (parsed on_no_plan log)
     fits true new row = refl
     fits false new row = refl
 
-    moves-all : (f : Fault) (new row : List ℕ) → (read_answer (if_shifted f (shifted_in room new row))).second ≡ 0
-    moves-all (found n p) new row = refl
-    moves-all none new row = fits (leb (length new) 32768 && leb (length new) room) new row
+    moves_all : (f : Fault) (new row : List ℕ) → (read_answer (if_shifted f (shifted_in room new row))).second ≡ 0
+    moves_all (found n p) new row = refl
+    moves_all none new row = fits (leb (length new) 32768 && leb (length new) room) new row
 
     go : (p : Parsed) → (read_answer (shift_parsed times by room p)).second ≡ 0
     go (fault n p) = refl
-    go (items is) = moves-all (unshifted by times is) (log_of (map (moved_item by) is)) (map (moved by) times)
+    go (items is) = moves_all (unshifted by times is) (log_of (map (moved_item by) is)) (map (moved by) times)

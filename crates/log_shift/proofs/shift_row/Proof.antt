@@ -6,7 +6,7 @@ use Rattle.format.specs.Group.{none, found}
 use Rattle.from_c.specs.Numbers.{times_from}
 use Rattle.log_rules.specs.Shift.{first_unmoved}
 use Rattle.log_shift.specs.Shifted.{Moves, first_unmovable}
-use Rattle.log_shift.proofs.Shifting.{row_all, row-beyond, row_late, row-short}
+use Rattle.log_shift.proofs.Shifting.{row_all, row_beyond, row_late, row_short}
 use Rattle.log_shift.proofs.Row.{row_clear, row_fault}
 use mir.Facts.{to_z-of_z}
 use mathlib.Core.Path.{◌≡◌, refl, ap, sym, ◌∙◌}
@@ -102,7 +102,7 @@ returns-then-bytes-gt32768 c =
     let t = c.before in
     let k = t.before in
     let l = looked k in
-    λ is w. row-beyond (by l) is _ _ w (times l) (clear (movable k)).0 _ (close k).close-bytes.ensures.0 _ _ _ t.if-bytes-gt32768.true c.refusal-then-bytes-gt32768.ensures
+    λ is w. row_beyond (by l) is _ _ w (times l) (clear (movable k)).0 _ (close k).close-bytes.ensures.0 _ _ _ t.if-bytes-gt32768.true c.refusal-then-bytes-gt32768.ensures
 
 refusal-requires-then-out-bytes : tie.Need-refusal-requires-then-out-bytes
 refusal-requires-then-out-bytes c κs = search rules
@@ -119,7 +119,7 @@ returns-then-out-bytes c =
     let e = t.before in
     let k = e.before in
     let l = looked k in
-    λ is w. row-short (by l) is _ _ w (times l) (clear (movable k)).0 _ (close k).close-bytes.ensures.0 _ _ _ e.if-bytes-gt32768.false t.if-out-bytes.true c.refusal-then-out-bytes.ensures
+    λ is w. row_short (by l) is _ _ w (times l) (clear (movable k)).0 _ (close k).close-bytes.ensures.0 _ _ _ e.if-bytes-gt32768.false t.if-out-bytes.true c.refusal-then-out-bytes.ensures
 
 copy-requires : tie.Need-copy-requires
 copy-requires c κs =

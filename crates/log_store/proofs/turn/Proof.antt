@@ -1,5 +1,5 @@
 use Prim.Native.Nat.{◌≤◌}
-use Rattle.log_store.proofs.Turning.{turns_left, turns-arrived, turns_over, turns_wrong}
+use Rattle.log_store.proofs.Turning.{turns_left, turns_arrived, turns_over, turns_wrong}
 use Rattle.log_buffer.proofs.Loads.{load_few}
 use Rattle.log_read.proofs.Parsing.{follows, found_end, found_wrong}
 use Rattle.format.specs.Log.{next_at}
@@ -52,7 +52,7 @@ returns-in-Has : tie.Need-returns-in-Has
 returns-in-Has c =
     let a = c.args in
     let i = c.in-Has in
-    turns-arrived a.log.now a.event a.capacity a.slots a.built.now a.state i.item i.next c.fits-stored.result c.arrived.result
+    turns_arrived a.log.now a.event a.capacity a.slots a.built.now a.state i.item i.next c.fits-stored.result c.arrived.result
     _ c.put.result c.if-event-ne0.false
     (follows a.log.now a.state.at.at c.item.result i.item i.next c.item.ensures i.is).next
     (rw (← c.load_of-load.ensures) c.fits-stored.ensures) (rw (← c.load_of-load.ensures) c.arrived.ensures) c.put.ensures

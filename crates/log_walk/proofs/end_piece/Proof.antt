@@ -1,4 +1,4 @@
-use Rattle.log_walk.proofs.Ends.{end_far, end_clean, end-dirty}
+use Rattle.log_walk.proofs.Ends.{end_far, end_clean, end_dirty}
 use Rattle.log_walk.specs.Piece.{piece_of}
 use mathlib.Core.Path.{sym, ap, ◌∙◌}
 use native.Mathlib.Omega.{arith}
@@ -36,7 +36,7 @@ returns : tie.Need-returns
 returns c =
     let a = c.args in
     let q = c.requires in
-    sym (ap piece_of (end-dirty a.log.now a.at a.left a.w q.0 q.1.0 q.1.2 (omega arith) c.if-left-ge12.false q.1.3 c.if-w-left-eq0.false))
+    sym (ap piece_of (end_dirty a.log.now a.at a.left a.w q.0 q.1.0 q.1.2 (omega arith) c.if-left-ge12.false q.1.3 c.if-w-left-eq0.false))
 
 pub end_piece_spec : {M : Type 1} → statement M
 end_piece_spec =

@@ -1,4 +1,4 @@
-use Rattle.log_walk.proofs.Shapes.{item-cut, item-whole}
+use Rattle.log_walk.proofs.Shapes.{item_cut, item_whole}
 use mathlib.Core.Path.{refl, sym}
 use native.Mathlib.Omega.{arith}
 use borrow.Author.Rules.{rules}
@@ -28,7 +28,7 @@ returns-then-left-first c =
     let q = c.requires in
     let f = c.first_bits-first in
     let b = c.behind_bits-behind in
-    sym (item-cut a.log.now a.at a.left a.w q.0 q.1.0 (omega arith) q.1.2 a.kind f.result b.result q.1.3 q.1.4 q.1.5 f.ensures.0 b.ensures.0 c.if-left-first.true)
+    sym (item_cut a.log.now a.at a.left a.w q.0 q.1.0 (omega arith) q.1.2 a.kind f.result b.result q.1.3 q.1.4 q.1.5 f.ensures.0 b.ensures.0 c.if-left-first.true)
 
 overflow_sub-result : tie.Need-overflow_sub-result
 overflow_sub-result c = search rules
@@ -54,7 +54,7 @@ returns c =
     let q = c.requires in
     let f = c.first_bits-first in
     let b = c.behind_bits-behind in
-    item-whole a.log.now a.at a.left a.w q.0 q.1.0 (omega arith) q.1.2 a.kind f.result b.result q.1.3 q.1.4 q.1.5 f.ensures.0 b.ensures.0 _ _ f.ensures.2 (omega arith) refl c.behind_number.ensures
+    item_whole a.log.now a.at a.left a.w q.0 q.1.0 (omega arith) q.1.2 a.kind f.result b.result q.1.3 q.1.4 q.1.5 f.ensures.0 b.ensures.0 _ _ f.ensures.2 (omega arith) refl c.behind_number.ensures
 
 pub item_piece_spec : {M : Type 1} → statement M
 item_piece_spec =

@@ -21,7 +21,7 @@ use Rattle.log_read.proofs.Table.{head_read}
 use Rattle.log_words.specs.Laid.{written}
 use Rattle.log_words.specs.Row.{onto}
 use Rattle.log_words.specs.Words.{words_from}
-use Rattle.log_words.proofs.Logged.{behind, closes, fault-told, next_laid, next_none, next_other, none_left, unlaid}
+use Rattle.log_words.proofs.Logged.{behind, closes, fault_told, next_laid, next_none, next_other, none_left, unlaid}
 use Rattle.log_words.proofs.Row.{first_written}
 use Rattle.log_words.proofs.lay.Statement.{statement}
 use Rattle.log_words.proofs.lay.Tie as tie
@@ -115,7 +115,7 @@ overflow_cast-result c =
     let h = head d in
     let o = turn h in
     let n = next_other (ahead h) h.head-head.ensures.0 (length (log o) * 8) (length_bytes (log o)) o.loop-kinds.invariant.1 (sym c.ends.ensures ∙ c.if-ends.false) in
-    let t = fault-told (kinds o) (log o) o.loop-kinds.at.at o.loop-kinds.items o.loop-kinds.count o.loop-kinds.invariant.0 o.loop-kinds.invariant.1
+    let t = fault_told (kinds o) (log o) o.loop-kinds.at.at o.loop-kinds.items o.loop-kinds.count o.loop-kinds.invariant.0 o.loop-kinds.invariant.1
     n (d.lay_item-laid.ensures (kinds o) o.loop-kinds.at.at (here h) refl) c.if-laid-ne0.true in
     omega (arith, t.small)
 
@@ -128,7 +128,7 @@ returns-then-laid-ne0 c =
     let h = head d in
     let o = turn h in
     let n = next_other (ahead h) h.head-head.ensures.0 (length (log o) * 8) (length_bytes (log o)) o.loop-kinds.invariant.1 (sym c.ends.ensures ∙ c.if-ends.false) in
-    let t = fault-told (kinds o) (log o) o.loop-kinds.at.at o.loop-kinds.items o.loop-kinds.count o.loop-kinds.invariant.0 o.loop-kinds.invariant.1
+    let t = fault_told (kinds o) (log o) o.loop-kinds.at.at o.loop-kinds.items o.loop-kinds.count o.loop-kinds.invariant.0 o.loop-kinds.invariant.1
     n (d.lay_item-laid.ensures (kinds o) o.loop-kinds.at.at (here h) refl) c.if-laid-ne0.true in
     (sym (o.loop-kinds.invariant.4 ∙ t.tally), t.row ∙ o.loop-kinds.invariant.5)
 

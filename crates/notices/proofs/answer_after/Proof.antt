@@ -3,7 +3,7 @@ use native.Mathlib.Omega.{arith}
 use mathlib.Core.Path.{◌≡◌, ap, sym, ◌∙◌}
 use lib.ListN.{drop, get_or, length}
 use Rattle.notices.specs.Quiet.{answer_in, awaited}
-use Rattle.notices.specs.Laws.Quiet.{answer_from, answer_start, answer_end, answer_far, answer-notice, answer-here, answer-past, label_low}
+use Rattle.notices.specs.Laws.Quiet.{answer_from, answer_start, answer_end, answer_far, answer_notice, answer_here, answer_past, label_low}
 use Rattle.notices.specs.Laws.Rows.{bus_low}
 use borrow.Author.Rules.{rules}
 use Rattle.notices.proofs.answer_after.Statement.{statement}
@@ -77,7 +77,7 @@ returns-then-next_label-eq4 c =
     let a = (entry l).args in
     let h = here c.before.before.before in
     sym (settled l
-    ∙ answer-notice a.parity l.awaited_by-awaited.result a.row.now a.i l.loop-d.d h.0 h.1 h.2
+    ∙ answer_notice a.parity l.awaited_by-awaited.result a.row.now a.i l.loop-d.d h.0 h.1 h.2
     c.label_of-next_label.result c.label_of-next_label.ensures c.if-next_label-eq4.true)
 
 bus_of-requires : tie.Need-bus_of-requires invariant-loop-d decreases-loop-d
@@ -107,7 +107,7 @@ returns-then-bus_of-next_label c =
     let h = here c.before.before.before.before.before in
     let b = c.label_of-next_label in
     sym (settled l
-    ∙ answer-here a.parity l.awaited_by-awaited.result a.row.now a.i l.loop-d.d h.0 h.1 h.2 b.result b.ensures
+    ∙ answer_here a.parity l.awaited_by-awaited.result a.row.now a.i l.loop-d.d h.0 h.1 h.2 b.result b.ensures
     c.bus_of.result c.bus_of.ensures c.if-next_label-eq4.false c.if-bus_of-next_label.true)
 
 overflow_add-d : tie.Need-overflow_add-d invariant-loop-d decreases-loop-d
@@ -125,7 +125,7 @@ loop-d-preserved c =
       omega arith,
       omega (arith, h.1),
       l.loop-d.invariant.2
-          ∙ answer-past a.parity l.awaited_by-awaited.result a.row.now a.i l.loop-d.d h.0 h.1 h.2 b.result b.ensures
+          ∙ answer_past a.parity l.awaited_by-awaited.result a.row.now a.i l.loop-d.d h.0 h.1 h.2 b.result b.ensures
           c.bus_of.result c.bus_of.ensures c.if-next_label-eq4.false c.if-bus_of-next_label.false,
     )
 

@@ -5,7 +5,7 @@ use native.Mathlib.Omega.{arith}
 use mathlib.Core.Path.{◌≡◌, sym, ◌∙◌}
 use lib.ListN.{drop, get_or, length}
 use Rattle.notices.specs.Quiet.{is_notice, quiet_part}
-use Rattle.notices.specs.Laws.Quiet.{quiet_end, quiet_next, quiet-stop, quiet-fits, quiet-answered, notice_told, other_told}
+use Rattle.notices.specs.Laws.Quiet.{quiet_end, quiet_next, quiet_stop, quiet_fits, quiet_answered, notice_told, other_told}
 use Rattle.notices.specs.Laws.Rows.{bus_low}
 use borrow.Author.Rules.{rules}
 use Rattle.notices.proofs.quiet_part.Statement.{statement}
@@ -74,7 +74,7 @@ fits : (c : tie.After-answer_after-further invariant-loop-i decreases-loop-i) �
 fits c =
     let t = turn c.before.before in
     let l = t.before in
-    quiet-fits (entry l).args.kinds (entry l).args.parity (entry l).args.row.now l.loop-i.i c.answer_after-further.result t.loop-i-test.true
+    quiet_fits (entry l).args.kinds (entry l).args.parity (entry l).args.row.now l.loop-i.i c.answer_after-further.result t.loop-i-test.true
     (told c.before.before ∙ c.if-is_arinc.true) c.answer_after-further.ensures
 
 returns-then-further-eq0 : tie.Need-returns-then-further-eq0 invariant-loop-i decreases-loop-i
@@ -82,7 +82,7 @@ returns-then-further-eq0 c =
     let t = turn c.before.before.before in
     let l = t.before in
     sym (l.loop-i.invariant.1
-    ∙ quiet-stop (entry l).args.kinds (entry l).args.parity (entry l).args.row.now l.loop-i.i c.answer_after-further.result t.loop-i-test.true
+    ∙ quiet_stop (entry l).args.kinds (entry l).args.parity (entry l).args.row.now l.loop-i.i c.answer_after-further.result t.loop-i-test.true
     (told c.before.before.before ∙ c.if-is_arinc.true) c.answer_after-further.ensures c.if-further-eq0.true)
 
 overflow_add-i : tie.Need-overflow_add-i invariant-loop-i decreases-loop-i
@@ -102,7 +102,7 @@ answered c =
       omega arith,
       fits c.before,
       l.loop-i.invariant.1
-          ∙ quiet-answered (entry l).args.kinds (entry l).args.parity (entry l).args.row.now l.loop-i.i c.answer_after-further.result t.loop-i-test.true
+          ∙ quiet_answered (entry l).args.kinds (entry l).args.parity (entry l).args.row.now l.loop-i.i c.answer_after-further.result t.loop-i-test.true
           (told c.before.before.before ∙ c.if-is_arinc.true) c.answer_after-further.ensures c.if-further-eq0.false,
     )
 

@@ -43,16 +43,16 @@ lacked_items bus c h place (i ∷ is) (cons l ls) = one i l (lacked_items bus c 
     rest : Bool
     rest = lacked (row_by (λ k. place (suc k)) is) (bus * 4 + c)
 
-    word-one : (t : Bool) → rest ≡ unanswered bus c is → (not t && rest) ≡ cond t false (false || unanswered bus c is)
-    word-one true e = refl
-    word-one false e = e
+    word_one : (t : Bool) → rest ≡ unanswered bus c is → (not t && rest) ≡ cond t false (false || unanswered bus c is)
+    word_one true e = refl
+    word_one false e = e
 
     one : (i : Item) → Sized i → rest ≡ unanswered bus c is → lacked_by (role_of i) (bus * 4 + c) rest ≡ cond (is_word_of bus c i) false (is_notice_of bus c i || unanswered bus c is)
     one (Command b s tag w) l e = e
     one (Status b s resp w) l e = e
     one (Data b s w) l e = e
     one (BusError b s w) l e = e
-    one (Arinc b d tag w) l e = rw (same_channel b d bus c l.0 h) (word-one (eqb b bus && eqb d c) e)
+    one (Arinc b d tag w) l e = rw (same_channel b d bus c l.0 h) (word_one (eqb b bus && eqb d c) e)
     one (Notice b d diag) l e = rw (same_channel b d bus c l.0 h, e)
     one (User b three w) l e = e
     one (Overflow b w) l e = e

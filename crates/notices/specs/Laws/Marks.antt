@@ -85,17 +85,17 @@ unfolding bus_of
 notice_marked ks parity w h y =
     let a = and_true (eqb (label_of w) 4) (is_arinc (kind_on ks (bus_of parity w))) y in
     eq-eqb (bit_and w (notice_mask ks parity)) (notice_value ks parity)
-    (mark_word w (bit_or (shared true 15 0 ks) (shared false 15 0 ks) % buses parity) ∙ rw (eqb-true (label_of w) 4 a.0, on-bus parity a.1))
+    (mark_word w (bit_or (shared true 15 0 ks) (shared false 15 0 ks) % buses parity) ∙ rw (eqb-true (label_of w) 4 a.0, on_bus parity a.1))
   where
     both : (c : ℕ) → c < 16 → is_arinc (kind_on ks c) ≡ true → bit_and c (bit_or (shared true 15 0 ks) (shared false 15 0 ks)) ≡ shared true 15 0 ks
     both c l e =
         let z : 0 + c ≡ c = omega arith in
         within_both c (15 - c) (shared true 15 0 ks) (shared false 15 0 ks) (apart 4 c l) (rw z at (shared_side true 15 0 ks c e)) (rw z at (shared_side false 15 0 ks c e))
 
-    on-bus : (parity : Bool) → is_arinc (kind_on ks (bus_of parity w)) ≡ true
+    on_bus : (parity : Bool) → is_arinc (kind_on ks (bus_of parity w)) ≡ true
         → bit_and (w / 2 ^ 20) (bit_or (shared true 15 0 ks) (shared false 15 0 ks) % buses parity) ≡ shared true 15 0 ks % buses parity
-    on-bus true e = low_and 3 (w / 2 ^ 20) (bit_or (shared true 15 0 ks) (shared false 15 0 ks)) ∙ ap (λ n. n % 8) (both (w / 2 ^ 20 % 8) (omega arith) e)
-    on-bus false e =
+    on_bus true e = low_and 3 (w / 2 ^ 20) (bit_or (shared true 15 0 ks) (shared false 15 0 ks)) ∙ ap (λ n. n % 8) (both (w / 2 ^ 20 % 8) (omega arith) e)
+    on_bus false e =
         let z : w / 2 ^ 20 % 16 ≡ w / 2 ^ 20 = omega arith in
         low_and 4 (w / 2 ^ 20) (bit_or (shared true 15 0 ks) (shared false 15 0 ks)) ∙ rw z (ap (λ n. n % 16) (both (w / 2 ^ 20) (omega arith) e))
 

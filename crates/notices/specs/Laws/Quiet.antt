@@ -104,11 +104,11 @@ module _ (ks : List Kind) (parity : Bool) (f : ℕ) (t : List ℕ) (clear : all_
       Rest = (s : List ℕ) (d : ℕ) → set s (b * 4 + c) 0 ≡ t → answer_in parity (b * 16 + high_label c) m ws ≡ suc d
           → notes_of (roles_in ks parity (counted (n + 1) (take (suc d) ws))) (f, s) ≡ (f, t)
 
-      by-role : (x : Role) → NoNotice x → (r : ℕ) → answer_in parity (b * 16 + high_label c) m ws ≡ suc r → Rest
+      by_role : (x : Role) → NoNotice x → (r : ℕ) → answer_in parity (b * 16 + high_label c) m ws ≡ suc r → Rest
           → notes_of (roles_in ks parity (counted (n + 1) (take (suc r) ws))) (noted n x (f, s)) ≡ (f, t)
-      by-role neither o r g ih = ih s r e g
-      by-role (notice j) o r g ih = absurd o
-      by-role (word j) o r g ih = ih (set s j 0) r (set_zeros s j (b * 4 + c) ∙ ap (λ (x : List ℕ). set x j 0) e ∙ set_zero t j clear) g
+      by_role neither o r g ih = ih s r e g
+      by_role (notice j) o r g ih = absurd o
+      by_role (word j) o r g ih = ih (set s j 0) r (set_zeros s j (b * 4 + c) ∙ ap (λ (x : List ℕ). set x j 0) e ∙ set_zero t j clear) g
 
       go : (x : Bool) → eqb (label_of w) 4 ≡ x → (y : Bool) → eqb (bus_of parity w * 16 + label_of w) (b * 16 + high_label c) ≡ y → (r : ℕ)
           → answer_in parity (b * 16 + high_label c) m ws ≡ r → cond x 0 (cond y 1 (further 1 r)) ≡ suc d → Rest
@@ -120,7 +120,7 @@ module _ (ks : List Kind) (parity : Bool) (f : ℕ) (t : List ℕ) (clear : all_
       go false p false q zero g h ih = absurd (omega arith)
       go false p false q (suc r) g h ih =
           let z : d ≡ suc r = omega arith in
-          rw z (by-role (role_in ks (part_of parity w)) (other_label (kind_on ks (bus_of parity w)) parity w p) r g ih)
+          rw z (by_role (role_in ks (part_of parity w)) (other_label (kind_on ks (bus_of parity w)) parity w p) r g ih)
 
   -- what is quiet
   quiet_passes : (k : ℕ) (ws : List ℕ) (n : ℕ) (s : Notes) → notes_of (roles_in ks parity (counted n (take k ws))) s ≡ (f, t)
@@ -261,10 +261,10 @@ module _ (parity : Bool) (a : ℕ) (row : List ℕ) (i d : ℕ) where
   answer_far e = rw e
 
   module _ (low : 1 ≤ d) (near : d < 9) (l : i + d < length row) (label : ℕ) (is : label ≡ label_of (get_or row (i + d) 0)) where
-    answer-next : answer_from parity a row i d
+    answer_next : answer_from parity a row i d
         ≡ cond (eqb label 4) 0 (cond (eqb (bus_of parity (get_or row (i + d) 0) * 16 + label) a) d (answer_from parity a row i (d + 1)))
     unfolding answer_in
-    answer-next =
+    answer_next =
         let e : 9 - d ≡ suc (9 - (d + 1)) = omega arith in
         let k : i + d + 1 ≡ i + (d + 1) = omega arith in
         let w = get_or row (i + d) 0 in
@@ -276,15 +276,15 @@ module _ (parity : Bool) (a : ℕ) (row : List ℕ) (i d : ℕ) where
         go false false zero = refl
         go false false (suc r) = omega arith
 
-    pub answer-notice : label ≡ 4 → answer_from parity a row i d ≡ 0
-    answer-notice e = answer-next ∙ rw (eq-eqb label 4 e)
+    pub answer_notice : label ≡ 4 → answer_from parity a row i d ≡ 0
+    answer_notice e = answer_next ∙ rw (eq-eqb label 4 e)
 
     module _ (bus : ℕ) (on : bus ≡ bus_of parity (get_or row (i + d) 0)) (other : label ≡ 4 → ⊥) where
-      pub answer-here : bus * 16 + label ≡ a → answer_from parity a row i d ≡ d
-      answer-here e = answer-next ∙ rw (← on, ne_eqb label 4 other, eq-eqb (bus * 16 + label) a e)
+      pub answer_here : bus * 16 + label ≡ a → answer_from parity a row i d ≡ d
+      answer_here e = answer_next ∙ rw (← on, ne_eqb label 4 other, eq-eqb (bus * 16 + label) a e)
 
-      pub answer-past : (bus * 16 + label ≡ a → ⊥) → answer_from parity a row i d ≡ answer_from parity a row i (d + 1)
-      answer-past e = answer-next ∙ rw (← on, ne_eqb label 4 other, ne_eqb (bus * 16 + label) a e)
+      pub answer_past : (bus * 16 + label ≡ a → ⊥) → answer_from parity a row i d ≡ answer_from parity a row i (d + 1)
+      answer_past e = answer_next ∙ rw (← on, ne_eqb label 4 other, ne_eqb (bus * 16 + label) a e)
 
 module _ (ks : List Kind) (parity : Bool) (row : List ℕ) (i : ℕ) where
   pub quiet_end : length row ≤ i → i + quiet_part ks parity 0 (drop i row) ≡ i
@@ -296,21 +296,21 @@ module _ (ks : List Kind) (parity : Bool) (row : List ℕ) (i : ℕ) where
   quiet_next l e = rw (drop_next i row l, e) (omega arith)
 
   module _ (d : ℕ) (l : i < length row) (y : is_notice ks parity (get_or row i 0) ≡ true) (is : d ≡ answer_in parity (awaited parity (get_or row i 0)) 8 (drop (i + 1) row)) where
-    pub quiet-stop : d ≡ 0 → i + quiet_part ks parity 0 (drop i row) ≡ i
+    pub quiet_stop : d ≡ 0 → i + quiet_part ks parity 0 (drop i row) ≡ i
     unfolding quiet_part
-    quiet-stop z = rw (drop_next i row l, y, ← is, z) (omega arith)
+    quiet_stop z = rw (drop_next i row l, y, ← is, z) (omega arith)
 
-    pub quiet-fits : i + d < length row
-    quiet-fits = omega (arith, length-drop (i + 1) row, answer_low parity (awaited parity (get_or row i 0)) 8 (drop (i + 1) row), is, l)
+    pub quiet_fits : i + d < length row
+    quiet_fits = omega (arith, length-drop (i + 1) row, answer_low parity (awaited parity (get_or row i 0)) 8 (drop (i + 1) row), is, l)
 
-    pub quiet-answered : (d ≡ 0 → ⊥) → i + quiet_part ks parity 0 (drop i row) ≡ i + d + 1 + quiet_part ks parity 0 (drop (i + d + 1) row)
+    pub quiet_answered : (d ≡ 0 → ⊥) → i + quiet_part ks parity 0 (drop i row) ≡ i + d + 1 + quiet_part ks parity 0 (drop (i + d + 1) row)
     unfolding quiet_part
-    quiet-answered z = rw (drop_next i row l, y, ← is) (go d z refl)
+    quiet_answered z = rw (drop_next i row l, y, ← is) (go d z refl)
       where
         go : (e : ℕ) → (e ≡ 0 → ⊥) → d ≡ e → i + if_answered e (quiet_part ks parity e (drop (i + 1) row)) ≡ i + d + 1 + quiet_part ks parity 0 (drop (i + d + 1) row)
         go zero z s = absurd (z refl)
         go (suc e) z s =
-            let k : d ≤ length (drop (i + 1) row) = omega (arith, length-drop (i + 1) row, quiet-fits) in
+            let k : d ≤ length (drop (i + 1) row) = omega (arith, length-drop (i + 1) row, quiet_fits) in
             let b : i + 1 + d ≡ i + d + 1 = omega arith in
             let p : quiet_part ks parity d (drop (i + 1) row) ≡ d + quiet_part ks parity 0 (drop (i + d + 1) row) =
             quiet_known ks parity d (drop (i + 1) row) k ∙ ap (λ (l : List ℕ). d + quiet_part ks parity 0 l) (drop-drop d (i + 1) row ∙ ap (λ (m : ℕ). drop m row) b) in

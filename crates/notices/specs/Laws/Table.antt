@@ -87,14 +87,14 @@ module _ (b p : ℕ) (r : Row) (f : ℕ) (t : List ℕ) (size : length t ≡ 64)
       rest true h = λ z. omega (arith, h (λ (y : p + 1 ≡ 0). omega arith), open_above (p + 1) r up z)
       rest false h = h
 
-      own-waits : (s : Bool) → s ≡ true → Above b (cond s (p + 1) (open_row r)) → Above b (p + 1)
-      own-waits true e h = h
-      own-waits false e h = clash e
+      own_waits : (s : Bool) → s ≡ true → Above b (cond s (p + 1) (open_row r)) → Above b (p + 1)
+      own_waits true e h = h
+      own_waits false e h = clash e
 
       go : (k : ℕ) → k < 64 → lacked r k ≡ true → (s : Bool) → eqb j k ≡ s → Above b (get_or (set t j (p + 1)) k 0)
       go k m e true q =
           let y : k ≡ j = sym (eqb-true j k q) in
-          rw (set_here t j (p + 1) k (omega arith) y) (own-waits (lacked r j) (rw y at e) c.opens)
+          rw (set_here t j (p + 1) k (omega arith) y) (own_waits (lacked r j) (rw y at e) c.opens)
       go k m e false q =
           let o : get_or (set t j (p + 1)) k 0 ≡ get_or t k 0 = get_or-set_other t j k (p + 1) 0 (λ z. eqb-false j k q (sym z)) in
           let w : (eqb j k || lacked r k) ≡ true = rw (q, e) in

@@ -10,7 +10,7 @@ use Rattle.format.specs.Answer.{Given}
 use Rattle.format.specs.Read.{roomed}
 use Rattle.format.specs.declared.Plan.{Plan}
 use Rattle.read_groups.specs.End.{Logged, Ended}
-use Rattle.read.proofs.Given.{some_words, built_of, stops_settled, open-settled, open_few, fill-settled, fill-few, log-settled}
+use Rattle.read.proofs.Given.{some_words, built_of, stops_settled, open_settled, open_few, fill_settled, fill_few, log_settled}
 use Rattle.read.proofs.read_by.Statement.{statement}
 use Rattle.read.proofs.read_by.Tie as tie
 use Rattle.capture_parts.proofs.Given.{given_refused, whole_groups}
@@ -79,7 +79,7 @@ answered c = c.before
 few : (c : Asked) → c.asked-misplaced.result ≤ 349525
 few c =
     let r = read (brought (answered c)) in
-    fill-few (plan r) (capture r) (groups r) (length (log r)) (length (times r)) (start r).args.closed (logged (brought (answered c))) (answered c).if-end-ne0-2.false c.asked-misplaced.result c.asked-misplaced.ensures
+    fill_few (plan r) (capture r) (groups r) (length (log r)) (length (times r)) (start r).args.closed (logged (brought (answered c))) (answered c).if-end-ne0-2.false c.asked-misplaced.result c.asked-misplaced.ensures
     (length (capture r)) (whole r) (start r).requires.0.1 (start r).requires.0.0
 
 -- ---- the needs
@@ -135,7 +135,7 @@ returns-then-end-ne0-2 c =
     let l = t.before.before in
     let r = read l in
     given_refused (log r) (times r)
-    (open-settled (plan r) (capture r) (groups r) (length (log r)) (length (times r)) (start r).args.closed (logged l) t.if-end-ne0-2.true c.stored_place.ensures)
+    (open_settled (plan r) (capture r) (groups r) (length (log r)) (length (times r)) (start r).args.closed (logged l) t.if-end-ne0-2.true c.stored_place.ensures)
     c.refusal-then-end-ne0-2.ensures
 
 asked-misplaced-requires : tie.Need-asked-misplaced-requires
@@ -163,7 +163,7 @@ returns-then-misplaced-ne0 c =
     let l = brought (answered a) in
     let r = read l in
     given_refused (log r) (times r)
-    (fill-settled (plan r) (capture r) (groups r) (length (log r)) (length (times r)) (start r).args.closed (logged l) (answered a).if-end-ne0-2.false a.asked-misplaced.result a.asked-misplaced.ensures
+    (fill_settled (plan r) (capture r) (groups r) (length (log r)) (length (times r)) (start r).args.closed (logged l) (answered a).if-end-ne0-2.false a.asked-misplaced.result a.asked-misplaced.ensures
     t.if-misplaced-ne0.true c.stored_place-then-misplaced-ne0.ensures)
     c.refusal-then-misplaced-ne0.ensures
 
@@ -196,7 +196,7 @@ returns c =
     let a = o.before in
     let l = brought (answered a) in
     let r = read l in
-    rw (log-settled (plan r) (capture r) (groups r) (length (log r)) (length (times r)) (start r).args.closed (logged l) (answered a).if-end-ne0-2.false a.asked-misplaced.result a.asked-misplaced.ensures
+    rw (log_settled (plan r) (capture r) (groups r) (length (log r)) (length (times r)) (start r).args.closed (logged l) (answered a).if-end-ne0-2.false a.asked-misplaced.result a.asked-misplaced.ensures
     o.if-misplaced-ne0.false)
     (subst
     (λ (n : ℕ).

@@ -17,10 +17,10 @@ use Rattle.read_groups.specs.Misplaced.{numbers_of}
 use Rattle.read_groups.specs.Groups.{Over}
 use Rattle.notices.specs.Laws.Groups.{open_number, NotedTo, noted_none, noted_more, noted_all}
 use Rattle.notices.specs.Table.{all_zero, earliest_of}
-use Rattle.read_groups.proofs.Groups.{over_none, over-fault, over-bad, walked_bad, over-more, over_all, told-low}
+use Rattle.read_groups.proofs.Groups.{over_none, over_fault, over_bad, walked_bad, over_more, over_all, told_low}
 use Rattle.read_groups.proofs.over_groups.Statement.{statement}
 use Rattle.read_groups.proofs.over_groups.Tie as tie
-use Rattle.capture_parts.proofs.Part.{dealt_all, numbers_few, group_room, part_length, dealt_none, dealt-found, dealt_low, dealt_words}
+use Rattle.capture_parts.proofs.Part.{dealt_all, numbers_few, group_room, part_length, dealt_none, dealt_found, dealt_low, dealt_words}
 
 abbrev invariant-loop-g : tie.invariant-loop-g
 invariant-loop-g kinds plan count capture groups row₀ out₀ size first behind start arinc table₀ noted₀ pass₀ g₀ from₀ row out table noted pass g from =
@@ -151,7 +151,7 @@ told_few c =
     let e = of_row c in
     let l = group e in
     let t =
-    told-low (start l).args.kinds (plan l) (capture l) (start l).args.groups (start l).args.out.now (shape l) l.loop-g.g (in_loop (dealt e)).loop-g-test.true
+    told_low (start l).args.kinds (plan l) (capture l) (start l).args.groups (start l).args.out.now (shape l) l.loop-g.g (in_loop (dealt e)).loop-g-test.true
     l.loop-g.pass l.loop-g.out (over l) (counted l.loop-g.from (part e)) (counted_is e) (sound e) c.on_row-pass.result (out c) c.on_row-pass.ensures.0 in
     (omega (arith, t.0, numbers e), omega (arith, t.1, numbers e))
 
@@ -274,8 +274,8 @@ returns-then-fault-ne0 c =
       through = λ z. absurd (t.if-fault-ne0.true z);
       notice = λ z. absurd (t.if-fault-ne0.true z);
       stops = λ z.
-          over-fault (start l).args.kinds (plan l) (capture l) (start l).args.groups (start l).args.out.now (shape l) l.loop-g.g (in_loop d).loop-g-test.true l.loop-g.pass
-          l.loop-g.out (over l) (dealt-found (plan l) (shape l) (capture l) l.loop-g.g d.deal-fault.ensures z);
+          over_fault (start l).args.kinds (plan l) (capture l) (start l).args.groups (start l).args.out.now (shape l) l.loop-g.g (in_loop d).loop-g-test.true l.loop-g.pass
+          l.loop-g.out (over l) (dealt_found (plan l) (shape l) (capture l) l.loop-g.g d.deal-fault.ensures z);
     }
 
 offset_bounds-row-first : tie.Need-offset_bounds-row-first invariant-loop-g decreases-loop-g
@@ -323,7 +323,7 @@ returns-then-pass-ne0 c =
     let e = of_row r in
     let l = group e in
     walked_bad _ _ _ _ _ r.on_row-pass.result.bad r.on_row-pass.result.since
-    (over-bad (start l).args.kinds (plan l) (capture l) (start l).args.groups (start l).args.out.now (shape l) l.loop-g.g (in_loop (dealt e)).loop-g-test.true
+    (over_bad (start l).args.kinds (plan l) (capture l) (start l).args.groups (start l).args.out.now (shape l) l.loop-g.g (in_loop (dealt e)).loop-g-test.true
     l.loop-g.pass l.loop-g.out (over l) (counted l.loop-g.from (part e)) (counted_is e) (sound e) r.on_row-pass.result (out r) r.on_row-pass.ensures.0 t.if-pass-ne0.true)
     c.broken.ensures
 
@@ -372,7 +372,7 @@ loop-g-preserved c =
       omega (arith, (in_loop (dealt e)).loop-g-test.true),
       omega (arith, l.loop-g.invariant.1, (start l).requires.0.1),
       (dealt e).deal-fault.ensures.long ∙ l.loop-g.invariant.2,
-      over-more (start l).args.kinds (plan l) (capture l) (start l).args.groups (start l).args.out.now (shape l) l.loop-g.g (in_loop (dealt e)).loop-g-test.true
+      over_more (start l).args.kinds (plan l) (capture l) (start l).args.groups (start l).args.out.now (shape l) l.loop-g.g (in_loop (dealt e)).loop-g-test.true
           l.loop-g.pass l.loop-g.out (over l) (counted l.loop-g.from (part e)) (counted_is e) (sound e) r.on_row-pass.result (out r) r.on_row-pass.ensures.0 q.if-pass-ne0.false
           (omega (arith, r.on_row-pass.ensures.1 q.if-pass-ne0.false, l.loop-g.invariant.1, part_length_is e)),
       c.table-in-loop-g-1.given,

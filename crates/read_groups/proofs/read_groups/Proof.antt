@@ -14,7 +14,7 @@ use Rattle.data_word.proofs.Meaning.{finish_means}
 use Rattle.data_run.specs.declared.Pass.{Pass}
 use Rattle.read_groups.specs.Groups.{Through}
 use Rattle.data_run.proofs.Closing.{closing_fits, closed_bits}
-use Rattle.read_groups.proofs.End.{ends_stopped, ends_cut, ends-log}
+use Rattle.read_groups.proofs.End.{ends_stopped, ends_cut, ends_log}
 use Rattle.read_groups.proofs.read_groups.Statement.{statement}
 use Rattle.read_groups.proofs.read_groups.Tie as tie
 use Rattle.capture_parts.proofs.Part.{numbers_few}
@@ -130,7 +130,7 @@ returns c =
     let a = all f in
     let s = start (walked a) in
     let e = p.put_step-pen.ensures in
-    ends-log _ _ _ _ _ _ _ (through a) f.finish-step.result (closes f) (good p).if-step.false (free s.args.plan s.requires.0.0)
+    ends_log _ _ _ _ _ _ _ (through a) f.finish-step.result (closes f) (good p).if-step.false (free s.args.plan s.requires.0.0)
     (all_bytes s.args.capture.now (λ i. omega (arith, (walked a).shared_slice_known-1.given i))) ((walked a).walk_groups-walk.ensures.notice a.if-walk-ne0.false)
     (rw (← e.0) closed.close-bytes.ensures.0)
     (rw (← e.0, ← e.1) closed.close-bytes.ensures.1)

@@ -1,7 +1,7 @@
 use borrow.Author.Rules.{rules}
 use Rattle.salvage_groups.proofs.Turns.{dropped_sound, index_few, kept_few, numbers_upto, reel_dropped, reel_kept, time_is}
 use Rattle.salvage_run.proofs.Sounds.{low_more}
-use Rattle.capture_parts.proofs.Part.{dealt-found, dealt_none, dealt_words, part_long}
+use Rattle.capture_parts.proofs.Part.{dealt_found, dealt_none, dealt_words, part_long}
 use Rattle.format.specs.Laws.Limits.{Shape, group_most, most_group_words}
 use Rattle.format.specs.Plan.{group_words, slots}
 use lib.ListN.{length}
@@ -126,7 +126,7 @@ returns-then-fault-ne0 c =
     let e = c.drop_group-pass.ensures in
     let f = c.deal-fault.result in (
       reel_dropped a.kinds a.plan a.capture.now a.index a.walk a.out.now a.times.now a.report.now f.number (a.index * group_words a.plan + f.place)
-          (dealt-found a.plan (shape s) a.capture.now a.index c.deal-fault.ensures c.if-fault-ne0.true) e,
+          (dealt_found a.plan (shape s) a.capture.now a.index c.deal-fault.ensures c.if-fault-ne0.true) e,
       record {
         sound = dropped_sound a.plan (shape s) f.number a.index a.walk.pass c.drop_group-pass.result a.report.now c.drop_group-pass.new.report s.requires.0.3.sound e;
         few = omega (arith, s.requires.0.3.few);

@@ -1,5 +1,5 @@
 use borrow.Author.Rules.{rules}
-use Rattle.salvage_run.proofs.Steps.{word-broken, word_fits, word_step_lem, word-taken}
+use Rattle.salvage_run.proofs.Steps.{word_broken, word_fits, word_step_lem, word_taken}
 use Rattle.salvage_run.proofs.Sounds.{gone_few, low_more}
 use Rattle.salvage_run.specs.Tape.{Tape, tape, try_start, word_step}
 use Rattle.data_word.specs.Holding.{held_of}
@@ -101,7 +101,7 @@ returns-then-step c =
     let s = start b.before in
     let a = s.args in
     t.try_start.ensures ∙ ap (try_start a.kinds a.plan a.number a.word) l.let_go-free.ensures
-    ∙ word-broken a.plan (before s) a.kinds a.number a.word (fed_step b.before) b.if-step.true
+    ∙ word_broken a.plan (before s) a.kinds a.number a.word (fed_step b.before) b.if-step.true
 
 next-requires : tie.Need-next-requires
 next-requires c κs = search rules
@@ -126,7 +126,7 @@ returns c =
     let s = start e.before in
     let a = s.args in
     p.put_items.ensures a.report.now
-    ∙ word-taken a.plan (before s) a.kinds a.number a.word (fed_step e.before) e.if-step.false n.next.ensures
+    ∙ word_taken a.plan (before s) a.kinds a.number a.word (fed_step e.before) e.if-step.false n.next.ensures
 
 pub on_word_spec : {M : Type 1} → statement M
 on_word_spec =

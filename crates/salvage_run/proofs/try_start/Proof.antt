@@ -1,7 +1,7 @@
 use borrow.Author.Rules.{rules}
 use Rattle.salvage_run.proofs.Steps.{start_sane}
 use Rattle.data_items.proofs.Words.{bus_low, info_low, label_low}
-use Rattle.salvage_run.proofs.Steps.{start_fits, start-lost, start_step, start-taken, tape_lost}
+use Rattle.salvage_run.proofs.Steps.{start_fits, start_lost, start_step, start_taken, tape_lost}
 use Rattle.salvage_run.specs.Tape.{Tape, tape, word_step}
 use Rattle.format.specs.declared.Held.TheVariants.{Nothing}
 use mathlib.Core.Path.{◌≡◌, ◌∙◌}
@@ -78,7 +78,7 @@ returns-then-step c =
     let s = start t.before in
     let a = s.args in
     tape_lost a.plan a.pass a.out.now a.report.now a.number c.nothing-then-step.ensures p.stored_place.ensures p.put_at.ensures
-    ∙ start-lost a.plan (before s) a.kinds a.number a.word (fed_step t.before) t.if-step.true
+    ∙ start_lost a.plan (before s) a.kinds a.number a.word (fed_step t.before) t.if-step.true
 
 next-requires : tie.Need-next-requires
 next-requires c κs = search rules
@@ -100,7 +100,7 @@ returns c =
     let s = start e.before in
     let a = s.args in
     p.put_items.ensures a.report.now
-    ∙ start-taken a.plan (before s) a.kinds a.number a.word (fed_step e.before) e.if-step.false n.next.ensures
+    ∙ start_taken a.plan (before s) a.kinds a.number a.word (fed_step e.before) e.if-step.false n.next.ensures
 
 pub try_start_spec : {M : Type 1} → statement M
 try_start_spec =

@@ -4,7 +4,7 @@ use mathlib.Core.Path.{◌≡◌, refl, sym, ◌∙◌}
 use lib.ListN.{length}
 use Rattle.from_c.specs.Numbers.{named}
 use Rattle.from_c.specs.Laws.{sixteen}
-use Rattle.split_from_c.proofs.NamedKinds.{items-named, items_unnamed}
+use Rattle.split_from_c.proofs.NamedKinds.{items_named, items_unnamed}
 use Rattle.split_from_c.proofs.items_from.Statement.{statement}
 use Rattle.split_from_c.proofs.items_from.Tie as tie
 
@@ -43,7 +43,7 @@ returns-then-named c =
     let p = k.before in
     let a = (start p.before.before).args in
     rw
-    (items-named a.words a.tracks a.frame_time a.crc a.parity a.crc_label a.fill_bus a.kinds.now p.plan_from-plan.result k.kinds_from.result (is_named p.before)
+    (items_named a.words a.tracks a.frame_time a.crc a.parity a.crc_label a.fill_bus a.kinds.now p.plan_from-plan.result k.kinds_from.result (is_named p.before)
     p.plan_from-plan.ensures k.kinds_from.ensures a.words_in.now (length a.log.now))
     r.read_items.ensures
 

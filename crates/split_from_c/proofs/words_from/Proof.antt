@@ -5,7 +5,7 @@ use lib.ListN.{length}
 use Rattle.from_c.specs.Numbers.{named}
 use Rattle.from_c.specs.Laws.{sixteen}
 use Rattle.read_from_c.proofs.Rooms.{given_none}
-use Rattle.split_from_c.proofs.NamedKinds.{words-named, words_unnamed}
+use Rattle.split_from_c.proofs.NamedKinds.{words_named, words_unnamed}
 use Rattle.split_from_c.proofs.words_from.Statement.{statement}
 use Rattle.split_from_c.proofs.words_from.Tie as tie
 
@@ -47,7 +47,7 @@ returns-then-named c =
     let p = k.before in
     let a = (start p.before.before).args in
     rw
-    (words-named a.words a.tracks a.frame_time a.crc a.parity a.crc_label a.fill_bus a.kinds.now p.plan_from-plan.result k.kinds_from.result (is_named p.before)
+    (words_named a.words a.tracks a.frame_time a.crc a.parity a.crc_label a.fill_bus a.kinds.now p.plan_from-plan.result k.kinds_from.result (is_named p.before)
     p.plan_from-plan.ensures k.kinds_from.ensures a.capture.now (length a.words_out.now) (length a.times.now))
     r.words_bytes.ensures
 

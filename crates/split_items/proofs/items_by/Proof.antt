@@ -7,7 +7,7 @@ use mathlib.Core.List.{List}
 use lib.ListN.{length}
 use Rattle.format.specs.declared.Kind.{Kind}
 use Rattle.split_items.specs.Items.{Logged}
-use Rattle.split_items.proofs.Given.{log_closable, log_given, log_refused, log-settled, open-settled, stops_settled}
+use Rattle.split_items.proofs.Given.{log_closable, log_given, log_refused, log_settled, open_settled, stops_settled}
 use Rattle.split_items.proofs.items_by.Statement.{statement}
 use Rattle.split_items.proofs.items_by.Tie as tie
 
@@ -72,7 +72,7 @@ returns-then-notice-ne0 c =
     let o = c.before.before in
     let e = o.before in
     let k = e.before in
-    log_refused (log k) (open-settled (kinds k) (parity k) (words k) (length (log k)) (logged e) o.first_open-notice.ensures c.if-notice-ne0.true) c.refusal-then-notice-ne0.ensures
+    log_refused (log k) (open_settled (kinds k) (parity k) (words k) (length (log k)) (logged e) o.first_open-notice.ensures c.if-notice-ne0.true) c.refusal-then-notice-ne0.ensures
 
 give-requires : tie.Need-give-requires
 give-requires c κs =
@@ -94,7 +94,7 @@ returns c =
     let o = z.before in
     let e = o.before.before in
     let k = e.before in
-    rw (log-settled (kinds k) (parity k) (words k) (length (log k)) (logged e) o.first_open-notice.ensures z.if-notice-ne0.false)
+    rw (log_settled (kinds k) (parity k) (words k) (length (log k)) (logged e) o.first_open-notice.ensures z.if-notice-ne0.false)
     (log_given (length (log k)) (logged e).items _ (log k) _ (g.give.ensures (logged e).items (logged e).wrote))
 
 pub items_by_spec : {M : Type 1} → statement M

@@ -19,7 +19,7 @@ use Rattle.data_run.specs.Fills.{fills_in}
 use Rattle.data_run.specs.Pass.{RanTo, start_pass}
 use Rattle.data_run.proofs.Closing.{closing_fits}
 use Rattle.split_items.specs.Numbers.{LowFront}
-use Rattle.split_items.proofs.Running.{Good, bad-stops, cut-stops, from_start, front_words, good, large_stops, start_empty, start_sound, stops_to, words-log}
+use Rattle.split_items.proofs.Running.{Good, bad_stops, cut_stops, from_start, front_words, good, large_stops, start_empty, start_sound, stops_to, words_log}
 use Rattle.split_items.proofs.run_words.Statement.{statement}
 use Rattle.split_items.proofs.run_words.Tie as tie
 
@@ -132,7 +132,7 @@ returns-then-pass-ne0 : tie.Need-returns-then-pass-ne0
 returns-then-pass-ne0 c =
     let k = ran c.before.before.before in
     stops_to (kinds k) (parity k) (words k) _ c.stops.ensures
-    (bad-stops (kinds k) (parity k) (words k) (low k) (is_low k) (start k).args.out.now (pass k) (out k) (fills k) (is_ran k) c.if-pass-ne0.true)
+    (bad_stops (kinds k) (parity k) (words k) (low k) (is_low k) (start k).args.out.now (pass k) (out k) (fills k) (is_ran k) c.if-pass-ne0.true)
 
 begun-requires : tie.Need-begun-requires
 begun-requires c κs = (good_row c.before).brought.sound.sane
@@ -167,7 +167,7 @@ returns-then-step c =
     let g = e.before.before in
     let k = ran g.before in
     stops_to (kinds k) (parity k) (words k) _ c.stops-then-step.ensures
-    (cut-stops (kinds k) (parity k) (words k) (low k) (is_low k) (start k).args.out.now (pass k) (out k) (fills k) (is_ran k) g.if-pass-ne0.false e.if-low-words.false e.finish-step.result (closes e)
+    (cut_stops (kinds k) (parity k) (words k) (low k) (is_low k) (start k).args.out.now (pass k) (out k) (fills k) (is_ran k) g.if-pass-ne0.false e.if-low-words.false e.finish-step.result (closes e)
     c.if-step.true)
 
 put_step-end-requires : tie.Need-put_step-end-requires
@@ -187,7 +187,7 @@ returns c =
     let g = e.before.before in
     let k = ran g.before in
     record {
-      logged = λ _. words-log (kinds k) (parity k) (words k) (low k) (is_low k) (start k).args.out.now (pass k) (out k) (fills k) (is_ran k) g.if-pass-ne0.false e.if-low-words.false
+      logged = λ _. words_log (kinds k) (parity k) (words k) (low k) (is_low k) (start k).args.out.now (pass k) (out k) (fills k) (is_ran k) g.if-pass-ne0.false e.if-low-words.false
           e.finish-step.result (closes e) z.if-step.false (few g) _ p.put_step-end.ensures.0 p.put_step-end.ensures.1;
       refused = λ y. absurd (y refl);
     }

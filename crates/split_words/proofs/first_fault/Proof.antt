@@ -10,7 +10,7 @@ use Rattle.format.specs.Laws.Limits.{Shape, group_most, most_group_words}
 use Rattle.format.specs.declared.Plan.{Plan}
 use Rattle.capture_rules.specs.Split.{groups_fault}
 use Rattle.group_read.specs.Faults.{fault_of}
-use Rattle.capture_parts.proofs.Part.{group_room, part_length, dealt_none, dealt-found, dealt_low}
+use Rattle.capture_parts.proofs.Part.{group_room, part_length, dealt_none, dealt_found, dealt_low}
 use Rattle.split_words.proofs.Groups.{fault_first, fault_here, fault_behind, fault_last}
 use Rattle.split_words.proofs.first_fault.Statement.{statement}
 use Rattle.split_words.proofs.first_fault.Tie as tie
@@ -127,7 +127,7 @@ returns-then-fault-ne0 c =
     let l = loop d in
     record {
       is = sym (ap fault_of (l.loop-g.invariant.2 ∙ fault_here (plan l) (capture l) (start l).args.n l.loop-g.g (in_loop d).loop-g-test.true
-          (dealt-found (plan l) (shape l) (capture l) l.loop-g.g d.deal-fault.ensures t.if-fault-ne0.true)));
+          (dealt_found (plan l) (shape l) (capture l) l.loop-g.g d.deal-fault.ensures t.if-fault-ne0.true)));
       clear = λ z. absurd (t.if-fault-ne0.true z);
     }
 

@@ -11,7 +11,7 @@ use Rattle.format.specs.declared.Plan.{Plan}
 use Rattle.capture_rules.specs.Split.{groups_fault}
 use Rattle.capture_parts.proofs.Part.{numbers_few}
 use Rattle.capture_parts.proofs.Given.{given_refused, times_few, whole_groups}
-use Rattle.split_words.proofs.Given.{both_fit, fault_refused, room_number, words-refused, times-refused, words_given}
+use Rattle.split_words.proofs.Given.{both_fit, fault_refused, room_number, words_refused, times_refused, words_given}
 use Rattle.split_words.proofs.words_by.Statement.{statement}
 use Rattle.split_words.proofs.words_by.Tie as tie
 use Rattle.capture_parts.specs.Room.{earlier}
@@ -159,7 +159,7 @@ returns-then-number-eq6 c =
     let k = counted m in
     let j = sound k in
     given_refused (words j) (times j)
-    (words-refused (plan j) (capture j) (length (words j)) (length (times j)) (n j) (groups j) (n_is j) (clear k) (count_is k) (need_is m) (number_is m) c.if-number-eq6.true)
+    (words_refused (plan j) (capture j) (length (words j)) (length (times j)) (n j) (groups j) (n_is j) (clear k) (count_is k) (need_is m) (number_is m) c.if-number-eq6.true)
     c.refusal-then-number-eq6.ensures
 
 refusal-requires-then-number-eq7 : tie.Need-refusal-requires-then-number-eq7
@@ -174,7 +174,7 @@ returns-then-number-eq7 c =
     let k = counted m in
     let j = sound k in
     given_refused (words j) (times j)
-    (times-refused (plan j) (capture j) (length (words j)) (length (times j)) (n j) (groups j) (n_is j) (clear k) (count_is k) (need_is m) (number_is m) c.if-number-eq7.true)
+    (times_refused (plan j) (capture j) (length (words j)) (length (times j)) (n j) (groups j) (n_is j) (clear k) (count_is k) (need_is m) (number_is m) c.if-number-eq7.true)
     c.refusal-then-number-eq7.ensures
 
 write_words-requires : tie.Need-write_words-requires

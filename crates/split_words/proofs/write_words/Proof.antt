@@ -13,7 +13,7 @@ use Rattle.format.specs.Laws.Reader.Slots.{words_in}
 use Rattle.format.specs.declared.Plan.{Plan}
 use Rattle.capture_rules.specs.Split.{groups_fault}
 use Rattle.group_read.proofs.Answers.{words_length}
-use Rattle.capture_parts.proofs.Part.{group_room, part_length, dealt_all, none-dealt, dealt_words, numbers_few}
+use Rattle.capture_parts.proofs.Part.{group_room, part_length, dealt_all, none_dealt, dealt_words, numbers_few}
 use Rattle.split_words.proofs.Groups.{lent_length, fault_first, fault_none, words_none, share_room, group_more, words_all}
 use Rattle.split_words.proofs.write_words.Statement.{statement}
 use Rattle.split_words.proofs.write_words.Tie as tie
@@ -110,7 +110,7 @@ part_is : (c : Dealt) → let l = loop c in part c ≡ words_in (group_slots (pl
 part_is c =
     let l = loop c in
     dealt_words (plan l) (shape l) (capture l) l.loop-g.g (deal c).deal.ensures (first l) (count l)
-    (none-dealt (plan l) (shape l) (capture l) l.loop-g.g (deal c).deal.ensures (faultless (in_loop c)).0) (first_is l) (counts l)
+    (none_dealt (plan l) (shape l) (capture l) l.loop-g.g (deal c).deal.ensures (faultless (in_loop c)).0) (first_is l) (counts l)
 
 row_room : (c : Dealt) → first (loop c) + count (loop c) ≤ length (row c)
 row_room c =

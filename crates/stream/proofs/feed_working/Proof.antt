@@ -5,7 +5,7 @@ use lib.ListN.{length}
 use Rattle.format.specs.Plan.{times_needed}
 use Rattle.format.specs.Laws.Limits.{group_most}
 use Rattle.stream_rules.specs.Stream.{group_size, most_bytes}
-use Rattle.stream_calls.proofs.Refused.{crossed, fed-bytes, piece_kept, piece_waits, short-entries, unread_leaves}
+use Rattle.stream_calls.proofs.Refused.{crossed, fed_bytes, piece_kept, piece_waits, short_entries, unread_leaves}
 use borrow.Author.Rules.{rules}
 use Rattle.stream.proofs.feed_working.Statement.{statement}
 use Rattle.stream.proofs.feed_working.Tie as tie
@@ -62,7 +62,7 @@ returns-then-times-times_of c =
     let s = start q.before in
     let a = s.args in
     unread_leaves a.state.now a.log.now a.times.now
-    (short-entries a.state.now a.stand s.requires.work a.piece.now (length a.log.now) (length a.times.now) s.requires.short (omega (arith, asked q, c.if-times-times_of.true)))
+    (short_entries a.state.now a.stand s.requires.work a.piece.now (length a.log.now) (length a.times.now) s.requires.short (omega (arith, asked q, c.if-times-times_of.true)))
     c.refusal.ensures
 
 group_words-requires : tie.Need-group_words-requires
@@ -115,7 +115,7 @@ returns-then-filled-eq0 c =
     (arith, counts d, c.if-count-piece-gt1099511627776.false) in
     piece_kept a.state.now a.stand s.requires.work a.piece.now a.log.now a.times.now _ _ d.groups_in-filled.ensures
     c.if-filled-eq0.true
-    (fed-bytes a.state.now a.stand s.requires.work a.piece.now (length a.log.now) (length a.times.now) s.requires.short s.requires.roomy (enough d) small)
+    (fed_bytes a.state.now a.stand s.requires.work a.piece.now (length a.log.now) (length a.times.now) s.requires.short s.requires.roomy (enough d) small)
     c.refusal-then-filled-eq0.ensures c.keep.ensures
 
 feed_groups-requires : tie.Need-feed_groups-requires

@@ -9,7 +9,7 @@ use Rattle.stream_state.specs.Stand.{loaded_of}
 use Rattle.stream_state.specs.declared.Loaded.{Loaded}
 use Rattle.stream_state.proofs.AtWork.{loaded_work}
 use Rattle.stream_close.specs.Closing.{Says}
-use Rattle.stream_close.proofs.Closing.{shut-ends, shut_failed, shut_part, shut-whole}
+use Rattle.stream_close.proofs.Closing.{shut_ends, shut_failed, shut_part, shut_whole}
 use borrow.Author.Rules.{rules}
 use Rattle.stream_close.proofs.close_on.Statement.{statement}
 use Rattle.stream_close.proofs.close_on.Tie as tie
@@ -81,7 +81,7 @@ end_log-requires c κs =
     let s = c.before.before.before.before.before.before.before.before.before.before in
     let a = s.args in
     let z = c.if-found-eq2.false in
-    shut-whole s.requires.bytes a.found.stand (work s z) a.log.now s.requires.roomy (c.if-waiting-ne0.false) a.table.now (s.requires.says.table_is (s.requires.open_stage z))
+    shut_whole s.requires.bytes a.found.stand (work s z) a.log.now s.requires.roomy (c.if-waiting-ne0.false) a.table.now (s.requires.says.table_is (s.requires.open_stage z))
 
 shape_of-log : tie.Need-shape_of-log
 shape_of-log c = search rules
@@ -91,7 +91,7 @@ returns c =
     let s = c.before.before.before.before.before.before.before.before.before.before.before.before.before in
     let a = s.args in
     let z = c.if-found-eq2.false in
-    λ b y. shut-ends b a.found.stand (at_work s z b y) a.log.now s.requires.roomy (c.if-waiting-ne0.false) a.table.now
+    λ b y. shut_ends b a.found.stand (at_work s z b y) a.log.now s.requires.roomy (c.if-waiting-ne0.false) a.table.now
     (y.table_is (s.requires.open_stage z)) c.end_log.ensures
 
 pub close_on_spec : {M : Type 1} → statement M

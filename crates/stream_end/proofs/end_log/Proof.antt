@@ -8,7 +8,7 @@ use Rattle.data_word.specs.Meaning.{Closes}
 use Rattle.data_word.proofs.Meaning.{finish_means}
 use Rattle.stream_rules.specs.Stream.{earliest}
 use Rattle.stream_rules.specs.Laws.Stream.Fits.{NumberOk}
-use Rattle.stream_end.proofs.Closing.{earliest_is, ends_cut, ends_last, ends_open, ends-put, stored_ok}
+use Rattle.stream_end.proofs.Closing.{earliest_is, ends_cut, ends_last, ends_open, ends_put, stored_ok}
 use borrow.Author.Rules.{rules}
 use Rattle.stream_end.proofs.end_log.Statement.{statement}
 use Rattle.stream_end.proofs.end_log.Tie as tie
@@ -111,7 +111,7 @@ returns c =
     let n = k.before.before.before in
     let f = done n in
     let a = (start f).args in
-    ends-put a.plan a.held a.since a.pen a.table.now a.log.now f.finish-step.result (closes f) n.if-step.false (none n k.if-notice-ne0.false)
+    ends_put a.plan a.held a.since a.pen a.table.now a.log.now f.finish-step.result (closes f) n.if-step.false (none n k.if-notice-ne0.false)
     k.put_end.ensures
 
 pub end_log_spec : {M : Type 1} → statement M

@@ -7,7 +7,7 @@ use Rattle.stream_rules.specs.Stream.{group_size}
 use Rattle.stream_state.specs.Parts.{kinds_at}
 use Rattle.stream_piece.specs.Along.{Goes}
 use Rattle.stream_groups.specs.Feeding.{Filled, start_of}
-use Rattle.stream_groups.proofs.Groups.{ends-given, filled_in, one_filled, stores, tail_is, total}
+use Rattle.stream_groups.proofs.Groups.{ends_given, filled_in, one_filled, stores, tail_is, total}
 use borrow.Author.Rules.{rules}
 use Rattle.stream_groups.proofs.feed_in.Statement.{statement}
 use Rattle.stream_groups.proofs.feed_in.Tie as tie
@@ -119,7 +119,7 @@ returns c =
     let s = start (sized t) in
     let a = s.args in
     let e = rw t.kinds_at-kinds.ensures at c.end_feed.ensures.1 in
-    ends-given a.state.now a.stand a.table.now a.piece.now _ _ a.filled (filled s) refl refl (goes t) _ (tail t) _ _ c.end_feed.ensures.0 e
+    ends_given a.state.now a.stand a.table.now a.piece.now _ _ a.filled (filled s) refl refl (goes t) _ (tail t) _ _ c.end_feed.ensures.0 e
 
 pub feed_in_spec : {M : Type 1} → statement M
 feed_in_spec =

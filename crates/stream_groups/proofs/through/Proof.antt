@@ -8,7 +8,7 @@ use Rattle.stream_rules.specs.Stream.{Flow, feed_bytes, group_size, working}
 use Rattle.stream_state.specs.AtWork.{work_in}
 use Rattle.stream_piece.specs.Along.{Goes, work_of}
 use Rattle.stream_groups.specs.Feeding.{Filled, start_of}
-use Rattle.stream_groups.proofs.Groups.{first_group, first_long, first-ready, first_small, first-takes, front-in, next-count, next-ready, next-takes, one-is, others-in, through-goes}
+use Rattle.stream_groups.proofs.Groups.{first_group, first_long, first_ready, first_small, first_takes, front_in, next_count, next_ready, next_takes, one_is, others_in, through_goes}
 use borrow.Author.Rules.{rules}
 use Rattle.stream_groups.proofs.through.Statement.{statement}
 use Rattle.stream_groups.proofs.through.Tie as tie
@@ -39,7 +39,7 @@ fronted : (k : Whole) → front k + (start k).args.stand.waiting ≡ group_size 
 fronted k = omega (arith, sized k, (filled (start k)).fed.work.part)
 
 in_piece : (k : Whole) → front k ≤ length (start k).args.piece.now
-in_piece k = let s = start k in let a = s.args in front-in a.state.now a.stand a.table.now a.piece.now _ _ a.filled (filled s) a.kinds s.requires.1 (front k) (fronted k)
+in_piece k = let s = start k in let a = s.args in front_in a.state.now a.stand a.table.now a.piece.now _ _ a.filled (filled s) a.kinds s.requires.1 (front k) (fronted k)
 
 in_state : (k : Whole) → 1024 + size k ≤ length (start k).args.state.now
 in_state k = let w = (filled (start k)).fed.work in omega (arith, w.long, sized k, group_most (start k).args.stand.plan w.shape)
@@ -60,7 +60,7 @@ flows : (k : Whole) → flow k ≡ feed_bytes (working (work_in (start k).args.s
 flows k =
     let s = start k in
     let a = s.args in
-    one-is a.state.now a.stand a.table.now a.piece.now _ _ a.filled (filled s) a.kinds s.requires.1 (front k) (fronted k) (group k) (group_is k)
+    one_is a.state.now a.stand a.table.now a.piece.now _ _ a.filled (filled s) a.kinds s.requires.1 (front k) (fronted k) (group k) (group_is k)
 
 -- and taken
 abbrev First : Type 0
@@ -100,7 +100,7 @@ complete-requires c κs =
     let f : 3 * c.group_words-size.result - s.args.stand.waiting + s.args.stand.waiting ≡ group_size s.args.stand.plan = omega (arith, z, w.part) in (
       w.long,
       omega (arith, f, group_most s.args.stand.plan w.shape),
-      front-in s.args.state.now s.args.stand s.args.table.now s.args.piece.now _ _ s.args.filled (filled s) s.args.kinds s.requires.1 _ f,
+      front_in s.args.state.now s.args.stand s.args.table.now s.args.piece.now _ _ s.args.filled (filled s) s.args.kinds s.requires.1 _ f,
     )
 
 slots-count-requires : tie.Need-slots-count-requires
@@ -130,13 +130,13 @@ on_group-first-requires c κs =
     let t = c.start_along-start.ensures in
     rw t (
       (
-        first-ready a.state.now a.stand a.table.now a.piece.now _ _ a.filled (filled s) a.kinds s.requires.1 (front k) (fronted k),
+        first_ready a.state.now a.stand a.table.now a.piece.now _ _ a.filled (filled s) a.kinds s.requires.1 (front k) (fronted k),
         refl,
         record { slots_are = c.slots-count.ensures.0; dealt = r.dealt; built = r.built },
         first_long a.state.now a.piece.now (group k) a.stand.waiting (front k) (size k) (fronted k ∙ sym (sized k)) (in_state k) (in_piece k) (group_is k) ∙ sized k,
         first_small a.state.now a.stand a.table.now a.piece.now _ _ a.filled (filled s) a.kinds s.requires.1 (front k) (fronted k),
       ),
-      first-takes a.state.now a.stand a.table.now a.piece.now _ _ a.filled (filled s) a.kinds s.requires.1 (front k) (fronted k) (flow k) (flows k) a.log.now
+      first_takes a.state.now a.stand a.table.now a.piece.now _ _ a.filled (filled s) a.kinds s.requires.1 (front k) (fronted k) (flow k) (flows k) a.log.now
           a.times.now refl refl,
     )
 
@@ -154,7 +154,7 @@ on_piece-requires c κs =
     let F = filled s in (
       (
         F.fed.work.shape,
-        next-ready b a.stand a.table.now a.piece.now _ _ a.filled F a.kinds s.requires.1 (front k) (fronted k) (flow k) (flows k) a.log.now a.times.now refl refl (goes o),
+        next_ready b a.stand a.table.now a.piece.now _ _ a.filled F a.kinds s.requires.1 (front k) (fronted k) (flow k) (flows k) a.log.now a.times.now refl refl (goes o),
         record {
           slots_are = o.slots-count.ensures.0;
           dealt = omega
@@ -162,12 +162,12 @@ on_piece-requires c κs =
           built = omega
               (arith, r.built, c.out-1.given);
         },
-        others-in b a.stand a.table.now a.piece.now _ _ a.filled F a.kinds s.requires.1 (front k) (fronted k),
+        others_in b a.stand a.table.now a.piece.now _ _ a.filled F a.kinds s.requires.1 (front k) (fronted k),
         F.fed.short,
       ),
       (
-        next-count b a.stand a.table.now a.piece.now _ _ a.filled F a.kinds s.requires.1 (front k) (fronted k) (flow k) (flows k) a.log.now a.times.now refl refl (goes o),
-        next-takes b a.stand a.table.now a.piece.now _ _ a.filled F a.kinds s.requires.1 (front k) (fronted k) (flow k) (flows k) a.log.now a.times.now refl refl (goes o)
+        next_count b a.stand a.table.now a.piece.now _ _ a.filled F a.kinds s.requires.1 (front k) (fronted k) (flow k) (flows k) a.log.now a.times.now refl refl (goes o),
+        next_takes b a.stand a.table.now a.piece.now _ _ a.filled F a.kinds s.requires.1 (front k) (fronted k) (flow k) (flows k) a.log.now a.times.now refl refl (goes o)
             c.log-1.given c.times-1.given,
       ),
     )
@@ -198,7 +198,7 @@ returns c =
     let k = whole o in
     let s = start k in
     let a = s.args in
-    through-goes a.state.now a.stand a.table.now a.piece.now _ _ a.filled (filled s) a.kinds s.requires.1 (front k) (fronted k) (flow k) (flows k) a.log.now
+    through_goes a.state.now a.stand a.table.now a.piece.now _ _ a.filled (filled s) a.kinds s.requires.1 (front k) (fronted k) (flow k) (flows k) a.log.now
     a.times.now refl refl (goes o) c.on_piece.ensures
 
 pub through_spec : {M : Type 1} → statement M

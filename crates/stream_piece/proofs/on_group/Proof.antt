@@ -9,7 +9,7 @@ use Rattle.stream_group.specs.Took.{Went, carried}
 use Rattle.stream_group.specs.declared.Took.{Took}
 use Rattle.stream_rules.specs.Stream.{Brought, Flow, feed_bytes, take_group, taken, working}
 use Rattle.stream_piece.specs.Along.{work_of}
-use Rattle.stream_piece.proofs.Group.{Grants, bits_written, built_room, group_flow, groups_low, ready_grants, stopped_goes, went-bytes, went-goes, went-times}
+use Rattle.stream_piece.proofs.Group.{Grants, bits_written, built_room, group_flow, groups_low, ready_grants, stopped_goes, went_bytes, went_goes, went_times}
 use Rattle.stream_piece.proofs.on_group.Statement.{statement}
 use Rattle.stream_piece.proofs.on_group.Tie as tie
 use Rattle.stream_piece.proofs.on_group.Reads as reads
@@ -58,8 +58,8 @@ room c z =
     let a = s.args in
     let w = went c z in
     let x = w.wrote _ (bits_written a.out.now a.along.pen s.requires.0.0.bits) in
-    let n = went-bytes a.plan a.kinds a.along a.table.now a.group.now (flow s) (brought s) (flows s) (took c) _ _ w.items w.is x in
-    let m = went-times a.plan a.kinds a.along a.table.now a.group.now (flow s) (brought s) (flows s) (took c) _ _ w.items w.is x in
+    let n = went_bytes a.plan a.kinds a.along a.table.now a.group.now (flow s) (brought s) (flows s) (took c) _ _ w.items w.is x in
+    let m = went_times a.plan a.kinds a.along a.table.now a.group.now (flow s) (brought s) (flows s) (took c) _ _ w.items w.is x in
     record {
       built = omega (arith, n, w.long, built_room a.plan a.kinds a.along a.table.now a.group.now a.out.now s.requires.0.0.bits s.requires.0.3 s.requires.0.2.built);
       bytes = omega (arith, n, s.requires.1.bytes);
@@ -126,7 +126,7 @@ returns c =
     let a = s.args in
     let z = k.if-took-ne0.false in
     let w = went t z in
-    went-goes a.plan a.kinds a.along a.table.now a.group.now (flow s) (brought s) (flows s) (took t) _ _ w.items w.is
+    went_goes a.plan a.kinds a.along a.table.now a.group.now (flow s) (brought s) (flows s) (took t) _ _ w.items w.is
     (w.wrote _ (bits_written a.out.now a.along.pen s.requires.0.0.bits)) _ _ _ _
     k.put_group.ensures.0 w.sane (room t z).built k.put_group.ensures.1 k.put_group.ensures.2
 

@@ -10,7 +10,7 @@ use Rattle.format.specs.declared.Plan.{Plan}
 use Rattle.stream_rules.specs.Stream.{Flow, group_size}
 use Rattle.stream_piece.specs.Along.{Goes, reached}
 use Rattle.stream_piece.specs.declared.Along.{Along}
-use Rattle.stream_piece.proofs.Piece.{goes_none, part_is, part_long, turn-goes, turn-ready, turn_small, turn-stops, turn-takes, up_none, up_to}
+use Rattle.stream_piece.proofs.Piece.{goes_none, part_is, part_long, turn_goes, turn_ready, turn_small, turn_stops, turn_takes, up_none, up_to}
 use Rattle.stream_piece.proofs.on_piece.Statement.{statement}
 use Rattle.stream_piece.proofs.on_piece.Tie as tie
 use Rattle.stream_piece.proofs.on_piece.Reads as reads
@@ -116,7 +116,7 @@ returns-then-along-ne0 : tie.Need-returns-then-along-ne0 invariant-loop-index de
 returns-then-along-ne0 c =
     let a = c.args in
     let o = c.loop-index in
-    turn-stops a.plan a.kinds a.start a.table.now (drop a.first a.piece.now) a.groups o.index o.invariant.goes o.invariant.few c.if-along-ne0.true
+    turn_stops a.plan a.kinds a.start a.table.now (drop a.first a.piece.now) a.groups o.index o.invariant.goes o.invariant.few c.if-along-ne0.true
 
 overflow_mul-begin : tie.Need-overflow_mul-begin invariant-loop-index decreases-loop-index
 overflow_mul-begin c = let s = start c in omega (arith, in_piece c, s.requires.0.4)
@@ -147,13 +147,13 @@ on_group-along-requires c κs =
     let v = part_is a.piece.now a.first (index h) (group_size a.plan) (sized h) in
     let r = s.requires.0.2 in (
       (
-        turn-ready a.plan a.kinds a.start a.table.now D a.groups (index h) g s.requires.0.1.fit s.requires.1.0 (at h).loop-index.invariant.few (all_in s),
+        turn_ready a.plan a.kinds a.start a.table.now D a.groups (index h) g s.requires.0.1.fit s.requires.1.0 (at h).loop-index.invariant.few (all_in s),
         z,
         record { slots_are = r.slots_are; dealt = omega (arith, r.dealt, (at h).loop-index.invariant.same_row); built = omega (arith, r.built, (at h).loop-index.invariant.same_out) },
         ap (λ (u : List ℕ). length u) v ∙ part_long a.piece.now a.first (index h) a.groups (group_size a.plan) (more h) s.requires.0.3,
         turn_small a.plan a.kinds a.start a.table.now D a.groups (index h) g s.requires.1.0 (more h) (all_in s) z,
       ),
-      turn-takes a.plan a.kinds a.start a.table.now D a.groups (index h) g _ v z (more h) s.requires.1.1 (at h).loop-index.invariant.same_log (at h).loop-index.invariant.same_times,
+      turn_takes a.plan a.kinds a.start a.table.now D a.groups (index h) g _ v z (more h) s.requires.1.1 (at h).loop-index.invariant.same_log (at h).loop-index.invariant.same_times,
     )
 
 overflow_add-index : tie.Need-overflow_add-index invariant-loop-index decreases-loop-index
@@ -172,7 +172,7 @@ loop-index-preserved c =
     let v = part_is a.piece.now a.first (index h) (group_size a.plan) (sized h) in
     record {
       few = omega (arith, more h);
-      goes = turn-goes a.plan a.kinds a.start a.table.now (drop a.first a.piece.now) a.groups (index h) t.goes _ v h.if-along-ne0.false (more h) s.requires.1.1
+      goes = turn_goes a.plan a.kinds a.start a.table.now (drop a.first a.piece.now) a.groups (index h) t.goes _ v h.if-along-ne0.false (more h) s.requires.1.1
           c.on_group-along.ensures;
       same_table = c.table-1.given ∙ t.same_table;
       same_row = c.row-1.given ∙ t.same_row;

@@ -45,13 +45,13 @@ module _ (p : Plan) (ks : List Kind) (c : List ℕ) where
   pub record UpTo : Type 0 where
     pub held : List ℕ
     pub items_are : saved.its ≡ tale.items ++ (behind p ks c (groups_in p c - (tale.groups + 1)) (tale.groups + 1)).its
-    pub report-is : saved.report ≡ map lost_word held ++ lost_group tale.number tale.groups ∷ (behind p ks c (groups_in p c - (tale.groups + 1)) (tale.groups + 1)).report
+    pub report_is : saved.report ≡ map lost_word held ++ lost_group tale.number tale.groups ∷ (behind p ks c (groups_in p c - (tale.groups + 1)) (tale.groups + 1)).report
 
   up_to : AtGap p ks c (groups_in p c) 0 saved tale → UpTo
   up_to k =
       let i : k.index ≡ tale.groups = omega (arith, k.index_is) in
       let n : k.left ≡ groups_in p c - (tale.groups + 1) = omega (arith, k.left_is) in
-      record { held = k.held; items_are = rw (i, n) at k.items-then; report-is = rw (i, n) at k.report-then }
+      record { held = k.held; items_are = rw (i, n) at k.items_then; report_is = rw (i, n) at k.report_then }
 
   pub up_to_the_gap : legal p ks ≡ true → 9 ≤ tale.number → tale.number ≤ 12 → UpTo
   up_to_the_gap l a b = up_to ((alike l).at_gap a b)
@@ -64,9 +64,9 @@ module _ (p : Plan) (ks : List Kind) (c : List ℕ) where
       go : (b : Bool) → eqb tale.number 0 ≡ b
           → (rest : List ℕ) × (log_of saved.its ≡ cond b (packed (flat_map item_bits tale.items ++ bits_of 4 0)) (whole_bytes (flat_map item_bits tale.items)) ++ rest)
       go true z =
-          let e : saved.its ≡ tale.items = h.items-first ∙ ap (λ (l : List Item). tale.items ++ l) (h.all_items (eqb-true tale.number 0 z)) ∙ append-nil tale.items in
+          let e : saved.its ≡ tale.items = h.items_first ∙ ap (λ (l : List Item). tale.items ++ l) (h.all_items (eqb-true tale.number 0 z)) ∙ append-nil tale.items in
           ([], ap log_of e ∙ sym (append-nil (log_of tale.items)))
-      go false z = (packed (rest_bits (flat_map item_bits tale.items) ++ (flat_map item_bits h.more-items ++ bits_of 4 0)), ap log_of h.items-first ∙ log_behind tale.items h.more-items)
+      go false z = (packed (rest_bits (flat_map item_bits tale.items) ++ (flat_map item_bits h.more_items ++ bits_of 4 0)), ap log_of h.items_first ∙ log_behind tale.items h.more_items)
 
   times_first : Shared p ks c (groups_in p c) 0 saved tale
       → (rest : List ℕ) × (cond p.frame_time (kept_times p c (groups_in p c) 0) [] ≡ tale_times p c 0 tale ++ rest)
@@ -74,7 +74,7 @@ module _ (p : Plan) (ks : List Kind) (c : List ℕ) where
   times_first h = go p.frame_time
     where
       go : (b : Bool) → (rest : List ℕ) × (cond b (kept_times p c (groups_in p c) 0) [] ≡ list (time p ks c) 0 (cond b tale.groups 0) ++ rest)
-      go true = (h.more-times, h.times_first)
+      go true = (h.more_times, h.times_first)
       go false = ([], refl)
 
   pub handed_first : (log times : List ℕ) (report : List Entry) (log_room time_room reportRoom : ℕ) → length ks ≡ 16

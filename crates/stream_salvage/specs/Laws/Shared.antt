@@ -75,16 +75,16 @@ module _ (p : Plan) (ks : List Kind) (c : List ℕ) where
     pub held : List ℕ
     pub index_is : index ≡ g + t.groups
     pub left_is : left + (t.groups + 1) ≡ n
-    pub items-then : s.its ≡ t.items ++ (behind left (index + 1)).its
-    pub report-then : s.report ≡ map lost_word held ++ lost_group t.number index ∷ (behind left (index + 1)).report
+    pub items_then : s.its ≡ t.items ++ (behind left (index + 1)).its
+    pub report_then : s.report ≡ map lost_word held ++ lost_group t.number index ∷ (behind left (index + 1)).report
 
   -- n groups from g on
   pub record Shared (n g : ℕ) (s : Saved) (t : Tale) : Type 0 where
-    pub more-items : List Item
-    pub more-times : List ℕ
-    pub items-first : s.its ≡ t.items ++ more-items
-    pub times_first : kept_times p c n g ≡ list time g t.groups ++ more-times
-    pub all_items : t.number ≡ 0 → more-items ≡ []
+    pub more_items : List Item
+    pub more_times : List ℕ
+    pub items_first : s.its ≡ t.items ++ more_items
+    pub times_first : kept_times p c n g ≡ list time g t.groups ++ more_times
+    pub all_items : t.number ≡ 0 → more_items ≡ []
     pub at_gap : 9 ≤ t.number → t.number ≤ 12 → AtGap n g s t
 
   -- a stream that stops here, but not by a fault of 9 to 12
@@ -92,9 +92,9 @@ module _ (p : Plan) (ks : List Kind) (c : List ℕ) where
       → Shared n g s (record { items = []; groups = 0; number = k; place = q; second = second })
   unfolding list
   stops_here n g s k q second d = record {
-    more-items = s.its;
-    more-times = kept_times p c n g;
-    items-first = refl;
+    more_items = s.its;
+    more_times = kept_times p c n g;
+    items_first = refl;
     times_first = refl;
     all_items = λ z. absurd (omega (arith, d.0, z));
     at_gap = λ a b. absurd (d.1 a b);
@@ -122,9 +122,9 @@ module _ (p : Plan) (ks : List Kind) (c : List ℕ) where
     where
       go : (b : Bool) → Shared 0 g (record { its = finished x.held; report = es }) (ending (cond b (got is) (stopped 15 (stored_of p (earliest x.waits)) 0)))
       go true = record {
-        more-items = [];
-        more-times = [];
-        items-first = f ∙ sym (append-nil is);
+        more_items = [];
+        more_times = [];
+        items_first = f ∙ sym (append-nil is);
         times_first = refl;
         all_items = λ z. refl;
         at_gap = λ a b. absurd (omega (arith, a));
@@ -138,9 +138,9 @@ module _ (p : Plan) (ks : List Kind) (c : List ℕ) where
       → s.its ≡ is ++ s'.its → s.report ≡ s'.report → Shared n (g + 1) s' t → Shared (suc n) g s (further is t)
   unfolding list kept_times
   further_shared n g is s s' t sound timed e r h = record {
-    more-items = h.more-items;
-    more-times = h.more-times;
-    items-first = e ∙ ap (λ (l : List Item). is ++ l) h.items-first ∙ sym (append_assoc is t.items h.more-items);
+    more_items = h.more_items;
+    more_times = h.more_times;
+    items_first = e ∙ ap (λ (l : List Item). is ++ l) h.items_first ∙ sym (append_assoc is t.items h.more_items);
     times_first = rw (sound, timed) (ap (λ (l : List ℕ). time g ∷ l) h.times_first);
     all_items = h.all_items;
     at_gap = λ a b.
@@ -151,8 +151,8 @@ module _ (p : Plan) (ks : List Kind) (c : List ℕ) where
           held = k.held;
           index_is = omega (arith, k.index_is);
           left_is = omega (arith, k.left_is);
-          items-then = e ∙ ap (λ (l : List Item). is ++ l) k.items-then ∙ sym (append_assoc is t.items (behind k.left (k.index + 1)).its);
-          report-then = r ∙ k.report-then;
+          items_then = e ∙ ap (λ (l : List Item). is ++ l) k.items_then ∙ sym (append_assoc is t.items (behind k.left (k.index + 1)).its);
+          report_then = r ∙ k.report_then;
         };
   }
 
@@ -161,9 +161,9 @@ module _ (p : Plan) (ks : List Kind) (c : List ℕ) where
       → Shared (suc n) g (salvage ks p.parity (gap k g ∷ pieces p c n (g + 1)) h ps) (record { items = []; groups = 0; number = k; place = q; second = 0 })
   unfolding list kept_times salvage
   gap_shared n g h ps k q l e = record {
-    more-items = (behind n (g + 1)).its;
-    more-times = kept_times p c n (g + 1);
-    items-first = refl;
+    more_items = (behind n (g + 1)).its;
+    more_times = kept_times p c n (g + 1);
+    items_first = refl;
     times_first = rw e refl;
     all_items = λ z. absurd (omega (arith, l, z));
     at_gap = λ a b. record {
@@ -172,14 +172,14 @@ module _ (p : Plan) (ks : List Kind) (c : List ℕ) where
       held = ps;
       index_is = omega arith;
       left_is = omega arith;
-      items-then = refl;
-      report-then = append_assoc (map lost_word ps) (lost_group k g ∷ []) (behind n (g + 1)).report;
+      items_then = refl;
+      report_then = append_assoc (map lost_word ps) (lost_group k g ∷ []) (behind n (g + 1)).report;
     };
   }
 
   module _ (ok : Legal p ks) where
-    sound-fault : (g : ℕ) (f : Fault) → group_fault p c (g * group_words p) ≡ f → FaultIn (g * group_words p) (g * group_words p + group_words p) f
-    sound-fault g f e = rw e at (fault_in p c (g * group_words p) (long p ok.shape) ok.shape.tracks_least (room p ok.shape))
+    sound_fault : (g : ℕ) (f : Fault) → group_fault p c (g * group_words p) ≡ f → FaultIn (g * group_words p) (g * group_words p + group_words p) f
+    sound_fault g f e = rw e at (fault_in p c (g * group_words p) (long p ok.shape) ok.shape.tracks_least (room p ok.shape))
 
     pub shared : (n g : ℕ) (x : Carry) (ps : List ℕ) → Shared n g (salvage ks p.parity (pieces p c n g) x.held ps) (stream_groups p ks c n g x)
     unfolding stream_groups pieces take_group closing salvage
@@ -201,7 +201,7 @@ module _ (p : Plan) (ks : List Kind) (c : List ℕ) where
             → Kept ks p.parity (pieces p c n (g + 1)) r (salvage ks p.parity (data_pieces ss ++ pieces p c n (g + 1)) x.held ps)
             → ((x' : Carry) (ps' : List ℕ) → Shared n (g + 1) (salvage ks p.parity (pieces p c n (g + 1)) x'.held ps') (stream_groups p ks c n (g + 1) x'))
             → Shared (suc n) g (salvage ks p.parity (group_pieces f g ss ++ pieces p c n (g + 1)) x.held ps) (told (soundly f' (watched p r y)) (λ x'. stream_groups p ks c n (g + 1) x'))
-        go (found k q) f' e m ss r y kept ih = rw (← m) (gap_shared n g x.held ps k q (sound-fault g (found k q) e).0 e)
+        go (found k q) f' e m ss r y kept ih = rw (← m) (gap_shared n g x.held ps k q (sound_fault g (found k q) e).0 e)
         go none f' e m ss r y kept ih = rw (← m) (read r kept)
           where
             quiet : (is : List Item) (h : Held) (q : ℕ) (b : Bool)

@@ -1,5 +1,5 @@
 use mathlib.Core.Path.{sym}
-use Rattle.stream_state.proofs.Fault.{far, fourteen, one_place, too_high, too_low, two-places}
+use Rattle.stream_state.proofs.Fault.{far, fourteen, one_place, too_high, too_low, two_places}
 use borrow.Author.Rules.{rules}
 use Rattle.stream_state.proofs.fault_fits.Statement.{statement}
 use Rattle.stream_state.proofs.fault_fits.Tie as tie
@@ -22,7 +22,7 @@ returns-then-place-gt366503875925 c = let a = c.args in
 returns-then-number-eq13 : tie.Need-returns-then-number-eq13
 returns-then-number-eq13 c = let a = c.args in
     let t = c.before.before in
-    sym (two-places a.number a.place a.second t.if-number-lt9.false t.if-number-gt15.false t.if-number-eq14.false c.if-place-gt366503875925.false c.if-number-eq13.true)
+    sym (two_places a.number a.place a.second t.if-number-lt9.false t.if-number-gt15.false t.if-number-eq14.false c.if-place-gt366503875925.false c.if-number-eq13.true)
 
 returns : tie.Need-returns
 returns c = let a = c.args in

@@ -44,11 +44,11 @@ again_all ks h [] is h' e = nil
 again_all ks h (w ∷ ws) is h' e = go (λ k. again_all ks k ws is h') (ltb w (2 ^ 24)) refl e
   where
     ends : {A : Type 0} → bad ≡ fed is h' → A
-    ends z = clash (ap isFed z)
+    ends z = clash (ap is_fed z)
       where
-        isFed : Fed → Bool
-        isFed bad = false
-        isFed (fed js k) = true
+        is_fed : Fed → Bool
+        is_fed bad = false
+        is_fed (fed js k) = true
 
     on : (f : Fed) → ((k : Held) → again ks k ws ≡ fed is h' → All Low ws) → only_held f (λ k. again ks k ws) ≡ fed is h' → All Low ws
     on bad g z = ends z

@@ -397,20 +397,20 @@ items_rowless : (p : Plan) (ks : List Kind) (ws : List ℕ) (log_room : ℕ) →
 unfolding items_read
 items_rowless p ks ws log_room = go (legal p ks) (leb (length ws) 349525) (onward (run_numbers ks p.parity (counted 0 ws) Nothing 0) finish)
   where
-    log-one : (b : Bool) (log : List ℕ) → Rowless (cond b (gives log []) (refuses 6 (length log) 0))
-    log-one true log = refl
-    log-one false log = tt
+    log_one : (b : Bool) (log : List ℕ) → Rowless (cond b (gives log []) (refuses 6 (length log) 0))
+    log_one true log = refl
+    log_one false log = tt
 
-    fault-one : (f : Fault) (log : List ℕ) → Rowless (unless_found f (log_roomed log_room log))
-    fault-one none log = log-one (leb (length log) 32768 && leb (length log) log_room) log
-    fault-one (found k q) log = tt
+    fault_one : (f : Fault) (log : List ℕ) → Rowless (unless_found f (log_roomed log_room log))
+    fault_one none log = log_one (leb (length log) 32768 && leb (length log) log_room) log
+    fault_one (found k q) log = tt
 
-    got-one : (g : Got) → Rowless (items_settled log_room (counted 0 ws) g)
-    got-one (stopped k q r) = tt
-    got-one (got is) = fault-one (open_fault (first_word_of (places_of (counted 0 ws)) is) is) (log_of is)
+    got_one : (g : Got) → Rowless (items_settled log_room (counted 0 ws) g)
+    got_one (stopped k q r) = tt
+    got_one (got is) = fault_one (open_fault (first_word_of (places_of (counted 0 ws)) is) is) (log_of is)
 
     go : (a b : Bool) (g : Got) → Rowless (cond a (cond b (items_settled log_room (counted 0 ws) g) (refuses 8 (length ws) 0)) (refuses 1 0 0))
-    go true true g = got-one g
+    go true true g = got_one g
     go true false g = tt
     go false b g = tt
 

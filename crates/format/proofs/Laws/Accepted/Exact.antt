@@ -196,9 +196,9 @@ module _ (p : Plan) (ks : List Kind) (l : Legal p ks) (c : List ℕ) (bytes : By
 
   module _ (times : List ℕ) (fits : n ≡ groups_for p (length ws)) (timely : Timely times)
       (clock : p.frame_time ≡ true → (g : ℕ) → g < n → get_or times g 0 ≡ group_time p c (g * group_words p)) where
-    time-part : (g s : ℕ) → g < n → s < 3 → p.frame_time ≡ true → part_of p.parity (word_at c (g * group_words p + place_of p s)) ≡ time_part (get_or times g 0) s
+    time_part_lem : (g s : ℕ) → g < n → s < 3 → p.frame_time ≡ true → part_of p.parity (word_at c (g * group_words p + place_of p s)) ≡ time_part (get_or times g 0) s
     unfolding group_time
-    time-part g s h k e = rw (clock e g h) (go s k)
+    time_part_lem g s h k e = rw (clock e g h) (go s k)
       where
         at : ℕ
         at = g * group_words p
@@ -218,15 +218,15 @@ module _ (p : Plan) (ks : List Kind) (l : Legal p ks) (c : List ℕ) (bytes : By
         go (suc (suc zero)) k = λ i. record { bus = ts.2.bus i; label = ts.2.named i; info = sym parts.2 i }
         go (suc (suc (suc s))) k = absurd (omega arith)
 
-    dealt-word : (g s : ℕ) → g < n → s < p.tracks * rows p → word_at c (g * group_words p + place_of p s) ≡ sent p.parity (get_or (dealt_for p times ws g) s (fill p.fill_bus))
-    dealt-word g s h k = go (dec_lt s (lead p))
+    dealt_word : (g s : ℕ) → g < n → s < p.tracks * rows p → word_at c (g * group_words p + place_of p s) ≡ sent p.parity (get_or (dealt_for p times ws g) s (fill p.fill_bus))
+    dealt_word g s h k = go (dec_lt s (lead p))
       where
         early : (b : Bool) → p.frame_time ≡ b → s < cond b 3 0 → word_at c (g * group_words p + place_of p s) ≡ sent p.parity (get_or (dealt_for p times ws g) s (fill p.fill_bus))
         early false e m = absurd (omega arith)
         early true e m =
             let x : ℕ = word_at c (g * group_words p + place_of p s) in
             let u : bare p.parity x ≡ get_or (dealt_for p times ws g) s (fill p.fill_bus) =
-            sym (part_forth p.parity x (word_at_low c bytes (g * group_words p + place_of p s))) ∙ ap word_for (time-part g s h m e)
+            sym (part_forth p.parity x (word_at_low c bytes (g * group_words p + place_of p s))) ∙ ap word_for (time_part_lem g s h m e)
             ∙ sym (dealt_time p (long p l.shape) l.shape.tracks_least (room p l.shape) times ws timely g (rw fits at h) s m e) in
             sym (dealt_sent g s h k) ∙ ap (sent p.parity) u
 
@@ -246,32 +246,32 @@ module _ (p : Plan) (ks : List Kind) (l : Legal p ks) (c : List ℕ) (bytes : By
       abbrev dealt : List ℕ
       dealt = dealt_for p times ws g
 
-      no-fault-at : (j : ℕ) → j < p.words → fault_at p c at j ≡ none
-      no-fault-at j m = stored_fault_lem p c (g * group_words p) t' j (group_none g h) k m
+      no_fault_at : (j : ℕ) → j < p.words → fault_at p c at j ≡ none
+      no_fault_at j m = stored_fault_lem p c (g * group_words p) t' j (group_none g h) k m
 
-      front-word : (i : ℕ) → i < suc (rows p) → word_at c (at + i) ≡ get_or (front p dealt t') i 0
-      front-word zero m =
+      front_word : (i : ℕ) → i < suc (rows p) → word_at c (at + i) ≡ get_or (front p dealt t') i 0
+      front_word zero m =
           let z : at + 0 ≡ at = omega arith in
-          ap (word_at c) z ∙ sync_is p c at (no-fault-at 0 (omega (arith, l.shape.words_least)))
-      front-word (suc r) m =
+          ap (word_at c) z ∙ sync_is p c at (no_fault_at 0 (omega (arith, l.shape.words_least)))
+      front_word (suc r) m =
           let m' : r < rows p = omega arith in
           let z : 0 + r ≡ r = omega arith in
           let s : r * p.tracks + t' < p.tracks * rows p = omega (arith, mul-le-mul_right p.tracks m') in
           let e : at + suc r ≡ g * group_words p + (t' * p.words + r + 1) = omega arith in
-          ap (word_at c) (e ∙ ap (λ (x : ℕ). g * group_words p + x) (sym (place_at p r t' k))) ∙ dealt-word g (r * p.tracks + t') h s
+          ap (word_at c) (e ∙ ap (λ (x : ℕ). g * group_words p + x) (sym (place_at p r t' k))) ∙ dealt_word g (r * p.tracks + t') h s
           ∙ sym (get_or_list (dealt_on p dealt t') 0 (rows p) r 0 m' ∙ ap (dealt_on p dealt t') z)
 
-      front-list : list (word_at c) at (suc (rows p)) ≡ front p dealt t'
-      front-list =
+      front_list : list (word_at c) at (suc (rows p)) ≡ front p dealt t'
+      front_list =
           ap (list (word_at c) at) (sym (front_length p dealt t'))
-          ∙ list_is (word_at c) (front p dealt t') at (λ i m. front-word i (rw (front_length p dealt t') at m))
+          ∙ list_is (word_at c) (front p dealt t') at (λ i m. front_word i (rw (front_length p dealt t') at m))
 
-      frame-word : (j : ℕ) → j < p.words → word_at c (at + j) ≡ get_or (frame p dealt t') j 0
+      frame_word : (j : ℕ) → j < p.words → word_at c (at + j) ≡ get_or (frame p dealt t') j 0
       unfolding rows
-      frame-word j m = go (dec_lt j (suc (rows p))) p.crc refl
+      frame_word j m = go (dec_lt j (suc (rows p))) p.crc refl
         where
           go : Dec (j < suc (rows p)) → (b : Bool) → p.crc ≡ b → word_at c (at + j) ≡ get_or (frame p dealt t') j 0
-          go (yes q) b e = front-word j q ∙ sym (frame_front p dealt t' j q)
+          go (yes q) b e = front_word j q ∙ sym (frame_front p dealt t' j q)
           go (no q) false e =
               let o : bit p.crc ≡ 0 = ap bit e in
               absurd (omega arith)
@@ -279,19 +279,19 @@ module _ (p : Plan) (ks : List Kind) (l : Legal p ks) (c : List ℕ) (bytes : By
               let o : bit p.crc ≡ 1 = ap bit e in
               let r : j ≡ suc (rows p) = omega arith in
               let d : suc (suc (rows p)) ≡ p.words = omega (arith, l.shape.words_least) in
-              ap (λ (x : ℕ). word_at c (at + x)) r ∙ check_is p c at (rows p) (no-fault-at (suc (rows p)) (omega arith)) e d
-              ∙ ap (check_word p.parity p.crc_label) front-list ∙ sym (frame_check p dealt t' e) ∙ ap (λ (x : ℕ). get_or (frame p dealt t') x 0) (sym r)
+              ap (λ (x : ℕ). word_at c (at + x)) r ∙ check_is p c at (rows p) (no_fault_at (suc (rows p)) (omega arith)) e d
+              ∙ ap (check_word p.parity p.crc_label) front_list ∙ sym (frame_check p dealt t' e) ∙ ap (λ (x : ℕ). get_or (frame p dealt t') x 0) (sym r)
 
-    group-word : (g j : ℕ) → g < n → j < group_words p → word_at c (g * group_words p + j) ≡ get_or (group p (dealt_for p times ws g)) j 0
+    group_word : (g j : ℕ) → g < n → j < group_words p → word_at c (g * group_words p + j) ≡ get_or (group p (dealt_for p times ws g)) j 0
     unfolding group
-    group-word g j h k =
+    group_word g j h k =
         let pos : 1 ≤ p.words = omega (arith, l.shape.words_least) in
         let q : j / p.words < p.tracks = (div-lt_iff_lt-mul pos).1 k in
         let r : j % p.words < p.words = mod-lt j pos in
         let d : j / p.words * p.words + j % p.words ≡ j = div-add-mod' j p.words in
         let e : g * group_words p + j ≡ g * group_words p + j / p.words * p.words + j % p.words = omega arith in
         let z : 0 + j / p.words ≡ j / p.words = omega arith in
-        ap (word_at c) e ∙ frame-word g (j / p.words) h q (j % p.words) r
+        ap (word_at c) e ∙ frame_word g (j / p.words) h q (j % p.words) r
         ∙ ap (λ (x : ℕ). get_or (frame p (dealt_for p times ws g) x) (j % p.words) 0) (sym z)
         ∙ sym (get_or_blocks (frame p (dealt_for p times ws g)) p.words (λ t. frame_length p (dealt_for p times ws g) t (long p l.shape)) 0 p.tracks (j / p.words) (j % p.words) 0 q r)
         ∙ ap (λ (x : ℕ). get_or (flat_map (frame p (dealt_for p times ws g)) (list (λ t. t) 0 p.tracks)) x 0) d
@@ -304,6 +304,6 @@ module _ (p : Plan) (ks : List Kind) (l : Legal p ks) (c : List ℕ) (bytes : By
         let e : length c ≡ n * group_words p * 3 = len ∙ omega arith in
         let b : list (word_at c) 0 (n * group_words p) ≡ flat_map (λ (g : ℕ). group p (dealt_for p times ws g)) (list (λ g. g) 0 n) =
         list_blocks (word_at c) (λ (g : ℕ). group p (dealt_for p times ws g)) (group_words p) pos (λ g. group_length p (long p l.shape) l.shape.tracks_least (dealt_for p times ws g)) n 0
-        (λ g j h k. ap (word_at c) (zero-add (g * group_words p + j)) ∙ group-word g j h k) in
+        (λ g j h k. ap (word_at c) (zero-add (g * group_words p + j)) ∙ group_word g j h k) in
         ap (λ (m : ℕ). flat_map bytes_of (flat_map (λ (g : ℕ). group p (dealt_for p times ws g)) (list (λ g. g) 0 m))) (sym fits)
         ∙ ap (flat_map bytes_of) (sym b) ∙ bytes_words (n * group_words p) c e bytes

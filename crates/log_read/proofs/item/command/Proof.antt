@@ -1,4 +1,4 @@
-use Rattle.log_read.proofs.Items.{command-tagged, command-plain}
+use Rattle.log_read.proofs.Items.{command_tagged, command_plain}
 use Rattle.log_read.specs.Found.{time_at}
 use Rattle.format.specs.Laws.Bits.{length_bytes}
 use Rattle.format.specs.Bits.{bytes_bits}
@@ -49,7 +49,7 @@ returns-then-fields-eq1 c =
     let q : f.marked-fields.result.next.at ≡ p + 26 = omega (arith, f.marked-fields.ensures.4, g.next.place) in
     let t : p + 26 + 46 ≤ length (bytes_bits log) → time_at (bytes_bits log) (p + 26) ≡ c.time_at.result =
     λ l. sym (rw q at (c.time_at.ensures (omega (arith, l, length_bytes log, q)))) in
-    rw (command-tagged g (rw f.marked-fields.ensures.0 at c.if-fields-eq1.true) _ t, ← f.marked-fields.ensures.0, ← q) (c.if_there.ensures (bytes_bits log) (length_bytes log))
+    rw (command_tagged g (rw f.marked-fields.ensures.0 at c.if-fields-eq1.true) _ t, ← f.marked-fields.ensures.0, ← q) (c.if_there.ensures (bytes_bits log) (length_bytes log))
 
 if_there-requires-2 : tie.Need-if_there-requires-2
 if_there-requires-2 c κs = search rules
@@ -59,7 +59,7 @@ returns c =
     let f = plain c in
     λ p g.
     let q : f.marked-fields.result.next.at ≡ p + 26 = omega (arith, f.marked-fields.ensures.4, g.next.place) in
-    rw (command-plain g (rw f.marked-fields.ensures.0 at c.if-fields-eq1.false), ← f.marked-fields.ensures.0, ← q)
+    rw (command_plain g (rw f.marked-fields.ensures.0 at c.if-fields-eq1.false), ← f.marked-fields.ensures.0, ← q)
     (c.if_there-2.ensures (bytes_bits (entry f).args.log.now) (length_bytes (entry f).args.log.now))
 
 pub command_spec : {M : Type 1} → statement M

@@ -1,4 +1,4 @@
-use Rattle.log_read.proofs.Items.{status-timed, status-plain}
+use Rattle.log_read.proofs.Items.{status_timed, status_plain}
 use native.Mathlib.Omega.{arith}
 use mathlib.Core.Path.{◌≡◌}
 use Prim.Native.Nat.{◌+◌}
@@ -37,7 +37,7 @@ returns-then-fields-eq1 c =
     let r = c.take-after in
     λ s e p g.
     let q : r.result.next.at ≡ p + 26 + 14 = omega (arith, f.marked-fields.ensures.4, r.ensures.2, g.next.place) in
-    rw (status-timed g (rw f.marked-fields.ensures.0 at c.if-fields-eq1.true), ← f.marked-fields.ensures.0, ← r.ensures.0, ← q)
+    rw (status_timed g (rw f.marked-fields.ensures.0 at c.if-fields-eq1.true), ← f.marked-fields.ensures.0, ← r.ensures.0, ← q)
     (c.if_there.ensures s e)
 
 if_there-requires-2 : tie.Need-if_there-requires-2
@@ -48,7 +48,7 @@ returns c =
     let f = plain c in
     λ s e p g.
     let q : f.marked-fields.result.next.at ≡ p + 26 = omega (arith, f.marked-fields.ensures.4, g.next.place) in
-    rw (status-plain g (rw f.marked-fields.ensures.0 at c.if-fields-eq1.false), ← f.marked-fields.ensures.0, ← q) (c.if_there-2.ensures s e)
+    rw (status_plain g (rw f.marked-fields.ensures.0 at c.if-fields-eq1.false), ← f.marked-fields.ensures.0, ← q) (c.if_there-2.ensures s e)
 
 pub status_spec : {M : Type 1} → statement M
 status_spec =

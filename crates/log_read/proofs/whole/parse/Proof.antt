@@ -4,7 +4,7 @@ use native.Mathlib.Omega.{arith}
 use lib.ListN.{length}
 use Rattle.format.specs.Log.{on_no_plan, parsed}
 use Rattle.log_read.specs.Tally.{tallied_of}
-use Rattle.log_read.proofs.Parsing.{onward, tally_long, tally_start, tally-end, tally-wrong, tally-fault, tally-more, follows, words_few}
+use Rattle.log_read.proofs.Parsing.{onward, tally_long, tally_start, tally_end, tally_wrong, tally_fault, tally_more, follows, words_few}
 use borrow.Author.Rules.{rules}
 use Rattle.log_read.proofs.whole.parse.Statement.{statement}
 use Rattle.log_read.proofs.whole.parse.Tie as tie
@@ -37,7 +37,7 @@ returns-then-number-ne0 c =
     let i = c.in-Has in
     let f = follows a.log.now o.at.at c.item.result i.item i.next c.item.ensures i.is in
     let e = c.fault_of-number.ensures in
-    rw e (sym (o.invariant.4 ∙ tally-fault on_no_plan a.log.now o.at.at o.items o.words o.invariant.0 o.invariant.1 _ _ f (λ z. c.if-number-ne0.true (e ∙ z))))
+    rw e (sym (o.invariant.4 ∙ tally_fault on_no_plan a.log.now o.at.at o.items o.words o.invariant.0 o.invariant.1 _ _ f (λ z. c.if-number-ne0.true (e ∙ z))))
 
 overflow_add-items : tie.Need-overflow_add-items invariant-loop-item decreases-loop-item
 overflow_add-items c = omega arith
@@ -66,7 +66,7 @@ loop-item-preserved c =
       f.fits,
       omega (arith, words_few i.item, c.words_of-words.ensures),
       o.invariant.3,
-      rw c.words_of-words.ensures (o.invariant.4 ∙ tally-more on_no_plan a.log.now o.at.at o.items o.words o.invariant.0 o.invariant.1 i.item _ f (sym c.fault_of-number.ensures ∙ c.if-number-ne0.false)),
+      rw c.words_of-words.ensures (o.invariant.4 ∙ tally_more on_no_plan a.log.now o.at.at o.items o.words o.invariant.0 o.invariant.1 i.item _ f (sym c.fault_of-number.ensures ∙ c.if-number-ne0.false)),
     )
 
 enum_told-1 : tie.Need-enum_told-1 invariant-loop-item decreases-loop-item
@@ -75,7 +75,7 @@ enum_told-1 c = search rules
 returns-in-End : tie.Need-returns-in-End invariant-loop-item decreases-loop-item
 returns-in-End c =
     let o = c.loop-item in
-    sym (o.invariant.4 ∙ tally-end on_no_plan c.args.log.now o.at.at o.items o.words o.invariant.0 o.invariant.1 c.item.result c.item.ensures c.in-End.is)
+    sym (o.invariant.4 ∙ tally_end on_no_plan c.args.log.now o.at.at o.items o.words o.invariant.0 o.invariant.1 c.item.result c.item.ensures c.in-End.is)
 
 enum_told-in-Wrong : tie.Need-enum_told-in-Wrong invariant-loop-item decreases-loop-item
 enum_told-in-Wrong c = search rules
@@ -83,7 +83,7 @@ enum_told-in-Wrong c = search rules
 returns-in-Wrong : tie.Need-returns-in-Wrong invariant-loop-item decreases-loop-item
 returns-in-Wrong c =
     let o = c.loop-item in
-    sym (o.invariant.4 ∙ tally-wrong on_no_plan c.args.log.now o.at.at o.items o.words o.invariant.0 o.invariant.1 c.item.result c.item.ensures c.in-Wrong.is)
+    sym (o.invariant.4 ∙ tally_wrong on_no_plan c.args.log.now o.at.at o.items o.words o.invariant.0 o.invariant.1 c.item.result c.item.ensures c.in-Wrong.is)
 
 pub parse_spec : {M : Type 1} → statement M
 parse_spec =

@@ -161,17 +161,17 @@ arrive_logs : (capacity : ℕ) (s : Buffer) (i : Item) (coming : ℕ) → Logged
 unfolding arrive
 arrive_logs capacity s i coming w k = go (leb (s.held + needs s i) capacity)
   where
-    with-mark : (b : Bool) → All (Logged on_no_plan) (cond b [] (Overflow s.bus s.unmarked ∷ []) ++ i ∷ [])
-    with-mark true = cons w nil
-    with-mark false = cons (mark_logged s.bus s.unmarked k.bus_low (omega (arith, k.few))) (cons w nil)
+    with_mark_lem : (b : Bool) → All (Logged on_no_plan) (cond b [] (Overflow s.bus s.unmarked ∷ []) ++ i ∷ [])
+    with_mark_lem true = cons w nil
+    with_mark_lem false = cons (mark_logged s.bus s.unmarked k.bus_low (omega (arith, k.few))) (cons w nil)
 
-    first-bus : (b : Bool) → cond b (bus_of_item i) s.bus < 16
-    first-bus true = (logged_sized i w).1
-    first-bus false = k.bus_low
+    first_bus : (b : Bool) → cond b (bus_of_item i) s.bus < 16
+    first_bus true = (logged_sized i w).1
+    first_bus false = k.bus_low
 
     go : (b : Bool) → Loggable (cond b (taken s i) (missed s i)) coming
-    go true = record { logged = all_append k.logged (with-mark (eqb s.unmarked 0)); bus_low = omega arith; few = omega (arith, k.few) }
-    go false = record { logged = k.logged; bus_low = first-bus (eqb s.unmarked 0); few = omega (arith, k.few) }
+    go true = record { logged = all_append k.logged (with_mark_lem (eqb s.unmarked 0)); bus_low = omega arith; few = omega (arith, k.few) }
+    go false = record { logged = k.logged; bus_low = first_bus (eqb s.unmarked 0); few = omega (arith, k.few) }
 
 leave_logs : (slots : ℕ) (s : Buffer) (coming : ℕ) → Loggable s coming → Loggable (leave slots s) coming
 unfolding leave

@@ -3,7 +3,7 @@ use Rattle.log_read.specs.declared.Marked.{Marked}
 use Rattle.log_read.specs.Cursor.{took_of}
 use lib.Dec.{ltb}
 use Rattle.log_words.proofs.Same.{marked_word, timed_words}
-use Rattle.log_words.proofs.ByKind.{read_lays, tagged_lays, command-read, marked_read, timed-read}
+use Rattle.log_words.proofs.ByKind.{read_lays, tagged_lays, command_read, marked_read, timed_read}
 use Rattle.log_read.specs.Fields.{marked_of}
 use Rattle.format.specs.Word.{word_of}
 use Rattle.format.specs.Laws.Bits.{length_bytes}
@@ -75,7 +75,7 @@ returns-then-head-eq1 c =
     let a = entry f in
     λ ks p g b.
     let q : f.marked-fields.result.next.at ≡ p + 26 = omega (arith, f.marked-fields.ensures.4, g.next.place) in
-    let t = command-read g (rw f.marked-fields.ensures.0 at l.if-fields-eq1.true) a.args.head.kind l.if-head-eq1.true in
+    let t = command_read g (rw f.marked-fields.ensures.0 at l.if-fields-eq1.true) a.args.head.kind l.if-head-eq1.true in
     tagged_lays t ks _ b (length_bytes a.args.log.now) (omega arith) (omega (arith, a.requires)) w.is_1553-stands.ensures (ap (λ (x : ℕ). x ∷ []) (word_is w)) q l.lay_tagged.ensures
 
 overflow_mul-log : tie.Need-overflow_mul-log
@@ -97,7 +97,7 @@ returns-then-fields-eq1 c =
     let k : a.args.head.kind ≡ 2 = omega (arith, l.if-head-eq1.false, a.requires) in
     λ ks p g b.
     let q : f.marked-fields.result.next.at + 14 ≡ p + 26 + 14 = omega (arith, f.marked-fields.ensures.4, g.next.place) in
-    let t = timed-read g (rw m at l.if-fields-eq1.true) a.args.head.kind k in
+    let t = timed_read g (rw m at l.if-fields-eq1.true) a.args.head.kind k in
     read_lays t ks _ b (length_bytes a.args.log.now) (omega arith) w.is_1553-stands.ensures
     (ap (λ (x : Marked). ltb (took_of x.next 14).field 10000) m) (timed_words a.args.head.bus m (word_is w)) q l.lay_timed.ensures
 

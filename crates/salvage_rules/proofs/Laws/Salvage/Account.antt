@@ -102,14 +102,14 @@ cut_at parity ss P Q e =
       front = take n ss;
       back = drop n ss;
       is = sym (take_drop n ss);
-      front_says = sym (take-map n ss) ∙ ap (take n) e ∙ take_at P Q n refl;
+      front_says = sym (take_map n ss) ∙ ap (take n) e ∙ take_at P Q n refl;
       back_says = sym (drop_map n ss) ∙ ap (drop n) e ∙ drop_at P Q n refl;
     }
   where
-    take-map : (n : ℕ) (l : List Slot) → take n (say_of parity l) ≡ say_of parity (take n l)
-    take-map zero l = refl
-    take-map (suc n) [] = refl
-    take-map (suc n) (s ∷ l) = ap (λ (m : List Part). part_of parity s.1 ∷ m) (take-map n l)
+    take_map : (n : ℕ) (l : List Slot) → take n (say_of parity l) ≡ say_of parity (take n l)
+    take_map zero l = refl
+    take_map (suc n) [] = refl
+    take_map (suc n) (s ∷ l) = ap (λ (m : List Part). part_of parity s.1 ∷ m) (take_map n l)
 
     drop_map : (n : ℕ) (l : List Slot) → drop n (say_of parity l) ≡ say_of parity (drop n l)
     drop_map zero l = refl

@@ -65,7 +65,7 @@ module _ (p : Plan) (ks : List Kind) (c log times : List ℕ) (report : List Ent
     pub short : length (log_of s.its) ≤ 32768
     pub log_is : log_of s.its ≡ log
     pub times_are : row ≡ times
-    pub report-is : s.report ≡ report
+    pub report_is : s.report ≡ report
 
   pub given_by : salvaged p ks c log_room time_room reportRoom ≡ saves log times report → Given
   unfolding salvaged
@@ -74,7 +74,7 @@ module _ (p : Plan) (ks : List Kind) (c log times : List ℕ) (report : List Ent
       told : legal p ks ≡ true → length c ≤ 1048576 → length (log_of s.its) ≤ 32768 → (b : Bool) → cond b (saves (log_of s.its) row s.report) (forgoes 20 (length s.report)) ≡ saves log times report → Given
       told l z h true e =
           let q = same_saves e in
-          record { lawful = l; sized = z; short = h; log_is = q.0; times_are = q.1; report-is = q.2 }
+          record { lawful = l; sized = z; short = h; log_is = q.0; times_are = q.1; report_is = q.2 }
       told l z h false e = no_saves e
 
       timed : legal p ks ≡ true → length c ≤ 1048576 → length (log_of s.its) ≤ 32768
@@ -108,8 +108,8 @@ module _ (p : Plan) (ks : List Kind) (c log times : List ℕ) (report : List Ent
         lawful = g.lawful;
         its = s.its;
         parses = parses_back g;
-        account = rw g.report-is at (every_word p ks c n);
-        words = rw g.report-is at (words_unnamed p ks c n g.lawful);
+        account = rw g.report_is at (every_word p ks c n);
+        words = rw g.report_is at (words_unnamed p ks c n g.lawful);
         kept_times_lem = g.times_are;
       }
 
@@ -117,7 +117,7 @@ module _ (p : Plan) (ks : List Kind) (c log times : List ℕ) (report : List Ent
   pub named_by : salvaged p ks c log_room time_room reportRoom ≡ saves log times report → map entry_of (map entry_number report) ≡ report
   named_by e =
       let g = given_by e in
-      rw g.report-is at (report_back p ks c g.lawful g.sized)
+      rw g.report_is at (report_back p ks c g.lawful g.sized)
 
   -- the items of the log given and the report, at each dropped group
   pub apart_by : salvaged p ks c log_room time_room reportRoom ≡ saves log times report → Apart p ks c log report
@@ -126,7 +126,7 @@ module _ (p : Plan) (ks : List Kind) (c log times : List ℕ) (report : List Ent
       record {
         its = s.its;
         parses = parses_back g;
-        sides = λ ts us k i t. rw (← t, g.report-is) at (one_side ks p.parity ts us k i);
+        sides = λ ts us k i t. rw (← t, g.report_is) at (one_side ks p.parity ts us k i);
       }
 
 -- ---- "The time row has the kept groups only."

@@ -128,11 +128,11 @@ shown_both : (r s : Row) (t : Waiting) → shown r t ≡ 0 → shown s (waits r 
 unfolding shown waits
 shown_both [] s t a b = b
 shown_both (x ∷ r) s t a b =
-    let e = then-zero (shows_by x.1 t) (shown r (waited x.0 x.1 t)) a in
+    let e = then_zero (shows_by x.1 t) (shown r (waited x.0 x.1 t)) a in
     rw e.0 (shown_both r s (waited x.0 x.1 t) e.1 b)
   where
-    then-zero : (a b : ℕ) → or_then a b ≡ 0 → (a ≡ 0) × (b ≡ 0)
-    then-zero a b e = first_zero a b e
+    then_zero : (a b : ℕ) → or_then a b ≡ 0 → (a ≡ 0) × (b ≡ 0)
+    then_zero a b e = first_zero a b e
 
 abbrev Silent : Got → Tale → Row → Waiting → Type 0
 Silent (stopped k q second) a r t = Unit {0}

@@ -17,7 +17,7 @@ use Rattle.format.specs.Laws.Legal.{Legal, legal_is}
 use Rattle.stream_rules.specs.Laws.Stream.Bits.{rest_short, rest_all}
 use Rattle.stream_rules.specs.Laws.Stream.Feed.{count_in, byte_count}
 use Rattle.stream_rules.proofs.Laws.Stream.Groups.{NumberedLow, closing_low}
-use Rattle.stream_rules.specs.Laws.Stream.Fits.{both, BroughtOk, goes, halts, take-ok}
+use Rattle.stream_rules.specs.Laws.Stream.Fits.{both, BroughtOk, goes, halts, take_ok}
 use Rattle.format.specs.declared.Kind.{Kind}
 use Rattle.format.specs.declared.Item.{Item}
 use Rattle.format.specs.declared.Plan.{Plan}
@@ -139,7 +139,7 @@ byte_fits (working w) b e h = go (ltb (length (w.waiting ++ b ∷ [])) (group_si
     go false t =
         let small : (w.groups + 1) * group_size w.plan ≤ most_bytes = omega (arith, ltb-false (length (w.waiting ++ b ∷ [])) (group_size w.plan) t, l, h) in
         taken_fits w (w.waiting ++ b ∷ []) f small (take_group w.plan w.kinds (w.waiting ++ b ∷ []) w.groups w.carry)
-        (take-ok w.plan w.kinds (legal_is w.plan w.kinds f.lawful) w.groups small (w.waiting ++ b ∷ []) w.carry f.carries)
+        (take_ok w.plan w.kinds (legal_is w.plan w.kinds f.lawful) w.groups small (w.waiting ++ b ∷ []) w.carry f.carries)
 
 pub feed_fits : (xs : List ℕ) (s : State) → fits s ≡ true → count_in s + length xs ≤ most_bytes → fits (feed_bytes s xs).state ≡ true
 unfolding feed_bytes

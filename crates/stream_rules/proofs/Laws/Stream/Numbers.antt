@@ -162,12 +162,12 @@ state_back (working w) e =
       carry = record { held = held_from (map kind_from (take 16 (drop 20 ns))) (take 5 (four ++ rest)); since = w.carry.since; waits = take 64 (drop 36 ns) };
     }}
     {v = w}
-    (plan-back w.plan) ks refl d100 (bits_back w.bits f.bits)
+    (plan_back w.plan) ks refl d100 (bits_back w.bits f.bits)
     (ap₂ held_from ks (four_take (held_parts w.carry.held) rest) ∙ held_from_lem w.kinds n w.carry.held (held_ok w.kinds w.carry.held a.0))
     refl (ap (take 64) d36 ∙ take_all 64 w.carry.waits w.waiting m)
   where
-    plan-back : (p : Plan) → ◌≡◌ {A = Plan} (record { words = p.words; tracks = p.tracks; frame_time = eqb (bit p.frame_time) 1; crc = eqb (bit p.crc) 1; parity = eqb (bit p.parity) 1; crc_label = p.crc_label; fill_bus = p.fill_bus }) p
-    plan-back p = three (eqb (bit p.frame_time) 1) (eqb (bit p.crc) 1) (eqb (bit p.parity) 1) (bit_flag p.frame_time) (bit_flag p.crc) (bit_flag p.parity)
+    plan_back : (p : Plan) → ◌≡◌ {A = Plan} (record { words = p.words; tracks = p.tracks; frame_time = eqb (bit p.frame_time) 1; crc = eqb (bit p.crc) 1; parity = eqb (bit p.parity) 1; crc_label = p.crc_label; fill_bus = p.fill_bus }) p
+    plan_back p = three (eqb (bit p.frame_time) 1) (eqb (bit p.crc) 1) (eqb (bit p.parity) 1) (bit_flag p.frame_time) (bit_flag p.crc) (bit_flag p.parity)
       where
         three : (x y z : Bool) → x ≡ p.frame_time → y ≡ p.crc → z ≡ p.parity → ◌≡◌ {A = Plan} (record { words = p.words; tracks = p.tracks; frame_time = x; crc = y; parity = z; crc_label = p.crc_label; fill_bus = p.fill_bus }) p
         three x y z a b c = rw (a, b, c) refl

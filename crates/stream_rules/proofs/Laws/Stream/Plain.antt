@@ -259,12 +259,12 @@ module _ (p : Plan) (ks : List Kind) (ok : Legal p ks) (c : List ℕ) where
 -- ---- the theorems
 
 start_under : Under start.waits (λ k. 0)
-start_under k z = none-at 64 k
+start_under k z = none_at 64 k
   where
-    none-at : (n k : ℕ) → ◌≡◌ {A = ℕ} (get_or (replicate n 0) k 0) 0
-    none-at zero k = refl
-    none-at (suc n) zero = refl
-    none-at (suc n) (suc k) = none-at n k
+    none_at : (n k : ℕ) → ◌≡◌ {A = ℕ} (get_or (replicate n 0) k 0) 0
+    none_at zero k = refl
+    none_at (suc n) zero = refl
+    none_at (suc n) (suc k) = none_at n k
 
 -- a capture whose items have no open notice has none in its row, and the other way round
 module _ (p : Plan) (ks : List Kind) (c : List ℕ) (n : ℕ) (is : List Item) (some : 1 ≤ slots p) (bytes : Bytes c) (e : read_groups p ks c n 0 Nothing 0 ≡ got is) where

@@ -54,10 +54,10 @@ unfolding feed_bytes
 feed_group w x [] h =
     let l : length (w.waiting ++ x ∷ []) ≡ length w.waiting + 1 = length-append w.waiting (x ∷ []) in
     let t : ltb (length (w.waiting ++ x ∷ [])) (group_size w.plan) ≡ false = le-ltb (length (w.waiting ++ x ∷ [])) (group_size w.plan) (omega (arith, l, h)) in
-    rw t (nothing-after (taken w (w.waiting ++ x ∷ []) (take_group w.plan w.kinds (w.waiting ++ x ∷ []) w.groups w.carry)))
+    rw t (nothing_after (taken w (w.waiting ++ x ∷ []) (take_group w.plan w.kinds (w.waiting ++ x ∷ []) w.groups w.carry)))
   where
-    nothing-after : (f : Flow) → flowed f (still f.state) ≡ f
-    nothing-after f = same_flow _ _ _ _ [] [] _ _ (append-nil f.log) (append-nil f.times) refl
+    nothing_after : (f : Flow) → flowed f (still f.state) ≡ f
+    nothing_after f = same_flow _ _ _ _ [] [] _ _ (append-nil f.log) (append-nil f.times) refl
 feed_group w x (y ∷ ys) h =
     let l : length (w.waiting ++ x ∷ []) ≡ length w.waiting + 1 = length-append w.waiting (x ∷ []) in
     let t : ltb (length (w.waiting ++ x ∷ [])) (group_size w.plan) ≡ true = lt-ltb (length (w.waiting ++ x ∷ [])) (group_size w.plan) (omega (arith, l, h)) in

@@ -286,11 +286,11 @@ unfolding run
 run_ok ks parity [] h q o = (nil, o)
 run_ok ks parity (s ∷ ss) h q o =
     go (is_fill s.1) (feed ks h (bus_of parity s.1) (label_of s.1) (info_of s.1)) (held_parts h ++ part (bus_of parity s.1) (label_of s.1) (info_of s.1) ∷ [])
-    (feed_good ks h (part (bus_of parity s.1) (label_of s.1) (info_of s.1)) o fits-part)
+    (feed_good ks h (part (bus_of parity s.1) (label_of s.1) (info_of s.1)) o fits_part)
     (λ h' q' o'. run_ok ks parity ss h' q' o')
   where
-    fits-part : Fits (part (bus_of parity s.1) (label_of s.1) (info_of s.1))
-    fits-part = part_fits (bus_of parity s.1) s.1
+    fits_part : Fits (part (bus_of parity s.1) (label_of s.1) (info_of s.1))
+    fits_part = part_fits (bus_of parity s.1) s.1
 
     go : (t : Bool) (f : Fed) (P : List Part) → Good ks P f → ((h' : Held) (q' : ℕ) → HeldOk ks h' → RanOk ks (run ks parity ss h' q'))
         → RanOk ks (cond t (run ks parity ss h q) (join f q (begun h q s.0) s.0 (λ h' q'. run ks parity ss h' q')))
@@ -379,22 +379,22 @@ module _ (p : Plan) (ks : List Kind) (ok : Legal p ks) where
   slots_named v g = named_list v g (slots p) (lead p) lead_in
 
   module _ (g : ℕ) (small : (g + 1) * group_size p ≤ most_bytes) where
-    watched-ok : (r : Ran) (y : Watch) → RanIn (PlaceOk p (g + 1)) r → RanOk ks r → WatchOk p ks (g + 1) y → BroughtOk p ks g (watched p r y)
-    watched-ok (bad_at q second) y i o w =
+    watched_ok : (r : Ran) (y : Watch) → RanIn (PlaceOk p (g + 1)) r → RanOk ks r → WatchOk p ks (g + 1) y → BroughtOk p ks g (watched p r y)
+    watched_ok (bad_at q second) y i o w =
         halts (failed_word q second (omega (arith, place_in (g + 1) q i.0 (omega arith), small)) (omega (arith, place_in (g + 1) second i.1 (omega arith), small)))
-    watched-ok (ran is h k) y i o w = go (eqb y.shown 0)
+    watched_ok (ran is h k) y i o w = go (eqb y.shown 0)
       where
         go : (b : Bool) → BroughtOk p ks g (cond b (brings is (record { held = h; since = k; waits = y.waits })) (stops 15 (stored_of p y.shown) 0))
         go true = goes o.0 (both (ok_held ks h o.1) (both (ok_place p (g + 1) k i) (both (eq-eqb (length y.waits) 64 w.size) (ok_waits p ks (g + 1) 0 y.waits w.each))))
         go false = halts (failed_open (stored_of p y.shown) (omega (arith, number_in (g + 1) y.shown w.first (omega arith), small)))
 
-    soundly-ok : (f : Fault) (b : Brought) → FaultIn 0 (0 + group_words p) f → BroughtOk p ks g b → BroughtOk p ks g (soundly (moved_fault (g * group_words p) f) b)
-    soundly-ok none b i o = o
-    soundly-ok (found k q) b i o = halts (failed_low k (g * group_words p + q) i.0 i.1 (omega (arith, i.2.under, small)))
+    soundly_ok : (f : Fault) (b : Brought) → FaultIn 0 (0 + group_words p) f → BroughtOk p ks g b → BroughtOk p ks g (soundly (moved_fault (g * group_words p) f) b)
+    soundly_ok none b i o = o
+    soundly_ok (found k q) b i o = halts (failed_low k (g * group_words p + q) i.0 i.1 (omega (arith, i.2.under, small)))
 
-    pub take-ok : (v : List ℕ) (x : Carry) → carry_fits p ks g x ≡ true → BroughtOk p ks g (take_group p ks v g x)
+    pub take_ok : (v : List ℕ) (x : Carry) → carry_fits p ks g x ≡ true → BroughtOk p ks g (take_group p ks v g x)
     unfolding take_group
-    take-ok v x e =
+    take_ok v x e =
         let a = and_true (held_fits ks x.held) _ e in
         let b = and_true (place_fits p g x.since) _ a.1 in
         let c = and_true (eqb (length x.waits) 64) _ b.1 in
@@ -403,9 +403,9 @@ module _ (p : Plan) (ks : List Kind) (ok : Legal p ks) where
         let at : ℕ = g * group_words p in
         let y : Watch = record { waits = x.waits; shown = 0 } in
         let w : WatchOk p ks (g + 1) y = record { size = eqb-true (length x.waits) 64 c.0; each = waits_more p ks g 0 x.waits (waits_ok p ks g 0 x.waits c.1); first = zeroth refl } in
-        soundly-ok (group_fault p v 0) (watched p (run ks p.parity (slots_at p v (g * group_words p)) x.held x.since) (watch ks p.parity (slots_of p v g) y))
+        soundly_ok (group_fault p v 0) (watched p (run ks p.parity (slots_at p v (g * group_words p)) x.held x.since) (watch ks p.parity (slots_of p v g) y))
         (fault_in p v 0 (long p ok.shape) ok.shape.tracks_least (room p ok.shape))
-        (watched-ok (run ks p.parity (slots_at p v (g * group_words p)) x.held x.since) (watch ks p.parity (slots_of p v g) y)
+        (watched_ok (run ks p.parity (slots_at p v (g * group_words p)) x.held x.since) (watch ks p.parity (slots_of p v g) y)
         (run_in ks p.parity (PlaceOk p (g + 1)) (slots_at p v (g * group_words p)) (places_ok v g) x.held x.since n)
         (run_ok ks p.parity (slots_at p v (g * group_words p)) x.held x.since o)
         (watch_ok p ks (g + 1) p.parity (slots_of p v g) (slots_ok v g) y w))
