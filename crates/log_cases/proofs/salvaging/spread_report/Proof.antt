@@ -2,8 +2,8 @@ use mathlib.Core.Path.{◌≡◌}
 use Prim.Native.Nat.{◌-◌}
 use lib.ListN.{length}
 use borrow.Author.Rules.{rules}
-use Rattle.log_cases.proofs.salvage.spread_report.Statement.{statement}
-use Rattle.log_cases.proofs.salvage.spread_report.Tie as tie
+use Rattle.log_cases.proofs.salvaging.spread_report.Statement.{statement}
+use Rattle.log_cases.proofs.salvaging.spread_report.Tie as tie
 
 abbrev invariant-loop-at : tie.invariant-loop-at
 invariant-loop-at report bytes₀ at₀ end₀ bytes at end = length bytes ≡ length bytes₀
