@@ -2,127 +2,148 @@
 
 ghost use Rattle.std.specs.Prelude.{◌<◌, ◌≤◌};
 
-use crate::calls::{Numbers, plan, with_bus, with_kinds_len, with_label};
+use crate::plans::{Label, Plan};
 
-// "minimal standard" generator: from 1 to 2147483646, and no product reaches 48 bits
-pub(crate) fn draw(seed: &mut u64, below: u32) -> u32
-    requires { 0 < below }
-    ensures { result < below }
-{
-    *seed = *seed % 2147483647 * 48271 % 2147483647;
-    (*seed % below as u64) as u32
+#[derive(Drop)]
+pub(crate) struct Draws {
+    seed: u64,
+    // Whether faults are asked for.
+    pub(crate) faults: bool,
 }
 
-pub(crate) fn one_in(seed: &mut u64, n: u32) -> bool
-    requires { 0 < n }
-{
-    draw(seed, n) == 0
-}
-
-// One in so many, where faults are asked for.
-pub(crate) fn faulty(seed: &mut u64, faults: bool, n: u32) -> bool
-    requires { 0 < n }
-{
-    if faults {
-        return one_in(seed, n);
-    }
-    false
-}
-
-fn draw_words(seed: &mut u64) -> u32 {
-    let shape = draw(seed, 4);
-    match shape {
-        0 => 128,
-        1 => 512,
-        _ => 128 + draw(seed, 385),
-    }
-}
-
-fn draw_one_bus(seed: &mut u64, p: Numbers, buses: u32) -> Numbers
-    requires { 0 < buses }
-{
-    let bus = draw(seed, buses) as usize;
-    let kind = draw(seed, 2);
-    with_bus(p, bus, 1 + kind as u8)
-}
-
-fn draw_buses(seed: &mut u64, p: Numbers, buses: u32) -> Numbers {
-    let mut q = p;
-    let mut bus = 0;
-    while bus < buses {
-        let kind = draw(seed, 3);
-        q = with_bus(q, bus as usize, kind as u8);
-        bus += 1;
-    }
-    q
-}
-
-// K5: a label and a fill bus code; of a third of the plans the usual ones, by the functions that take none.
-fn draw_label(seed: &mut u64, p: Numbers, buses: u32) -> Numbers
-    requires { 0 < buses }
-{
-    if one_in(seed, 3) {
-        return p;
-    }
-    let crc_label = draw(seed, 8);
-    let fill_bus = draw(seed, buses);
-    with_label(p, crc_label, fill_bus)
-}
-
-// A legal plan.
-pub(crate) fn draw_plan(seed: &mut u64) -> Numbers {
-    let words = draw_words(seed);
-    let tracks = 1 + draw(seed, 4);
-    let frame_time = draw(seed, 2);
-    let crc = draw(seed, 2);
-    let parity = draw(seed, 2);
-    let usual = plan(words, tracks, frame_time, crc, parity);
-    let buses = 16 - 8 * parity;
-    let p = draw_label(seed, usual, buses);
-    if 1 < tracks {
-        return draw_one_bus(seed, p, buses);
-    }
-    draw_buses(seed, p, buses)
-}
-
-// Now and then a number that makes it illegal, or another legal plan.
-pub(crate) fn spoil_plan(seed: &mut u64, p: Numbers) -> Numbers {
-    let what = draw(seed, 10);
-    let bus = draw(seed, 16);
-    let mut q = p;
-    match what {
-        0 => q.words = draw(seed, 700),
-        1 => q.tracks = draw(seed, 7),
-        2 => q.frame_time = draw(seed, 4),
-        3 => q.crc = draw(seed, 4),
-        4 => q.parity = draw(seed, 4),
-        5 => return with_bus(q, bus as usize, draw(seed, 5) as u8),
-        6 => return with_kinds_len(q, draw(seed, 17) as usize),
-        7 => return with_label(q, draw(seed, 12), q.fill_bus),
-        8 => return with_label(q, q.crc_label, draw(seed, 20)),
-        _ => return q,
-    }
-    q
-}
-
-// 0 of a bus that there is not.
-pub(crate) fn kind_at(p: Numbers, bus: usize) -> u8 {
-    if bus < 16 {
-        return p.kinds[bus];
-    }
-    0
-}
-
-// The first used bus from a drawn one on, bus 0 behind bus 15; 16 if no bus is used.
-pub(crate) fn draw_bus(seed: &mut u64, p: Numbers) -> u32 {
-    let mut bus = draw(seed, 16);
-    let mut n: u32 = 0;
-    while n < 16 {
-        if kind_at(p, bus as usize) != 0 {
-            return bus;
+impl Draws {
+    pub(crate) fn new(seed: u64) -> Draws {
+        Draws {
+            seed,
+            faults: false,
         }
-        bus = (bus + 1) % 16;
-        n += 1;
     }
-    16
+
+    // "minimal standard" generator: from 1 to 2147483646, and no product reaches 48 bits
+    pub(crate) fn below(&mut self, limit: u32) -> u32
+        requires { 0 < limit }
+        ensures { result < limit }
+    {
+        self.seed = self.seed % 2147483647 * 48271 % 2147483647;
+        (self.seed % u64::from(limit)) as u32
+    }
+
+    pub(crate) fn one_in(&mut self, n: u32) -> bool
+        requires { 0 < n }
+    {
+        self.below(n) == 0
+    }
+
+    // One in so many, where faults are asked for.
+    pub(crate) fn faulty(&mut self, n: u32) -> bool
+        requires { 0 < n }
+    {
+        self.faults && self.one_in(n)
+    }
+
+    // A place in so many; 0 of none.
+    pub(crate) fn place(&mut self, len: usize) -> usize {
+        let len = u32::try_from(len).unwrap_or(u32::MAX);
+        self.below(len.max(1)) as usize
+    }
+
+    fn words(&mut self) -> u32 {
+        match self.below(4) {
+            0 => 128,
+            1 => 512,
+            _ => 128 + self.below(385),
+        }
+    }
+
+    // K5: a label and a fill bus code; of a third of the plans the usual ones, by the functions that take none.
+    fn label(&mut self, buses: u32) -> Option<Label>
+        requires { 0 < buses }
+    {
+        if self.one_in(3) {
+            return None;
+        }
+        Some(Label {
+            crc: self.below(8),
+            fill_bus: self.below(buses),
+        })
+    }
+
+    fn one_kind(&mut self, buses: u32) -> [u8; 16]
+        requires positive { 0 < buses }
+        requires legal { buses ≤ 16 }
+    {
+        let mut kinds = [0; 16];
+        let bus = self.below(buses) as usize;
+        kinds[bus] = 1 + self.below(2) as u8;
+        kinds
+    }
+
+    fn kinds(&mut self, buses: u32) -> [u8; 16]
+        requires { buses ≤ 16 }
+    {
+        let mut kinds = [0; 16];
+        for kind in kinds[..buses as usize].iter_mut() {
+            *kind = self.below(3) as u8;
+        }
+        kinds
+    }
+
+    // A legal plan.
+    pub(crate) fn plan(&mut self) -> Plan {
+        let words = self.words();
+        let tracks = 1 + self.below(4);
+        let frame_time = self.below(2);
+        let crc = self.below(2);
+        let parity = self.below(2);
+        let buses = 16 - 8 * parity;
+        let label = self.label(buses);
+        let kinds = if 1 < tracks {
+            self.one_kind(buses)
+        } else {
+            self.kinds(buses)
+        };
+        Plan {
+            words,
+            tracks,
+            frame_time,
+            crc,
+            parity,
+            label,
+            kinds,
+            kinds_len: 16,
+        }
+    }
+
+    // Now and then a number that makes it illegal, or another legal plan.
+    pub(crate) fn spoil_plan(&mut self, plan: &mut Plan) {
+        let what = self.below(10);
+        let bus = self.below(16) as usize;
+        let label = plan.label_or_usual();
+        match what {
+            0 => plan.words = self.below(700),
+            1 => plan.tracks = self.below(7),
+            2 => plan.frame_time = self.below(4),
+            3 => plan.crc = self.below(4),
+            4 => plan.parity = self.below(4),
+            5 => plan.kinds[bus] = self.below(5) as u8,
+            6 => plan.kinds_len = self.below(17) as usize,
+            7 => {
+                let crc = self.below(12);
+                plan.label = Some(Label { crc, ..label });
+            }
+            8 => {
+                let fill_bus = self.below(20);
+                plan.label = Some(Label { fill_bus, ..label });
+            }
+            _ => (),
+        }
+    }
+
+    // The first used bus from a drawn one on, bus 0 behind bus 15.
+    pub(crate) fn bus(&mut self, plan: &Plan) -> Option<u32> {
+        let first = self.below(16);
+        (0..16u32)
+            .map(|n| (first + n) % 16)
+            .find(|&bus| plan.kind_at(bus) != 0)
+    }
 }

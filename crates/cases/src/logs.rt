@@ -1,43 +1,16 @@
 // Pseudo-random logs and frame times; with faults, now and then wrong ones.
 
-ghost use Rattle.std.specs.Prelude.{◌<◌, ◌≤◌, length};
+ghost use Rattle.std.specs.Prelude.{◌<◌, ◌≤◌};
 
-use crate::calls::Numbers;
-use crate::draws::{draw, draw_bus, faulty, kind_at};
-use crate::runs::{part, put, put_byte, put_time};
+use crate::bits::Bits;
+use crate::draws::Draws;
+use crate::plans::Plan;
+use std::alloc::{AllocError, Global};
 
-// A kind of a 1553 bus (below 8), or of an ARINC bus.
-fn kind_of(n: u32) -> u32
-    ensures { result < 16 }
-{
-    match n {
-        0 | 1 => 1,
-        2 | 3 => 2,
-        4 => 3,
-        5 => 4,
-        6 | 14 => 7,
-        8 | 9 | 10 | 11 => 5,
-        12 | 13 => 6,
-        _ => 8,
-    }
-}
+// The kinds of items on a 1553 bus, and on an ARINC bus, each as often as it is to be drawn.
+const MIL_KINDS: [u32; 8] = [1, 1, 2, 2, 3, 4, 7, 8];
 
-// A kind that the bus can have; with faults, now and then any.
-fn draw_kind(seed: &mut u64, bus_kind: u8, faults: bool) -> u32
-    ensures { result < 16 }
-{
-    if faulty(seed, faults, 100) {
-        return draw(seed, 16);
-    }
-    kind_of(draw(seed, 8) + 8 * (bus_kind / 2) as u32)
-}
-
-fn draw_other_bus(seed: &mut u64, bus: u32, faults: bool) -> u32 {
-    if faulty(seed, faults, 100) {
-        return draw(seed, 16);
-    }
-    bus % 16
-}
+const ARINC_KINDS: [u32; 8] = [5, 5, 5, 5, 6, 6, 7, 8];
 
 // The bits of an item's fields behind its bus, up to its word, its diagnostics or its information.
 fn fields_width(kind: u32) -> u32
@@ -53,171 +26,151 @@ fn fields_width(kind: u32) -> u32
     }
 }
 
-// Drawn fields, "tagged" or "timed" by the flag: it stands before a word of 16 bits, and before one of 32.
-fn draw_fields(seed: &mut u64, flag: u32) -> u64
-    requires { flag < 2 }
-{
-    let top = draw(seed, 4);
-    let middle = draw(seed, 32768);
-    let low = draw(seed, 65536);
-    (2 * top + flag) as u64 * 4294967296 + (2 * middle + flag) as u64 * 65536 + low as u64
-}
-
 // The bits of a tag or a response.
 fn tail_width(kind: u32, flag: u32) -> u32
     ensures { result ≤ 64 }
 {
-    match 2 * (kind % 16) + flag % 2 {
-        3 | 11 => 46,
-        5 => 14,
+    match (kind, flag) {
+        (1 | 5, 1) => 46,
+        (2, 1) => 14,
         _ => 0,
     }
 }
 
-// Of a micro or a response.
-fn draw_limited(seed: &mut u64, faults: bool) -> u32
-    ensures { result < 16384 }
-{
-    if faulty(seed, faults, 100) {
-        return draw(seed, 16384);
-    }
-    draw(seed, 10000)
-}
-
-// A tag; its last 14 bits are a response.
-fn draw_tail(seed: &mut u64, faults: bool) -> u64 {
-    let high = draw(seed, 65536);
-    let low = draw(seed, 65536);
-    let limited = draw_limited(seed, faults);
-    high as u64 * 1073741824 + low as u64 * 16384 + limited as u64
-}
-
-// An error notice wants its word (K2): mostly one stands right behind it.
-fn draw_answer(seed: &mut u64, log: &mut [u8], bit: usize, bus: u32, channel: u64) -> usize {
-    if draw(seed, 16) == 0 {
-        return bit;
-    }
-    let high = draw(seed, 65536);
-    let low = draw(seed, 65536);
-    let kind_end = put(log, bit, 4, 5);
-    let bus_end = put(log, kind_end, 4, bus as u64);
-    let word = high as u64 * 65536 + low as u64;
-    put(log, bus_end, 35, channel % 4 * 8589934592 + word)
-}
-
-fn draw_item(
-    seed: &mut u64,
-    log: &mut [u8],
-    bit: usize,
-    bus: u32,
-    bus_kind: u8,
-    faults: bool,
-) -> usize {
-    let kind = draw_kind(seed, bus_kind, faults);
-    let named = draw_other_bus(seed, bus, faults);
-    let flag = draw(seed, 2);
-    let kind_end = put(log, bit, 4, kind as u64);
-    let bus_end = put(log, kind_end, 4, named as u64);
-    let fields = draw_fields(seed, flag);
-    let fields_end = put(log, bus_end, fields_width(kind), fields);
-    let tail_end = put(
-        log,
-        fields_end,
-        tail_width(kind, flag),
-        draw_tail(seed, faults),
-    );
-    if kind == 6 {
-        return draw_answer(seed, log, tail_end, named, fields / 256);
-    }
-    tail_end
-}
-
-// On a used bus; nothing if there is none.
-fn draw_item_of(seed: &mut u64, p: Numbers, log: &mut [u8], bit: usize, faults: bool) -> usize {
-    let bus = draw_bus(seed, p);
-    if bus < 16 {
-        return draw_item(seed, log, bit, bus, kind_at(p, bus as usize), faults);
-    }
-    bit
-}
-
-fn draw_items(seed: &mut u64, p: Numbers, log: &mut [u8], items: u32, faults: bool) -> usize {
-    let mut bit = 0;
-    let mut n = 0;
-    while n < items {
-        bit = draw_item_of(seed, p, log, bit, faults);
-        n += 1;
-    }
-    bit
-}
-
-// Up to 60 items, or up to 600, or none.
-fn draw_number(seed: &mut u64) -> u32 {
-    let shape = draw(seed, 16);
-    match shape {
-        0 => draw(seed, 600),
-        1 => 0,
-        _ => draw(seed, 60),
-    }
-}
-
-// Ends the log; returns its length in bytes.
-fn put_end(log: &mut [u8], bit: usize) -> usize
-    ensures { result ≤ length log.new }
-{
-    let end = put(log, bit, 4, 0);
-    let last = put(log, end, ((8 - end % 8) % 8) as u32, 0);
-    part(log, last / 8)
-}
-
-fn change_byte(seed: &mut u64, log: &mut [u8], size: u32)
-    requires { 0 < size }
-{
-    let at = draw(seed, size);
-    let byte = draw(seed, 256);
-    put_byte(log, at as usize, byte as u8);
-}
-
-// A byte less, a byte more, or a byte changed.
-fn spoil_log(seed: &mut u64, log: &mut [u8], size: u32) -> usize
-    requires { 0 < size }
-{
-    let what = draw(seed, 3);
-    match what {
-        0 => return size as usize - 1,
-        1 => return size as usize + 1,
-        _ => change_byte(seed, log, size),
-    }
-    size as usize
-}
-
-// Returns the log's length in bytes.
-pub(crate) fn draw_log(seed: &mut u64, p: Numbers, log: &mut [u8], faults: bool) -> usize {
-    let items = draw_number(seed);
-    let bit = draw_items(seed, p, log, items, faults);
-    let size = put_end(log, bit) % 65536;
-    if faulty(seed, faults, 4) {
-        if 0 < size {
-            return spoil_log(seed, log, size as u32);
+impl Draws {
+    // A kind that the bus can have; with faults, now and then any of the sixteen numbers.
+    fn item_kind(&mut self, bus_kind: u8) -> u32 {
+        if self.faulty(100) {
+            return self.below(16);
+        }
+        let place = self.below(8) as usize;
+        match bus_kind / 2 {
+            0 => MIL_KINDS[place],
+            1 => ARINC_KINDS[place],
+            _ => 8,
         }
     }
-    size
-}
 
-fn draw_time(seed: &mut u64, faults: bool) -> u64 {
-    let high = draw(seed, 65536);
-    let low = draw(seed, 65536);
-    let micro = draw(seed, 10000);
-    if faulty(seed, faults, 20) {
-        return 42949672950000 + 2 * micro as u64;
+    fn other_bus(&mut self, bus: u32) -> u32 {
+        if self.faulty(100) {
+            return self.below(16);
+        }
+        bus
     }
-    10000 * (65536 * high as u64 + low as u64) + micro as u64
-}
 
-pub(crate) fn draw_times(seed: &mut u64, times: &mut [u8], number: u32, faults: bool) {
-    let mut n = 0;
-    while n < number {
-        put_time(times, n as usize, draw_time(seed, faults));
-        n += 1;
+    // "tagged" or "timed" by the flag: it stands before a word of 16 bits, and before one of 32.
+    fn item_fields(&mut self, flag: u32) -> u64
+        requires { flag < 2 }
+    {
+        let top = self.below(4);
+        let middle = self.below(32768);
+        let low = self.below(65536);
+        u64::from(2 * top + flag) << 32 | u64::from(2 * middle + flag) << 16 | u64::from(low)
+    }
+
+    // A tag; its last 14 bits are a response.
+    fn tail(&mut self) -> u64 {
+        let high = self.below(65536);
+        let low = self.below(65536);
+        let limit = if self.faulty(100) { 16384 } else { 10000 };
+        u64::from(high) << 30 | u64::from(low) << 14 | u64::from(self.below(limit))
+    }
+
+    // An error notice wants its word (K2): mostly one stands right behind it.
+    fn answer(&mut self, log: &mut Bits, bus: u32, channel: u64) -> Result<(), AllocError> {
+        if self.one_in(16) {
+            return Ok(());
+        }
+        let high = self.below(65536);
+        let low = self.below(65536);
+        log.put(4, 5)?;
+        log.put(4, u64::from(bus))?;
+        // its channel's low bits, and no tag
+        log.put(2, channel)?;
+        log.put(1, 0)?;
+        log.put(16, u64::from(high))?;
+        log.put(16, u64::from(low))
+    }
+
+    fn item(&mut self, log: &mut Bits, bus: u32, bus_kind: u8) -> Result<(), AllocError> {
+        let kind = self.item_kind(bus_kind);
+        let named = self.other_bus(bus);
+        let flag = self.below(2);
+        let fields = self.item_fields(flag);
+        let tail = self.tail();
+        log.put(4, u64::from(kind))?;
+        log.put(4, u64::from(named))?;
+        log.put(fields_width(kind), fields)?;
+        log.put(tail_width(kind, flag), tail)?;
+        if kind == 6 {
+            self.answer(log, named, fields / 256)?;
+        }
+        Ok(())
+    }
+
+    // Up to 60 items, or up to 600, or none.
+    fn item_count(&mut self) -> u32 {
+        match self.below(16) {
+            0 => self.below(600),
+            1 => 0,
+            _ => self.below(60),
+        }
+    }
+
+    // On used buses; none if there is none.
+    fn items(&mut self, plan: &Plan, log: &mut Bits) -> Result<(), AllocError> {
+        for _ in 0..self.item_count() {
+            if let Some(bus) = self.bus(plan) {
+                self.item(log, bus, plan.kind_at(bus))?;
+            }
+        }
+        Ok(())
+    }
+
+    // A byte less, a byte more, or a byte changed.
+    fn spoil_log(&mut self, log: &mut Vec<u8>) -> Result<(), AllocError> {
+        match self.below(3) {
+            0 => {
+                log.pop();
+            }
+            1 => log.push(0)?,
+            _ => {
+                let place = self.place(log.len());
+                let byte = self.below(256) as u8;
+                if let Some(old) = log.get_mut(place) {
+                    *old = byte;
+                }
+            }
+        }
+        Ok(())
+    }
+
+    pub(crate) fn log(&mut self, alloc: Global, plan: &Plan) -> Result<Vec<u8>, AllocError> {
+        let mut log = Bits::new(alloc);
+        self.items(plan, &mut log)?;
+        let mut log = log.ended()?;
+        if self.faulty(4) {
+            self.spoil_log(&mut log)?;
+        }
+        Ok(log)
+    }
+
+    fn time(&mut self) -> u64 {
+        let high = self.below(65536);
+        let low = self.below(65536);
+        let micro = u64::from(self.below(10000));
+        if self.faulty(20) {
+            return 42949672950000 + 2 * micro;
+        }
+        10000 * (65536 * u64::from(high) + u64::from(low)) + micro
+    }
+
+    // So many frame times, eight bytes each.
+    pub(crate) fn times(&mut self, alloc: Global, count: u64) -> Result<Vec<u8>, AllocError> {
+        let mut times = Vec::new(alloc);
+        for _ in 0..count {
+            times.extend_from_slice(&self.time().to_be_bytes())?;
+        }
+        Ok(times)
     }
 }

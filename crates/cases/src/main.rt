@@ -4,25 +4,26 @@
 // the same over the independent implementation, must write the same; what the lines mean is said there.
 #![tactic(auto)]
 
-mod calls;
+mod bits;
 mod captures;
-mod digest;
 mod draws;
 mod lines;
 mod logs;
 mod named;
+mod plans;
 mod random;
-mod runs;
-mod text;
 
 use crate::named::named_cases;
 use crate::random::random_cases;
-use std::io;
-use whole_input::read_full;
+use std::io::{self, Read};
+
+// Of what stands in front on standard input, so many bytes are read.
+const TEXT: u64 = 65536;
 
 fn main(rt: HostRuntime) -> io::Result<()> {
-    let mut text = [0; 65536];
-    let size = read_full(&mut rt.stdin(), &mut text)?;
-    named_cases(&mut rt.stdout(), &text[..size])?;
-    random_cases(&mut rt.stdout())
+    let alloc = rt.alloc();
+    let mut text = Vec::new(alloc);
+    rt.stdin().take(TEXT).read_to_end(&mut text)?;
+    named_cases(&rt, alloc, &text)?;
+    random_cases(&rt, alloc)
 }

@@ -1,174 +1,155 @@
 // Ten blocks of 200 pseudo-random cases: composed and read back, composed and damaged, and noise. Every answer and every lent byte
 // goes into the block's digest.
 
-use crate::calls::{Numbers, Outcome, composing, reading};
-use crate::captures::{damage, noise};
-use crate::digest::fold;
-use crate::draws::{draw, draw_plan, faulty, spoil_plan};
-use crate::lines::{end_line, name, say_number};
-use crate::logs::{draw_log, draw_times};
-use std::io::{self, Write};
+ghost use Rattle.std.specs.Prelude.{◌<◌, IfSome};
 
-fn fold_outcome(digest: &mut u64, o: Outcome) {
-    let answered = fold(fold(fold(*digest, o.number as u64), o.place), o.second);
-    let sized = fold(fold(answered, o.bytes), o.times);
-    *digest = fold(fold(sized, o.first_digest), o.second_digest);
+use crate::bits::front;
+use crate::draws::Draws;
+use crate::plans::{Outcome, Plan, Reading};
+use std::alloc::{AllocError, Global};
+use std::io;
+
+#[derive(Drop)]
+struct Block<'a> {
+    alloc: Global,
+    draws: &'a mut Draws,
+    digest: u64,
 }
 
-// A byte less now and then, where faults are asked for.
-fn draw_less(seed: &mut u64, size: usize, faults: bool) -> usize {
-    if 0 < size {
-        if faulty(seed, faults, 8) {
-            return size - 1;
+// What an answer says is needed, where that is room.
+fn room_asked(asked: &Outcome) -> Option<usize>
+    ensures { IfSome result (λ room. room < 32767) }
+{
+    let answer = asked.answer;
+    if answer.number == 6 && answer.place < 32767 {
+        Some(answer.place as usize)
+    } else {
+        None
+    }
+}
+
+impl Block<'_> {
+    fn fold(&mut self, outcome: &Outcome) {
+        self.digest = outcome.fold_into(self.digest);
+    }
+
+    // A byte less now and then, where faults are asked for.
+    fn less(&mut self, size: usize) -> usize {
+        if 0 < size && self.draws.faulty(8) {
+            size - 1
+        } else {
+            size
         }
     }
-    size
-}
 
-// What an answer says is needed, and up to two bytes more.
-fn draw_room(seed: &mut u64, asked: Outcome, otherwise: usize) -> usize {
-    let more = draw(seed, 3);
-    if asked.number == 6 {
-        if asked.place < 32767 {
-            return asked.place as usize + more as usize;
+    // What an answer says is needed, and up to two bytes more.
+    fn room(&mut self, asked: &Outcome, otherwise: usize) -> usize {
+        let more = self.draws.below(3) as usize;
+        match room_asked(asked) {
+            Some(needed) => needed + more,
+            None => otherwise,
         }
     }
-    otherwise
-}
 
-// Room for enough times; with faults, now and then for up to two.
-fn draw_times_room(seed: &mut u64, faults: bool) -> usize {
-    if faulty(seed, faults, 2) {
-        return 8 * draw(seed, 3) as usize;
-    }
-    1000 + draw(seed, 8) as usize
-}
-
-// Both readings: first with no room, to learn the log's length, then with room a little off now and then.
-fn read_case(
-    seed: &mut u64,
-    digest: &mut u64,
-    p: Numbers,
-    capture: &[u8],
-    length: usize,
-    faults: bool,
-) {
-    let size = draw_less(seed, length, faults);
-    let asked = reading(false, p, capture, size, 0, 0);
-    let enough = draw_room(seed, asked, 40);
-    let log_len = draw_less(seed, enough, faults);
-    let times_len = draw_times_room(seed, faults);
-    fold_outcome(digest, asked);
-    fold_outcome(digest, reading(false, p, capture, size, log_len, times_len));
-    fold_outcome(digest, reading(true, p, capture, size, log_len, times_len));
-}
-
-// The number of times that an answer says is needed; with faults, now and then one more.
-fn times_needed(seed: &mut u64, asked: Outcome, faults: bool) -> u32 {
-    if asked.number == 5 {
-        if asked.place < 120 {
-            if faulty(seed, faults, 8) {
-                return asked.place as u32 + 1;
-            }
-            return asked.place as u32;
+    // Room for enough times; with faults, now and then for up to two.
+    fn times_room(&mut self) -> usize {
+        if self.draws.faulty(2) {
+            return 8 * self.draws.below(3) as usize;
         }
+        1000 + self.draws.below(8) as usize
     }
-    0
-}
 
-// Composes with no times, to learn how many; draws them and returns their length in bytes.
-fn times_case(
-    seed: &mut u64,
-    digest: &mut u64,
-    p: Numbers,
-    log: &[u8],
-    log_len: usize,
-    times: &mut [u8],
-    faults: bool,
-) -> usize {
-    let mut out = [0; 1];
-    let asked = composing(p, log, log_len, times, 0, &mut out, 0);
-    let number = times_needed(seed, asked, faults);
-    fold_outcome(digest, asked);
-    draw_times(seed, times, number, faults);
-    8 * number as usize
-}
+    // Both readings: first with no room, to learn the log's length, then with room a little off now and then.
+    fn read_case(&mut self, plan: &Plan, capture: &[u8]) -> Result<(), AllocError> {
+        let capture = front(capture, self.less(capture.len()));
+        let asked = plan.read(self.alloc, Reading::Plain, capture, 0, 0)?;
+        let enough = self.room(&asked, 40);
+        let log_len = self.less(enough);
+        let times_len = self.times_room();
+        self.fold(&asked);
+        for reading in [Reading::Plain, Reading::Closed] {
+            let read = plan.read(self.alloc, reading, capture, log_len, times_len)?;
+            self.fold(&read);
+        }
+        Ok(())
+    }
 
-// Composes with no room, to learn how much; returns that or a little more, and with faults now and then less.
-fn room_case(
-    seed: &mut u64,
-    digest: &mut u64,
-    p: Numbers,
-    log: &[u8],
-    log_len: usize,
-    times: &[u8],
-    times_len: usize,
-    faults: bool,
-) -> usize {
-    let mut out = [0; 1];
-    let asked = composing(p, log, log_len, times, times_len, &mut out, 0);
-    fold_outcome(digest, asked);
-    let enough = draw_room(seed, asked, 0);
-    draw_less(seed, enough, faults)
-}
+    // The number of times that an answer says is needed; with faults, now and then one more.
+    fn times_needed(&mut self, asked: &Outcome) -> u64 {
+        let answer = asked.answer;
+        if answer.number != 5 || 120 <= answer.place {
+            return 0;
+        }
+        answer.place + u64::from(self.draws.faulty(8))
+    }
 
-// A log composed, and read back; with faults, the log, its times, the rooms or the capture spoilt.
-fn compose_case(seed: &mut u64, digest: &mut u64, p: Numbers, faults: bool) {
-    let mut log = [0; 8192];
-    let mut times = [0; 1024];
-    let mut out = [0; 32768];
-    let log_len = draw_log(seed, p, &mut log, faults);
-    let times_len = times_case(seed, digest, p, &log, log_len, &mut times, faults);
-    let out_len = room_case(seed, digest, p, &log, log_len, &times, times_len, faults);
-    let composed = composing(p, &log, log_len, &times, times_len, &mut out, out_len);
-    fold_outcome(digest, composed);
-    damage(seed, p, &mut out, composed.bytes as usize, faults);
-    read_case(seed, digest, p, &out, composed.bytes as usize, faults);
-}
+    // Composes with no times, to learn how many, and draws them.
+    fn times_case(&mut self, plan: &Plan, log: &[u8]) -> Result<Vec<u8>, AllocError> {
+        let asked = plan.compose(log, &[], &mut []);
+        self.fold(&asked);
+        let count = self.times_needed(&asked);
+        self.draws.times(self.alloc, count)
+    }
 
-fn noise_case(seed: &mut u64, digest: &mut u64, p: Numbers) {
-    let mut q = p;
-    q.frame_time = 0;
-    q.crc = 0;
-    let mut capture = [0; 32768];
-    let length = noise(seed, q, &mut capture);
-    read_case(seed, digest, q, &capture, length, true);
-}
+    // Composes with no room, to learn how much; returns that or a little more, and with faults now and then less.
+    fn room_case(&mut self, plan: &Plan, log: &[u8], times: &[u8]) -> usize {
+        let asked = plan.compose(log, times, &mut []);
+        self.fold(&asked);
+        let enough = self.room(&asked, 0);
+        self.less(enough)
+    }
 
-fn spoiled_case(seed: &mut u64, digest: &mut u64, p: Numbers) {
-    let q = spoil_plan(seed, p);
-    compose_case(seed, digest, q, true);
-}
+    // A log composed, and read back; with faults, the log, its times, the rooms or the capture spoilt.
+    fn compose_case(&mut self, plan: &Plan) -> Result<(), AllocError> {
+        let log = self.draws.log(self.alloc, plan)?;
+        let times = self.times_case(plan, &log)?;
+        let room = self.room_case(plan, &log, &times);
+        let mut capture = vec![in self.alloc; 0; room]?;
+        let composed = plan.compose(&log, &times, &mut capture);
+        self.fold(&composed);
+        capture.truncate(composed.answer.bytes as usize);
+        self.draws.damage(plan, &mut capture);
+        self.read_case(plan, &capture)
+    }
 
-fn random_case(seed: &mut u64, digest: &mut u64) {
-    let p = draw_plan(seed);
-    let what = draw(seed, 8);
-    match what {
-        0 => noise_case(seed, digest, p),
-        1 | 2 | 3 => compose_case(seed, digest, p, false),
-        4 => spoiled_case(seed, digest, p),
-        _ => compose_case(seed, digest, p, true),
+    fn noise_case(&mut self, plan: &Plan) -> Result<(), AllocError> {
+        let mut plan = *plan;
+        plan.frame_time = 0;
+        plan.crc = 0;
+        let capture = self.draws.noise(self.alloc, &plan)?;
+        self.read_case(&plan, &capture)
+    }
+
+    fn case(&mut self) -> Result<(), AllocError> {
+        let mut plan = self.draws.plan();
+        let what = self.draws.below(8);
+        self.draws.faults = !matches!(what, 1..=3);
+        match what {
+            0 => return self.noise_case(&plan),
+            4 => self.draws.spoil_plan(&mut plan),
+            _ => (),
+        }
+        self.compose_case(&plan)
     }
 }
 
-fn random_block(to: &mut impl Write, seed: &mut u64, block: u32) -> io::Result<()> {
-    let mut digest = 0;
-    let mut n: u32 = 0;
-    while n < 200 {
-        random_case(seed, &mut digest);
-        n += 1;
+fn digest_of_block(alloc: Global, draws: &mut Draws) -> Result<u64, AllocError> {
+    let mut block = Block {
+        alloc,
+        draws,
+        digest: 0,
+    };
+    for _ in 0..200 {
+        block.case()?;
     }
-    name(to, b"block", block)?;
-    say_number(to, digest)?;
-    end_line(to)
+    Ok(block.digest)
 }
 
-pub(crate) fn random_cases(to: &mut impl Write) -> io::Result<()> {
-    let mut seed = 20241001;
-    let mut block = 0;
-    while block < 10 {
-        random_block(to, &mut seed, block)?;
-        block += 1;
+pub(crate) fn random_cases(rt: &impl Print, alloc: Global) -> io::Result<()> {
+    let mut draws = Draws::new(20241001);
+    for block in 0..10 {
+        let digest = digest_of_block(alloc, &mut draws)?;
+        println!(rt; "block {block}: {digest}")?;
     }
     Ok(())
 }

@@ -1,113 +1,124 @@
-// What is said of a call: its name, its answer, a digest of what was lent for it, and `differs` where it is not as asked for.
+// What is asked for of a call, and what is said of it: its answer, a digest of what was lent for it, and `differs` where it is not as
+// asked for.
 
-use crate::digest::digest_of;
-use crate::fields::number;
-use crate::runs::{no_bytes, run};
+use crate::case::{BYTES, Fields, TIMES};
+use case_text::digest_of;
 use format::Answer;
-use std::io::{self, Write};
+use std::alloc::{AllocError, Global};
+use std::fmt;
 
-// A line that says nothing is no case: it is told.
-pub(crate) fn say_unknown(to: &mut impl Write) -> io::Result<()> {
-    to.write_all(b"unknown\n")
+pub(crate) fn unless(good: bool) -> &'static str {
+    if good { "" } else { " differs" }
 }
 
-pub(crate) fn say_number(to: &mut impl Write, number: u64) -> io::Result<()> {
-    write!(to, " {number}")
-}
+// A number, a place, a second place and two lengths.
+#[derive(Clone, Copy)]
+pub(crate) struct Shown(pub(crate) Answer);
 
-pub(crate) fn say_answer(to: &mut impl Write, a: Answer) -> io::Result<()> {
-    say_number(to, a.number as u64)?;
-    say_number(to, a.place)?;
-    say_number(to, a.second)?;
-    say_number(to, a.bytes)?;
-    say_number(to, a.times)
-}
-
-pub(crate) fn say_unless(to: &mut impl Write, good: bool) -> io::Result<()> {
-    if good {
-        return Ok(());
+impl fmt::Display for Shown {
+    fn fmt<W: fmt::Write>(&self, f: &mut fmt::Formatter<W>) -> fmt::Result {
+        let Answer {
+            number,
+            place,
+            second,
+            bytes,
+            times,
+        } = self.0;
+        write!(f, " {number} {place} {second} {bytes} {times}")
     }
-    to.write_all(b" differs")
 }
 
-// "On success: number 0, place 0 and the lengths written": so many bytes. "A refusal returns number, place and lengths 0."
-pub(crate) fn is_asked(a: Answer, number: u64, value: u64) -> bool {
-    if a.number == 0 {
-        return number == 0 && a.place == 0 && a.bytes == value;
+// NUMBER VALUE MADE, or NUMBER PLACE MADE
+#[derive(Drop)]
+pub(crate) struct Asked {
+    alloc: Global,
+    pub(crate) number: u64,
+    pub(crate) value: u64,
+    made: Vec<u8>,
+}
+
+// ENTRIES ROW, eight bytes an entry
+#[derive(Drop)]
+pub(crate) struct Row {
+    entries: u64,
+    bytes: Vec<u8>,
+}
+
+impl Asked {
+    pub(crate) fn new(asked: &mut Fields<'_>) -> Result<Asked, AllocError> {
+        Ok(Asked {
+            alloc: asked.alloc,
+            number: asked.number(),
+            value: asked.number(),
+            made: asked.run(BYTES)?,
+        })
     }
-    a.number as u64 == number && a.place == value && a.bytes == 0 && a.times == 0
-}
 
-// Whether the first bytes of `out` are these.
-pub(crate) fn begins(out: &[u8], made: &[u8]) -> bool {
-    let mut at = 0;
-    while at < made.len() {
-        if out.len() <= at {
-            return false;
+    // "On success: number 0, place 0 and the lengths written": so many bytes. "A refusal returns number, place and lengths 0."
+    pub(crate) fn is_answer(&self, a: &Answer) -> bool {
+        if u64::from(a.number) != self.number {
+            false
+        } else if a.number == 0 {
+            a.place == 0 && a.bytes == self.value
+        } else {
+            a.place == self.value && a.bytes == 0 && a.times == 0
         }
-        if out[at] != made[at] {
-            return false;
-        }
-        at += 1;
     }
-    true
+
+    // Whether so many bytes were written, and these.
+    pub(crate) fn is_made(&self, bytes: u64, out: &[u8]) -> bool {
+        bytes == self.made.len() as u64 && out.starts_with(&self.made)
+    }
 }
 
-// Whether so many bytes were written, and these.
-pub(crate) fn is_made(bytes: u64, out: &[u8], asked: &[u8]) -> bool {
-    let mut made = no_bytes();
-    let end = run(asked, 3, &mut made);
-    bytes == end as u64 && begins(out, &made[..end])
+impl Row {
+    pub(crate) fn new(asked: &mut Fields<'_>) -> Result<Row, AllocError> {
+        Ok(Row {
+            entries: asked.number(),
+            bytes: asked.run(TIMES)?,
+        })
+    }
+
+    // Whether so many entries were counted, and the row begins with these.
+    fn is_begun(&self, entries: u64, row: &[u8]) -> bool {
+        entries == self.entries && row.starts_with(&self.bytes)
+    }
+
+    // Whether it also holds no byte more.
+    pub(crate) fn is_whole(&self, entries: u64, row: &[u8]) -> bool {
+        self.is_begun(entries, row) && row.len() == self.bytes.len()
+    }
+
+    // The row's digest, and whether it is as asked for.
+    pub(crate) fn say(
+        &self,
+        reply: &mut String,
+        entries: u64,
+        row: &[u8],
+    ) -> Result<(), AllocError> {
+        write!(
+            reply,
+            " {}{}",
+            digest_of(row),
+            unless(self.is_begun(entries, row))
+        )
+    }
 }
 
-fn say_checked(to: &mut impl Write, a: Answer, out: &[u8], asked: &[u8]) -> io::Result<()> {
-    say_unless(
-        to,
-        a.second == 0 && is_asked(a, number(asked, 1), number(asked, 2)),
-    )?;
-    say_unless(to, is_made(a.bytes, out, asked))
-}
-
-// Without the line's end, for a call that has more to say.
-pub(crate) fn say_call(
-    to: &mut impl Write,
-    name: &[u8],
-    a: Answer,
-    out: &[u8],
-    asked: &[u8],
-) -> io::Result<()> {
-    to.write_all(name)?;
-    say_answer(to, a)?;
-    say_number(to, digest_of(out))?;
-    say_checked(to, a, out, asked)
-}
-
-pub(crate) fn say_made(
-    to: &mut impl Write,
-    name: &[u8],
-    a: Answer,
-    out: &[u8],
-    asked: &[u8],
-) -> io::Result<()> {
-    say_call(to, name, a, out, asked)?;
-    to.write_all(b"\n")
-}
-
-// The same where a refusal may have a second place, which is asked for behind what is made: so many bytes of `out`.
-pub(crate) fn say_found(
-    to: &mut impl Write,
-    name: &[u8],
-    a: Answer,
+// A call that gives back bytes: its answer, and what it wrote into what was lent for it. `second` is asked for as the second place.
+pub(crate) fn made(
+    name: &str,
+    asked: &Asked,
+    answer: &Answer,
+    second: u64,
     bytes: u64,
     out: &[u8],
-    asked: &[u8],
-) -> io::Result<()> {
-    to.write_all(name)?;
-    say_answer(to, a)?;
-    say_number(to, digest_of(out))?;
-    say_unless(
-        to,
-        a.second == number(asked, 4) && is_asked(a, number(asked, 1), number(asked, 2)),
-    )?;
-    say_unless(to, is_made(bytes, out, asked))
+) -> Result<String, AllocError> {
+    Ok(format!(in asked.alloc;
+        "{name}{} {}{}{}",
+        Shown(*answer),
+        digest_of(out),
+        unless(answer.second == second && asked.is_answer(answer)),
+        unless(asked.is_made(bytes, out)),
+    )?)
 }

@@ -1,45 +1,37 @@
 // items PLAN WORDS ROOM -> NUMBER VALUE MADE SECOND
 
-use crate::answers::say_found;
-use crate::fields::size;
-use crate::plans::numbers;
-use crate::runs::{no_bytes, part, room, run};
-use crate::words::{gather, words_part};
-use std::io::{self, Write};
+use crate::answers::{Asked, made};
+use crate::case::{BYTES, Fields, WORDS};
+use std::alloc::{AllocError, Global};
 
-fn items_run(
-    to: &mut impl Write,
-    line: &[u8],
-    asked: &[u8],
-    words: &[u32],
-    out: &mut [u8],
-) -> io::Result<()> {
-    let mut kinds = [0; 32];
-    let kinds_end = run(line, 8, &mut kinds);
-    let p = numbers(line);
-    let a = vinculampe::vin_read_items(
-        p.words,
-        p.tracks,
-        p.frame_time,
-        p.crc,
-        p.parity,
-        p.crc_label,
-        p.fill_bus,
-        &kinds[..kinds_end],
-        words,
-        out,
-    );
-    say_found(to, b"items", a, a.bytes, out, asked)?;
-    to.write_all(b"\n")
+// Of four bytes each.
+fn words_of(alloc: Global, bytes: &[u8]) -> Result<Vec<u32>, AllocError> {
+    let mut words = Vec::new(alloc);
+    for word in bytes.chunks_exact(4).take(WORDS) {
+        if let &[first, second, third, last] = word {
+            words.push(u32::from_be_bytes([first, second, third, last]))?;
+        }
+    }
+    Ok(words)
 }
 
-pub(crate) fn items_line(to: &mut impl Write, line: &[u8], asked: &[u8]) -> io::Result<()> {
-    let mut bytes = no_bytes();
-    let mut words = [0u32; 10000];
-    let mut out = room();
-    let bytes_end = run(line, 9, &mut bytes);
-    let count = gather(&bytes[..bytes_end], &mut words);
-    let words_end = words_part(&words, count);
-    let out_end = part(&out, size(line, 10));
-    items_run(to, line, asked, &words[..words_end], &mut out[..out_end])
+pub(crate) fn items(fields: &mut Fields<'_>, asked: &mut Fields<'_>) -> Result<String, AllocError> {
+    let plan = fields.plan()?;
+    let words = words_of(fields.alloc, &fields.run(BYTES)?)?;
+    let mut out = fields.room(BYTES)?;
+    let answer = vinculampe::vin_read_items(
+        plan.words,
+        plan.tracks,
+        plan.frame_time,
+        plan.crc,
+        plan.parity,
+        plan.crc_label,
+        plan.fill_bus,
+        &plan.kinds,
+        &words,
+        &mut out,
+    );
+    let what = Asked::new(asked)?;
+    let second = asked.number();
+    made("items", &what, &answer, second, answer.bytes, &out)
 }

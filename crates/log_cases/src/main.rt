@@ -6,76 +6,107 @@
 
 mod answers;
 mod arriving;
-mod digest;
-mod fields;
+mod case;
 mod items;
 mod join;
 mod pick;
-mod plans;
 mod profile;
 mod replay;
-mod runs;
 mod salvaging;
 mod shift;
 mod slots;
-mod words;
 
-use crate::answers::say_unknown;
-use crate::arriving::{add_line, cut_line, end_line};
-use crate::fields::{arrow, line_end};
-use crate::items::items_line;
-use crate::join::join_line;
-use crate::pick::pick_line;
-use crate::profile::profile_line;
-use crate::replay::replay_line;
-use crate::salvaging::salvage_line;
-use crate::shift::shift_line;
-use crate::slots::slots_line;
-use std::io::{self, Write};
-use whole_input::read_full;
+use crate::arriving::{added, cut, ended};
+use crate::case::Fields;
+use crate::items::items;
+use crate::join::join;
+use crate::pick::pick;
+use crate::profile::profile;
+use crate::replay::replay;
+use crate::salvaging::salvage;
+use crate::shift::shift;
+use crate::slots::slots;
+use std::alloc::{AllocError, Global};
+use std::io::{self, Read};
 
-// A call is told by its second letter: pick, join, shift, profile, replay, slots, items, salvage, cut, add, end.
-fn call_line(to: &mut impl Write, letter: u8, line: &[u8], asked: &[u8]) -> io::Result<()> {
-    match letter {
-        b'i' => pick_line(to, line, asked),
-        b'o' => join_line(to, line, asked),
-        b'h' => shift_line(to, line, asked),
-        b'r' => profile_line(to, line, asked),
-        b'e' => replay_line(to, line, asked),
-        b'l' => slots_line(to, line, asked),
-        b't' => items_line(to, line, asked),
-        b'a' => salvage_line(to, line, asked),
-        b'u' => cut_line(to, line, asked),
-        b'd' => add_line(to, line, asked),
-        b'n' => end_line(to, line, asked),
-        _ => say_unknown(to),
+#[derive(Clone, Copy)]
+enum Call {
+    Pick,
+    Join,
+    Shift,
+    Profile,
+    Replay,
+    Slots,
+    Items,
+    Salvage,
+    Cut,
+    Add,
+    End,
+}
+
+impl Call {
+    // A call is told by its second letter.
+    fn of(letter: u8) -> Option<Call> {
+        match letter {
+            b'i' => Some(Call::Pick),
+            b'o' => Some(Call::Join),
+            b'h' => Some(Call::Shift),
+            b'r' => Some(Call::Profile),
+            b'e' => Some(Call::Replay),
+            b'l' => Some(Call::Slots),
+            b't' => Some(Call::Items),
+            b'a' => Some(Call::Salvage),
+            b'u' => Some(Call::Cut),
+            b'd' => Some(Call::Add),
+            b'n' => Some(Call::End),
+            _ => None,
+        }
     }
 }
 
-// Empty lines and comments are passed over.
-fn one_line(to: &mut impl Write, line: &[u8]) -> io::Result<()> {
-    if line.len() < 2 {
+// What is said of a case. What is asked for stands behind the line's first arrow; what is not asked for is 0, and no bytes.
+fn reply(alloc: Global, call: Call, line: &[u8]) -> Result<String, AllocError> {
+    let arrow = line.iter().take_while(|byte| **byte != b'>').count();
+    let mut fields = Fields::new(alloc, line);
+    let mut asked = Fields::new(alloc, &line[arrow..]);
+    match call {
+        Call::Pick => pick(&mut fields, &mut asked),
+        Call::Join => join(&mut fields, &mut asked),
+        Call::Shift => shift(&mut fields, &mut asked),
+        Call::Profile => profile(&mut fields, &mut asked),
+        Call::Replay => replay(&mut fields, &mut asked),
+        Call::Slots => slots(&mut fields, &mut asked),
+        Call::Items => items(&mut fields, &mut asked),
+        Call::Salvage => salvage(&mut fields, &mut asked),
+        Call::Cut => cut(&mut fields, &mut asked),
+        Call::Add => added(&mut fields, &mut asked),
+        Call::End => ended(&mut fields, &mut asked),
+    }
+}
+
+// Empty lines and comments are passed over. A line that says nothing is no case: it is told.
+fn say_line(rt: &impl Print, alloc: Global, line: &[u8]) -> io::Result<()> {
+    let &[first, letter, ..] = line else {
+        return Ok(());
+    };
+    if first == b'#' {
         return Ok(());
     }
-    if line[0] == b'#' {
-        return Ok(());
+    match Call::of(letter) {
+        Some(call) => println!(rt; "{}", reply(alloc, call, line)?),
+        None => println!(rt; "unknown"),
     }
-    let at = arrow(line);
-    call_line(to, line[1], line, &line[at..])
 }
 
-fn all_lines(to: &mut impl Write, text: &[u8]) -> io::Result<()> {
-    let mut at = 0;
-    while at < text.len() {
-        let end = line_end(text, at);
-        one_line(to, &text[at..end])?;
-        at = end + 1;
-    }
-    Ok(())
-}
+// Of what stands in front on standard input, so many bytes are read.
+const TEXT: u64 = 65536;
 
 fn main(rt: HostRuntime) -> io::Result<()> {
-    let mut text = [0; 65536];
-    let size = read_full(&mut rt.stdin(), &mut text)?;
-    all_lines(&mut rt.stdout(), &text[..size])
+    let alloc = rt.alloc();
+    let mut text = Vec::new(alloc);
+    rt.stdin().take(TEXT).read_to_end(&mut text)?;
+    for line in text.split_inclusive(|&byte| byte == b'\n') {
+        say_line(&rt, alloc, line.strip_suffix(b"\n").unwrap_or(line))?;
+    }
+    Ok(())
 }

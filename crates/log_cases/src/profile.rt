@@ -1,12 +1,21 @@
 // profile LOG -> NUMBER VALUE -
 
-use crate::answers::say_made;
-use crate::runs::{no_bytes, run};
-use std::io::{self, Write};
+use crate::answers::{Asked, made};
+use crate::case::{BYTES, Fields};
+use std::alloc::AllocError;
 
-pub(crate) fn profile_line(to: &mut impl Write, line: &[u8], asked: &[u8]) -> io::Result<()> {
-    let mut log = no_bytes();
-    let end = run(line, 1, &mut log);
-    let a = vinculampe::vin_profile(&log[..end]);
-    say_made(to, b"profile", a, &log[..0], asked)
+pub(crate) fn profile(
+    fields: &mut Fields<'_>,
+    asked: &mut Fields<'_>,
+) -> Result<String, AllocError> {
+    let log = fields.run(BYTES)?;
+    let answer = vinculampe::vin_profile(&log);
+    made(
+        "profile",
+        &Asked::new(asked)?,
+        &answer,
+        0,
+        answer.bytes,
+        &[],
+    )
 }

@@ -1,62 +1,49 @@
 // slots PLAN CAPTURE WORDS TIMES -> NUMBER VALUE MADE SECOND ENTRIES ROW
 
-use crate::answers::say_found;
-use crate::fields::size;
-use crate::plans::numbers;
-use crate::runs::{no_bytes, part, run};
-use crate::words::{say_times, spread, words_part};
-use format::Answer;
-use std::io::{self, Write};
+use crate::answers::{Asked, Row, made};
+use crate::case::{BYTES, Fields, TIMES, WORDS};
+use std::alloc::{AllocError, Global};
 
-fn slots_words(to: &mut impl Write, asked: &[u8], a: Answer, words: &[u32]) -> io::Result<()> {
-    let mut bytes = no_bytes();
-    let end = spread(words, &mut bytes);
-    let made = part(&bytes, end);
-    say_found(to, b"slots", a, a.bytes % 65536 * 4, &bytes[..made], asked)
+// Four bytes a word.
+fn bytes_of_words(alloc: Global, words: &[u32]) -> Result<Vec<u8>, AllocError> {
+    let mut bytes = Vec::new(alloc);
+    for word in words {
+        bytes.extend_from_slice(&word.to_be_bytes())?;
+    }
+    Ok(bytes)
 }
 
-fn slots_run(
-    to: &mut impl Write,
-    line: &[u8],
-    asked: &[u8],
-    capture: &[u8],
-    words: &mut [u32],
-    times: &mut [u8],
-) -> io::Result<()> {
-    let mut kinds = [0; 32];
-    let kinds_end = run(line, 8, &mut kinds);
-    let p = numbers(line);
-    let a = vinculampe::vin_read_words(
-        p.words,
-        p.tracks,
-        p.frame_time,
-        p.crc,
-        p.parity,
-        p.crc_label,
-        p.fill_bus,
-        &kinds[..kinds_end],
-        capture,
-        words,
-        times,
+pub(crate) fn slots(fields: &mut Fields<'_>, asked: &mut Fields<'_>) -> Result<String, AllocError> {
+    let plan = fields.plan()?;
+    let capture = fields.run(BYTES)?;
+    let room = fields.size().min(WORDS);
+    let mut words = vec![in fields.alloc; 0xA5A5A5A5; room]?;
+    let mut times = fields.room(TIMES)?;
+    let answer = vinculampe::vin_read_words(
+        plan.words,
+        plan.tracks,
+        plan.frame_time,
+        plan.crc,
+        plan.parity,
+        plan.crc_label,
+        plan.fill_bus,
+        &plan.kinds,
+        &capture,
+        &mut words,
+        &mut times,
     );
-    slots_words(to, asked, a, words)?;
-    say_times(to, a.times, times, asked)?;
-    to.write_all(b"\n")
-}
-
-pub(crate) fn slots_line(to: &mut impl Write, line: &[u8], asked: &[u8]) -> io::Result<()> {
-    let mut capture = no_bytes();
-    let mut words = [0xA5A5A5A5u32; 10000];
-    let mut times = [0xA5u8; 1024];
-    let capture_end = run(line, 9, &mut capture);
-    let words_end = words_part(&words, size(line, 10));
-    let times_end = part(&times, size(line, 11));
-    slots_run(
-        to,
-        line,
-        asked,
-        &capture[..capture_end],
-        &mut words[..words_end],
-        &mut times[..times_end],
-    )
+    let what = Asked::new(asked)?;
+    let second = asked.number();
+    let row = Row::new(asked)?;
+    let bytes = bytes_of_words(fields.alloc, &words)?;
+    let mut reply = made(
+        "slots",
+        &what,
+        &answer,
+        second,
+        answer.bytes.saturating_mul(4),
+        &bytes,
+    )?;
+    row.say(&mut reply, answer.times, &times)?;
+    Ok(reply)
 }

@@ -1,0 +1,4 @@
+-- What the contracts on the text of cases cite.
+pub mod Digest
+pub mod Number
+pub mod Words
