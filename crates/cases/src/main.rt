@@ -15,15 +15,13 @@ mod random;
 
 use crate::named::named_cases;
 use crate::random::random_cases;
-use std::io::{self, Read};
-
-// Of what stands in front on standard input, so many bytes are read.
-const TEXT: u64 = 65536;
+use std::io;
+use whole_input::read_full;
 
 fn main(rt: HostRuntime) -> io::Result<()> {
     let alloc = rt.alloc();
-    let mut text = Vec::new(alloc);
-    rt.stdin().take(TEXT).read_to_end(&mut text)?;
-    named_cases(&rt, alloc, &text)?;
+    let mut text = [0; 65536];
+    let size = read_full(&mut rt.stdin(), &mut text)?;
+    named_cases(&rt, alloc, &text[..size])?;
     random_cases(&rt, alloc)
 }

@@ -27,7 +27,8 @@ use crate::salvaging::salvage;
 use crate::shift::shift;
 use crate::slots::slots;
 use std::alloc::{AllocError, Global};
-use std::io::{self, Read};
+use std::io;
+use whole_input::read_full;
 
 #[derive(Clone, Copy)]
 enum Call {
@@ -98,14 +99,11 @@ fn say_line(rt: &impl Print, alloc: Global, line: &[u8]) -> io::Result<()> {
     }
 }
 
-// Of what stands in front on standard input, so many bytes are read.
-const TEXT: u64 = 65536;
-
 fn main(rt: HostRuntime) -> io::Result<()> {
     let alloc = rt.alloc();
-    let mut text = Vec::new(alloc);
-    rt.stdin().take(TEXT).read_to_end(&mut text)?;
-    for line in text.split_inclusive(|&byte| byte == b'\n') {
+    let mut text = [0; 65536];
+    let size = read_full(&mut rt.stdin(), &mut text)?;
+    for line in text[..size].split_inclusive(|&byte| byte == b'\n') {
         say_line(&rt, alloc, line.strip_suffix(b"\n").unwrap_or(line))?;
     }
     Ok(())
