@@ -69,21 +69,24 @@ impl Run {
         Ok(())
     }
 
-    // The bytes from a place on so often. Of a run that would be longer than 65535 bytes, what is past 65536 stays.
-    fn repeat(&mut self, alloc: Global, from: usize, often: u64) -> Result<(), AllocError> {
+    // The bytes from a place on so often, as far as the room goes; each turn doubles what is there. A run of 65536 bytes or more is cut to
+    // its first ones, as many as it has more than 65536.
+    fn repeat(&mut self, from: usize, often: u64) -> Result<(), AllocError> {
         self.high = None;
-        if from < self.bytes.len() {
-            let mut part = Vec::new(alloc);
-            part.extend_from_slice(&self.bytes[from..])?;
-            for _ in 1..often {
-                if self.room <= self.bytes.len() {
-                    break;
-                }
-                self.bytes.extend_from_slice(&part)?;
+        let len = self.bytes.len();
+        let more = often.saturating_sub(1).min(self.room as u64) as usize;
+        let all = len.saturating_sub(from).saturating_mul(more);
+        let mut left = all.min(self.room.saturating_sub(len));
+        for _ in 0..usize::BITS {
+            let size = self.bytes.len().saturating_sub(from).min(left);
+            if size == 0 {
+                break;
             }
+            self.bytes.extend_from_within(from..from + size)?;
+            left -= size;
         }
-        self.bytes.truncate(self.room);
-        self.bytes.truncate(self.bytes.len() % 65536);
+        let len = self.bytes.len() % 65536;
+        self.bytes.truncate(len);
         Ok(())
     }
 }
@@ -100,7 +103,7 @@ fn run_of(alloc: Global, word: &[u8], room: usize) -> Result<Vec<u8>, AllocError
             if n == 0 {
                 run.put(piece)?;
             } else {
-                run.repeat(alloc, from, digits(piece, 10))?;
+                run.repeat(from, digits(piece, 10))?;
                 let number = piece
                     .iter()
                     .take_while(|byte| byte.is_ascii_digit())
