@@ -1,6 +1,6 @@
 // The named cases, line by line. The log, the times, the capture and the plan stay until a line changes them.
 
-use crate::bits::{Bits, LOG, front, put_word};
+use crate::bits::{Bits, LOG, front, put_time, put_word};
 use crate::captures::SYNC;
 use crate::lines::{Asked, Line};
 use crate::plans::{Outcome, Plan, Reading};
@@ -41,7 +41,7 @@ fn say(rt: &impl Print, letter: char, outcome: &Outcome, asked: Asked) -> io::Re
 // Its bytes may be no text.
 fn say_name(rt: &impl Print, name: &[u8]) -> io::Result<()> {
     rt.write_all(name)?;
-    print!(rt; ":")
+    rt.write_all(b":")
 }
 
 impl Bench {
@@ -62,12 +62,6 @@ impl Bench {
             value = value % 0x8000000000000000 + 1;
         }
         Ok(())
-    }
-
-    fn put_time(&mut self, index: usize, time: u64) {
-        if let Some(bytes) = self.times.chunks_exact_mut(8).nth(index) {
-            bytes.copy_from_slice(&time.to_be_bytes());
-        }
     }
 
     fn put_fill(&mut self, words: usize, all: usize) {
@@ -104,18 +98,15 @@ impl Bench {
     }
 
     // So many bytes of the log, zeros behind its items.
-    fn log(&self, size: usize) -> Result<Vec<u8>, AllocError> {
-        let mut log = self.log.bytes.clone()?;
-        log.resize(size.min(LOG), 0)?;
-        Ok(log)
-    }
-
     fn compose(&mut self, log: usize, times: usize, out: usize) -> Result<Outcome, AllocError> {
-        let log = self.log(log)?;
+        self.log.lengthen(log.min(LOG))?;
         let room = out.min(self.capture.len());
         Ok(
-            self.plan
-                .compose(&log, front(&self.times, times), &mut self.capture[..room]),
+            self.plan.compose(
+                front(&self.log.bytes, log),
+                front(&self.times, times),
+                &mut self.capture[..room],
+            ),
         )
     }
 
@@ -134,7 +125,7 @@ impl Bench {
     fn run(&mut self, rt: &impl Print, line: Line<'_>) -> io::Result<()> {
         match line {
             Line::Name(name) => say_name(rt, name)?,
-            Line::End => println!(rt; "")?,
+            Line::End => rt.write_all(b"\n")?,
             Line::Comment => (),
             Line::Plan(plan) => self.plan = plan,
             Line::KindsLent(count) => self.plan.kinds_len = count,
@@ -145,7 +136,7 @@ impl Bench {
                 width,
                 value,
             } => self.put_items(count, width, value)?,
-            Line::Time { index, time } => self.put_time(index, time),
+            Line::Time { index, time } => put_time(&mut self.times, index, time),
             Line::Fill { words, all } => self.put_fill(words, all),
             Line::Words { count, place, word } => self.put_words(count, place, word),
             Line::Four(words) => self.put_four(words),
@@ -172,7 +163,7 @@ impl Bench {
                 say(rt, 'x', &read, closed)?;
             }
             // It is no case: it is told.
-            Line::Unknown => print!(rt; " unknown")?,
+            Line::Unknown => rt.write_all(b" unknown")?,
         }
         Ok(())
     }
